@@ -1,0 +1,5 @@
+-- The call is one of a disk that tells nothing.
+use Rattle.cacao_site.proofs.file_site.FileSiteDisk.length.Goals as goal
+
+pub returns-clause-call : goal.returns-clause-call
+returns-clause-call g c = c.pass.ensures.call c.args.file 0

@@ -1,0 +1,5 @@
+-- The call is one on this file.
+use Rattle.cacao_site.proofs.memory_calls.MemorySiteDisk.sync.Goals as goal
+
+pub returns-then-fails-clause-call : goal.returns-then-fails-clause-call
+returns-then-fails-clause-call c = c.pass.ensures.call c.args.file

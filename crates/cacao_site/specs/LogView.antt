@@ -1,0 +1,9 @@
+-- What contracts see of a `CallLog`.
+use Rattle.std.specs.Prelude.{ℕ, List}
+use Rattle.cacao_site.specs.Replay.{Call}
+
+pub record LogView : Type 0 where
+  pub calls : List Call
+  pub used : ℕ  -- the bytes of all writes
+  pub room : ℕ  -- the bytes that there is room for
+  pub most : ℕ  -- the calls that there is room for

@@ -1,0 +1,264 @@
+// A site in memory, which tells everything and fails by its plan.
+ghost use Rattle.std.specs.Prelude.{◌≡◌, ◌+◌, ◌-◌, ◌^◌, ◌<◌, ◌≤◌, ℕ, min, All, IfOk, IfSome, length, Some, [], ◌∷◌, ◌++◌, take, drop, false, slice_get, option_map};
+ghost use Rattle.cacao_site.specs.Counts.{next_count, count_after, last_count};
+ghost use Rattle.cacao_site.specs.DiskCalls.{CallsOn, StaysAt, KeepsDisk, Follows, Spreads, Same, Torn, Written, IsDurable};
+ghost use Rattle.cacao_site.specs.MemoryView.{clock_view, memory_view};
+ghost use Rattle.cacao_site.specs.Plan.{fails_by};
+
+use crate::call_log::CallLog;
+use crate::file_list::FileList;
+use crate::plan::SitePlan;
+use crate::said_lines::SaidLines;
+use std::alloc::{AllocError, Global};
+
+/// A site that tells everything, at each past beat too, and fails exactly by its plan.
+///
+/// It keeps a record of its device calls. A crash may leave what the record allows.
+#[derive(Drop)]
+pub struct MemorySite {
+    pub(crate) alloc: Global,
+    pub(crate) plan: SitePlan,
+    pub(crate) starts: FileList,
+    pub(crate) log: CallLog,
+    pub(crate) lines: SaidLines,
+    pub(crate) first_beat: u64,
+    pub(crate) calls: u64,
+    pub(crate) written: u64,
+    pub(crate) faults: u64,
+    pub(crate) used: u64,
+    pub(crate) unsaid: u64,
+    ghost fits: { plan.room < 2 ^ 64 },
+    ghost in_room: { used ≤ plan.room },
+    ghost handed: { written ≤ last_count },
+    ghost beats: { first_beat + plan.calls ≤ last_count },
+    ghost logged: { length log.calls ≡ min calls plan.calls },
+    ghost log_most: { length log.calls + (plan.calls - calls) ≤ log.most },
+    ghost log_room: { log.used + (plan.room - used) ≤ log.room },
+    ghost line_most: { length lines.lines + (plan.calls - calls) ≤ lines.most },
+    ghost line_room: { lines.used + (plan.room - used) ≤ lines.room },
+    ghost said_before: { All (λ line. line.0 ≤ count_after first_beat calls) lines.lines },
+}
+
+impl MemorySite {
+    ghost use Rattle.cacao_site.specs.MemorySite.{plan_of, used_of, view_of, KeepsRest};
+
+    /// A site with blank files, no line said, no parcel and no fault.
+    ///
+    /// It takes all memory that its plan lets it use, and `AllocError` says that there is not that much.
+    pub fn new(alloc: Global, plan: SitePlan) -> Result<MemorySite, AllocError>
+        ensures view { IfOk result (λ site. view_of site ≡ memory_view [] [] 0 0 0 0 [] (clock_view plan.start 0)) }
+        ensures plan { IfOk result (λ site. plan_of site ≡ plan) }
+        ensures used { IfOk result (λ site. used_of site ≡ 0) }
+    {
+        let log = CallLog::new(alloc, plan.room as usize, plan.calls as usize)?;
+        let lines = SaidLines::new(alloc, plan.room as usize, plan.calls as usize)?;
+        Ok(MemorySite {
+            alloc,
+            plan,
+            starts: FileList::new(alloc),
+            log,
+            lines,
+            first_beat: 0,
+            calls: 0,
+            written: 0,
+            faults: 0,
+            used: 0,
+            unsaid: 0,
+        })
+    }
+
+    /// How many lines were said.
+    pub fn line_count(&self) -> usize
+        ensures { IfSome (view_of self.now).link.said (λ said. result ≡ length said) }
+    {
+        self.lines.len()
+    }
+
+    /// The bytes of a line said, by its number from 0.
+    pub fn line(&self, n: usize) -> &[u8]
+        requires { IfSome (view_of self.now).link.said (λ said. n < length said) }
+        ensures { IfSome (view_of self.now).link.said (λ said. option_map (λ line. line.1) (slice_get said n) ≡ Some result.now) }
+    {
+        self.lines.line(n)
+    }
+
+    /// Whether the next device call, which brings this many bytes, fails.
+    pub(crate) fn fails(&self, size: usize) -> bool
+        ensures by_plan { result ≡ fails_by (plan_of self.now) (view_of self.now).disk.calls (used_of self.now) size }
+        ensures in_calls { result ≡ false → self.now.calls < self.now.plan.calls }
+        ensures in_room { result ≡ false → self.now.used + size ≤ self.now.plan.room }
+        ensures room_fits { self.now.plan.room < 2 ^ 64 }
+        ensures calls_fit { self.now.plan.calls < 2 ^ 32 }
+    {
+        let room = self.plan.room;
+        self.calls >= u64::from(self.plan.calls)
+            || size as u64 > room - self.used
+            || self.plan.failing.contains(self.calls as u32)
+    }
+
+    /// One device call that changes no file, which was handed so many bytes; `faults` is the count after it.
+    pub(crate) fn pass(&mut self, bytes: usize, faults: u64)
+        requires { self.old.faults ≤ faults }
+        ensures call { (file : ℕ) → CallsOn file bytes (view_of self.old).disk (view_of self.new).disk }
+        ensures stays { (file : ℕ) → StaysAt (view_of self.old).disk (view_of self.new).disk file }
+        ensures calls { self.new.calls ≡ next_count self.old.calls }
+        ensures written { self.new.written ≡ count_after self.old.written bytes }
+        ensures faults { self.new.faults ≡ faults }
+        ensures used { self.new.used ≡ self.old.used }
+        ensures rest { KeepsRest self.old self.new }
+    {
+        if self.calls < u64::from(self.plan.calls) {
+            self.log_look(bytes, faults)
+        } else {
+            self.refuse(bytes, faults)
+        }
+    }
+
+    /// One device call that keeps the disk.
+    pub(crate) fn pass_disk(&mut self)
+        ensures keeps { KeepsDisk (view_of self.old).disk (view_of self.new).disk }
+        ensures calls { self.new.calls ≡ next_count self.old.calls }
+        ensures used { self.new.used ≡ self.old.used }
+        ensures rest { KeepsRest self.old self.new }
+    {
+        self.pass(0, self.faults)
+    }
+
+    /// Such a call, for which the record has room.
+    fn log_look(&mut self, bytes: usize, faults: u64)
+        requires open { self.old.calls < self.old.plan.calls }
+        requires up { self.old.faults ≤ faults }
+        ensures call { (file : ℕ) → CallsOn file bytes (view_of self.old).disk (view_of self.new).disk }
+        ensures stays { (file : ℕ) → StaysAt (view_of self.old).disk (view_of self.new).disk file }
+        ensures calls { self.new.calls ≡ next_count self.old.calls }
+        ensures written { self.new.written ≡ count_after self.old.written bytes }
+        ensures faults { self.new.faults ≡ faults }
+        ensures used { self.new.used ≡ self.old.used }
+        ensures rest { KeepsRest self.old self.new }
+    {
+        self.log.look();
+        self.calls = self.calls.saturating_add(1);
+        self.written = self.written.saturating_add(bytes as u64);
+        self.faults = faults;
+    }
+
+    /// Such a call, past the last that the plan allows: nothing is done.
+    fn refuse(&mut self, bytes: usize, faults: u64)
+        requires closed { self.old.plan.calls ≤ self.old.calls }
+        requires up { self.old.faults ≤ faults }
+        ensures call { (file : ℕ) → CallsOn file bytes (view_of self.old).disk (view_of self.new).disk }
+        ensures stays { (file : ℕ) → StaysAt (view_of self.old).disk (view_of self.new).disk file }
+        ensures calls { self.new.calls ≡ next_count self.old.calls }
+        ensures written { self.new.written ≡ count_after self.old.written bytes }
+        ensures faults { self.new.faults ≡ faults }
+        ensures used { self.new.used ≡ self.old.used }
+        ensures rest { KeepsRest self.old self.new }
+    {
+        self.calls = self.calls.saturating_add(1);
+        self.written = self.written.saturating_add(bytes as u64);
+        self.faults = faults;
+    }
+
+    /// One write that is done.
+    pub(crate) fn log_write(&mut self, file: u8, at: u64, bytes: &[u8])
+        requires open { self.old.calls < self.old.plan.calls }
+        requires room { self.old.used + length bytes.now ≤ self.old.plan.room }
+        requires fits { at + length bytes.now ≤ 67_108_864 }
+        ensures call { CallsOn file (length bytes.now) (view_of self.old).disk (view_of self.new).disk }
+        ensures follows { Follows file (Torn at (length bytes.now)) (view_of self.old).disk (view_of self.new).disk }
+        ensures spreads { Spreads file (Torn at (length bytes.now)) (view_of self.old).disk (view_of self.new).disk }
+        ensures written { Written at bytes.now ((view_of self.old).disk.reads file) ((view_of self.new).disk.reads file) }
+        ensures faults { self.new.faults ≡ self.old.faults }
+        ensures used { self.new.used ≡ self.old.used + length bytes.now }
+        ensures rest { KeepsRest self.old self.new }
+    {
+        self.log.write(file, at, bytes);
+        self.calls = self.calls.saturating_add(1);
+        self.written = self.written.saturating_add(bytes.len() as u64);
+        self.used += bytes.len() as u64;
+    }
+
+    /// One write that fails.
+    pub(crate) fn log_failed_write(&mut self, file: u8, at: u64, size: usize)
+        requires open { self.old.calls < self.old.plan.calls }
+        requires fits { at + size ≤ 67_108_864 }
+        ensures call { CallsOn file size (view_of self.old).disk (view_of self.new).disk }
+        ensures follows { Follows file (Torn at size) (view_of self.old).disk (view_of self.new).disk }
+        ensures spreads { Spreads file (Torn at size) (view_of self.old).disk (view_of self.new).disk }
+        ensures reads { (view_of self.new).disk.reads file ≡ (view_of self.old).disk.reads file }
+        ensures faults { self.new.faults ≡ next_count self.old.faults }
+        ensures used { self.new.used ≡ self.old.used }
+        ensures rest { KeepsRest self.old self.new }
+    {
+        self.log.try_write(file, at, size);
+        self.calls = self.calls.saturating_add(1);
+        self.written = self.written.saturating_add(size as u64);
+        self.faults = self.faults.saturating_add(1);
+    }
+
+    /// One sync that is done.
+    pub(crate) fn log_sync(&mut self, file: u8)
+        requires { self.old.calls < self.old.plan.calls }
+        ensures call { CallsOn file 0 (view_of self.old).disk (view_of self.new).disk }
+        ensures follows { Follows file Same (view_of self.old).disk (view_of self.new).disk }
+        ensures reads { (view_of self.new).disk.reads file ≡ (view_of self.old).disk.reads file }
+        ensures durable { IsDurable file (view_of self.new).disk }
+        ensures faults { self.new.faults ≡ self.old.faults }
+        ensures used { self.new.used ≡ self.old.used }
+        ensures rest { KeepsRest self.old self.new }
+    {
+        self.log.sync(file);
+        self.calls = self.calls.saturating_add(1);
+    }
+
+    /// One write that fails by the plan.
+    pub(crate) fn fail_write(&mut self, file: u8, at: u64, size: usize)
+        requires { at + size ≤ 67_108_864 }
+        ensures call { CallsOn file size (view_of self.old).disk (view_of self.new).disk }
+        ensures follows { Follows file (Torn at size) (view_of self.old).disk (view_of self.new).disk }
+        ensures spreads { self.old.calls < self.old.plan.calls
+            → Spreads file (Torn at size) (view_of self.old).disk (view_of self.new).disk }
+        ensures reads { (view_of self.new).disk.reads file ≡ (view_of self.old).disk.reads file }
+        ensures faults { self.new.faults ≡ next_count self.old.faults }
+        ensures used { self.new.used ≡ self.old.used }
+        ensures rest { KeepsRest self.old self.new }
+    {
+        if self.calls < u64::from(self.plan.calls) {
+            self.log_failed_write(file, at, size)
+        } else {
+            self.refuse(size, self.faults.saturating_add(1))
+        }
+    }
+
+    /// One line that is said.
+    pub(crate) fn add_line(&mut self, bytes: &[u8])
+        requires open { self.old.calls < self.old.plan.calls }
+        requires room { self.old.used + length bytes.now ≤ self.old.plan.room }
+        ensures keeps { KeepsDisk (view_of self.old).disk (view_of self.new).disk }
+        ensures calls { self.new.calls ≡ next_count self.old.calls }
+        ensures lines { self.new.lines.lines ≡ self.old.lines.lines ++ ((view_of self.new).disk.beat, bytes.now) ∷ [] }
+        ensures used { self.new.used ≡ self.old.used + length bytes.now }
+        ensures plan { self.new.plan ≡ self.old.plan }
+        ensures unsaid { self.new.unsaid ≡ self.old.unsaid }
+    {
+        self.pass_disk();
+        self.used += bytes.len() as u64;
+        let beat = self.first_beat + self.calls;
+        self.lines.push(beat, bytes);
+    }
+
+    /// Fills the front of the buffer with what the file has from place `at` on, and answers how many bytes that is.
+    pub(crate) fn read_front(&self, file: u8, at: u64, into: &mut [u8]) -> u32
+        requires { length into.old ≤ 4_096 }
+        ensures count { result ≤ length into.old }
+        ensures bytes { take result into.new ≡ take (length into.old) (drop at ((view_of self.now).disk.reads file)) }
+    {
+        let start = self.starts.file(file);
+        let left = self.log.length(file, start).saturating_sub(at);
+        let count = left.min(into.len() as u64);
+        if count > 0 {
+            self.log.fill(file, start, at, &mut into[..count as usize]);
+        }
+        count as u32
+    }
+}

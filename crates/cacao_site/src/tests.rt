@@ -1,0 +1,4 @@
+mod composed;
+mod disks;
+mod lines;
+mod shelves;

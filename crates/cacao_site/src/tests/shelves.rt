@@ -1,0 +1,46 @@
+use crate::{FileShelf, MemoryShelf, Shelf, ShelfError};
+use std::{fs, io};
+
+#[test]
+fn a_memory_shelf_holds_its_files_and_fails_at_one_call(rt: HostRuntime) -> Result<(), ShelfError> {
+    let alloc = rt.alloc();
+    let mut shelf = MemoryShelf::new(alloc);
+    shelf.add("a", b"old")?;
+    shelf.add("b", b"bee")?;
+    shelf.add("a", b"new")?;
+    shelf.fail_at(2);
+    assert!(rt; shelf.read(alloc, "a", 3)?.as_slice() == b"new".as_slice());
+    assert!(rt; shelf.read(alloc, "b", 3)?.as_slice() == b"bee".as_slice());
+    for (name, most, want) in [
+        ("a", 3, ShelfError::Failed),
+        ("a", 2, ShelfError::TooLarge),
+        ("c", 3, ShelfError::Missing),
+    ] {
+        assert!(rt;
+            shelf.read(alloc, name, most).err() == Some(want),
+            "at {name} {most}"
+        );
+    }
+    assert!(rt; shelf.read(alloc, "a", 3)?.into_vec().as_slice() == b"new".as_slice());
+    Ok(())
+}
+
+#[test]
+fn a_file_shelf_reads_real_files(rt: HostRuntime) -> io::Result<()> {
+    let alloc = rt.alloc();
+    let name = "cacao_site-test-file";
+    fs::write(&rt, name, "{}\n")?;
+    let mut shelf = FileShelf::new(&rt);
+    let read = shelf.read(alloc, name, 3);
+    let refused = shelf.read(alloc, name, 2);
+    fs::remove_file(&rt, name)?;
+    let gone = shelf.read(alloc, name, 3);
+    let folder = shelf.read(alloc, ".", 3);
+    let behind_a_file = shelf.read(alloc, "/dev/null/x", 3);
+    assert!(rt; read.is_ok_and(|bytes| bytes.as_slice() == b"{}\n".as_slice()));
+    assert!(rt; refused.err() == Some(ShelfError::TooLarge));
+    assert!(rt; gone.err() == Some(ShelfError::Missing));
+    assert!(rt; folder.err() == Some(ShelfError::Failed));
+    assert!(rt; behind_a_file.err() == Some(ShelfError::Failed));
+    Ok(())
+}
