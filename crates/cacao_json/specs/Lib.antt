@@ -1,0 +1,5 @@
+pub mod Reading
+pub mod Tree
+pub mod Counts
+pub mod Refusals
+pub mod Profile

@@ -1,0 +1,15 @@
+-- What bytes are as JSON text.
+use Rattle.std.specs.Prelude.{◌==◌, ◌&&◌, ℕ, List, Option, Some, None, option_and_then, is_none, if◌then◌else◌}
+use Rattle.std.specs.Str.{is_utf8}
+use Rattle.serde_json.specs.Data.{Data}
+use Rattle.serde_json.specs.Read.{read}
+use Rattle.cacao_json.specs.Counts.{colons, members, numbers, first_broken}
+
+-- what `serde_json` reads, if the bytes are UTF-8
+abbrev pub reading : List ℕ → Option Data
+reading bytes = if is_utf8 bytes then read bytes else None
+
+-- The tree of the bytes: their reading, if they have as many colons outside strings as it has members, so that no
+-- name was repeated, and each of its numbers is whole.
+abbrev pub tree : List ℕ → Option Data
+tree bytes = option_and_then (λ d. if (colons bytes == members d) && is_none (first_broken (numbers d)) then Some d else None) (reading bytes)

@@ -1,0 +1,69 @@
+// Whether each number is whole.
+ghost use Rattle.std.specs.Prelude.{◌≡◌, IfSome, IfNone, true, false};
+ghost use Rattle.serde_json.specs.View.{view, number_view, items_view, members_view};
+ghost use Rattle.serde_json.specs.Find.{of_integer};
+ghost use Rattle.cacao_json.specs.Counts.{is_whole, numbers, numbers_of_items, numbers_of_pairs, TakesWhole};
+
+use serde_json::{Map, Number, Value};
+
+/// The most that a number is away from 0.
+const MOST: i64 = 9_007_199_254_740_991;
+
+/// The number as an integer, if it is whole.
+pub fn whole_number(number: &Number) -> Option<i64>
+    ensures some { IfSome result (λ z. is_whole (number_view number.now) ≡ true) }
+    ensures value { IfSome result (λ z. number_view number.now ≡ of_integer z) }
+    ensures none { IfNone result (is_whole (number_view number.now) ≡ false) }
+{
+    let n = number.as_i64()?;
+    if -MOST <= n && n <= MOST {
+        Some(n)
+    } else {
+        None
+    }
+}
+
+/// What is left of the count when one is taken for each number; in `Err`, for each number before the
+/// first that is not whole.
+#[cycle(whole)]
+pub fn take_whole(value: &Value, count: usize) -> Result<usize, usize>
+    ensures { TakesWhole result count (numbers (view value.now)) }
+{
+    match value {
+        Value::Number(number) => match whole_number(number) {
+            Some(_) => Ok(count.saturating_sub(1)),
+            None => Err(count),
+        },
+        Value::Array(items) => take_items(items, count),
+        Value::Object(pairs) => take_pairs(pairs, count),
+        _ => Ok(count),
+    }
+}
+
+#[cycle(whole)]
+fn take_items(items: &Vec<Value>, count: usize) -> Result<usize, usize>
+    ensures { TakesWhole result count (numbers_of_items (items_view items.now.items)) }
+{
+    let mut left = count;
+    for value in items {
+        match take_whole(value, left) {
+            Ok(more) => left = more,
+            Err(before) => return Err(before),
+        }
+    }
+    Ok(left)
+}
+
+#[cycle(whole)]
+fn take_pairs(pairs: &Map<String, Value>, count: usize) -> Result<usize, usize>
+    ensures { TakesWhole result count (numbers_of_pairs (members_view pairs.now.entries)) }
+{
+    let mut left = count;
+    for (_, value) in pairs.iter() {
+        match take_whole(value, left) {
+            Ok(more) => left = more,
+            Err(before) => return Err(before),
+        }
+    }
+    Ok(left)
+}
