@@ -1,0 +1,3 @@
+pub mod UuidLemmas
+pub mod IdLemmas
+pub mod StampLemmas

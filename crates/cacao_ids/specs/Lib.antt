@@ -1,0 +1,4 @@
+pub mod Uuids
+pub mod Ids
+pub mod Calendar
+pub mod Stamps
