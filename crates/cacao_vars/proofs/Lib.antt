@@ -1,0 +1,5 @@
+pub mod ScopeLemmas
+pub mod ReferenceLemmas
+pub mod FirstLemmas
+pub mod OrderLemmas
+pub mod LawLemmas

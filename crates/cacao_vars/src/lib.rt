@@ -1,0 +1,23 @@
+//! Variables of CACAO playbooks: names, references in texts, declarations, and scopes with what was written.
+#![tactic(auto)]
+
+mod declarations;
+mod kinds;
+mod laws;
+mod name_lists;
+mod references;
+mod scoping;
+mod variable_names;
+mod words;
+
+pub use declarations::{Var, Vars};
+pub use kinds::Kind;
+pub use laws::{references_go_on, writes_one_value};
+pub use name_lists::Names;
+pub use references::{Reference, find_reference, leading_reference};
+pub use scoping::{Scope, ScopeError, Scopes, Write};
+pub use variable_names::Name;
+pub use words::Word;
+
+#[cfg(test)]
+mod tests;
