@@ -1,0 +1,12 @@
+pub mod Choices
+pub mod Decimals
+pub mod TextParts
+pub mod Ipv4Lemmas
+pub mod Ipv6Lemmas
+pub mod Ipv6Groups
+pub mod Ipv6Forms
+pub mod AddressBits
+pub mod NetTexts
+pub mod NetPrinting
+pub mod SameNets
+pub mod RoundTrips

@@ -1,0 +1,10 @@
+pub mod Bits
+pub mod Families
+pub mod NetFacts
+pub mod Texts
+pub mod Ipv4
+pub mod Ipv6
+pub mod Nets
+pub mod Packets
+pub mod Flows
+pub mod Words
