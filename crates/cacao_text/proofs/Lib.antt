@@ -1,0 +1,16 @@
+pub mod Sorting
+pub mod Escapes
+pub mod Compact
+pub mod Rising
+pub mod Placed
+pub mod Added
+pub mod Keyed
+pub mod Written
+pub mod Unsigned
+pub mod Puts
+pub mod ReadBack
+pub mod Digits
+pub mod Utf8Text
+pub mod ColonCount
+pub mod LawLemmas
+pub mod Lengths

@@ -1,0 +1,13 @@
+-- At the end every character was yielded.
+use Rattle.std.proofs.Common.{sym, ap, ◌∙◌}
+use Rattle.std.proofs.lemmas.List.{map-id}
+use Rattle.std.proofs.lemmas.Iterator.{YieldsList-from_chars}
+use Rattle.std.proofs.lemmas.Iterator.Consumers.{YieldsList-end}
+use Rattle.std.specs.Prelude.{flat_map}
+use Rattle.std.specs.Char.Escape.{encode_utf16}
+use Rattle.cacao_text.proofs.units.units_of.Goals as goal
+
+pub returns : goal.returns
+returns c =
+    let t = YieldsList-end (YieldsList-from_chars c.args.text.now c.utf8.text cc) c.loop-c.yielded _ c.loop-c.yielded_by _ _ c.in-None.is c.next.ensures.steps in
+    c.loop-c.invariant ∙ ap (flat_map encode_utf16) (sym (map-id c.loop-c.yielded) ∙ t.0)

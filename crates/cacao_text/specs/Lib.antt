@@ -1,0 +1,4 @@
+pub mod Canon
+pub mod Arranged
+pub mod Keys
+pub mod Laws

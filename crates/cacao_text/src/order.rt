@@ -1,0 +1,81 @@
+// The order of an object's members.
+ghost use Rattle.std.specs.Prelude.{◌≡◌, IfOk, OnOk};
+ghost use Rattle.std.specs.BTreeMap.{insert_entry};
+ghost use Rattle.std.specs.Bool.{OnTrue};
+ghost use Rattle.cacao_text.specs.Arranged.{pairs_in, names_in, name_at, is_kept, kept_places, AreInOrder, Follows};
+ghost use Rattle.cacao_text.specs.Keys.{key_cmp, places_in};
+ghost use Rattle.cacao_text.specs.Canon.{in_order};
+
+use crate::units::units_of;
+use cacao_json::Pairs;
+use std::alloc::{AllocError, Global};
+use std::collections::BTreeMap;
+
+/// A name's units, and the place where it stands.
+#[derive(Drop, PartialEq, Eq, PartialOrd, Ord)]
+struct Key {
+    units: Vec<u16>,
+    place: usize,
+}
+
+/// Whether the names are all of ASCII and rise, so that they stand in the order of their units. That is
+/// so for most objects that were read.
+pub fn is_in_order(pairs: &Pairs) -> bool
+    ensures { OnTrue result (AreInOrder (names_in pairs.now)) }
+{
+    let mut before = "";
+    for pair in &pairs.pairs {
+        let name = pair.name.as_str();
+        if !follows(before, name) {
+            return false;
+        }
+        before = name;
+    }
+    true
+}
+
+fn follows(before: &str, name: &str) -> bool
+    ensures { OnTrue result (Follows before.now name.now) }
+{
+    name.is_ascii() && !(name < before)
+}
+
+/// The places of the members in the order of their names' units. An unsigned object has no member `signatures`.
+pub fn places(alloc: Global, pairs: &Pairs, unsigned: bool) -> Result<Vec<usize>, AllocError>
+    ensures { IfOk result (λ list. list.items
+        ≡ in_order (name_at (pairs_in pairs.now)) (kept_places unsigned 0 (pairs_in pairs.now))) }
+{
+    let mut order = BTreeMap::new(alloc);
+    for (place, pair) in pairs.pairs.iter().enumerate() {
+        let name = pair.name.as_str();
+        if stays(unsigned, name) {
+            let units = units_of(alloc, name)?;
+            put(&mut order, Key { units, place })?;
+        }
+    }
+    listed(alloc, &order)
+}
+
+fn stays(unsigned: bool, name: &str) -> bool
+    ensures { result ≡ is_kept unsigned name.now }
+{
+    !unsigned || "signatures" != name
+}
+
+fn put(order: &mut BTreeMap<Key, ()>, key: Key) -> Result<(), AllocError>
+    ensures { OnOk result (order.new.entries ≡ insert_entry key_cmp order.old.entries key tt) }
+{
+    order.insert(key, ())?;
+    Ok(())
+}
+
+/// The places in the map, in its order.
+fn listed(alloc: Global, order: &BTreeMap<Key, ()>) -> Result<Vec<usize>, AllocError>
+    ensures { IfOk result (λ list. list.items ≡ places_in order.now.entries) }
+{
+    let mut list = Vec::with_capacity(alloc, order.len())?;
+    for (key, _) in order.iter() {
+        list.push(key.place)?;
+    }
+    Ok(list)
+}

@@ -1,0 +1,130 @@
+// From a tree to its canonical text.
+ghost use Rattle.std.specs.Prelude.{◌≡◌, ◌<◌, IfOk, OnOk, All, flat_map, length};
+ghost use Rattle.serde_json.specs.Data.{array, object};
+ghost use Rattle.cacao_json.specs.Tree.{data_of, items_data, members_data};
+ghost use Rattle.cacao_text.specs.Canon.{canon, book_text, unsigned_of};
+ghost use Rattle.cacao_text.specs.Arranged.{value_tokens, sorted_tokens, Adds, pairs_in, pair_tokens, place_tokens};
+
+use crate::bytes::Bytes2;
+use crate::order::{is_in_order, places};
+use cacao_json::{Items, Pair, Pairs, Tree};
+use json::Writer;
+use std::alloc::{AllocError, Global};
+
+/// The canonical text of the tree (RFC 8785), in UTF-8.
+pub fn canonical(alloc: Global, tree: &Tree) -> Result<Bytes2, AllocError>
+    ensures { IfOk result (λ text. text ≡ canon (data_of tree.now)) }
+{
+    let mut writer = Writer::new(Vec::new(alloc));
+    write_tree(alloc, &mut writer, tree)?;
+    Ok(Bytes2::from_vec(writer.into_inner()))
+}
+
+/// The canonical text of the tree without the member `signatures` of its top object.
+pub fn canonical_book(alloc: Global, tree: &Tree) -> Result<Bytes2, AllocError>
+    ensures { IfOk result (λ text. text ≡ book_text (data_of tree.now)) }
+{
+    let mut writer = Writer::new(Vec::new(alloc));
+    write_book(alloc, &mut writer, tree)?;
+    Ok(Bytes2::from_vec(writer.into_inner()))
+}
+
+fn write_book(alloc: Global, writer: &mut Writer, tree: &Tree) -> Result<(), AllocError>
+    ensures { OnOk result (Adds writer.old writer.new (value_tokens (unsigned_of (data_of tree.now)))) }
+{
+    match tree {
+        Tree::Members(pairs) => write_unsigned(alloc, writer, pairs),
+        _ => write_tree(alloc, writer, tree),
+    }
+}
+
+fn write_unsigned(alloc: Global, writer: &mut Writer, pairs: &Pairs) -> Result<(), AllocError>
+    ensures { OnOk result (Adds writer.old writer.new (value_tokens (unsigned_of (object (members_data pairs.now))))) }
+{
+    writer.begin_object()?;
+    let order = places(alloc, pairs, true)?;
+    write_places(alloc, writer, pairs, &order)?;
+    writer.end_object()
+}
+
+#[cycle(write)]
+fn write_tree(alloc: Global, writer: &mut Writer, tree: &Tree) -> Result<(), AllocError>
+    ensures { OnOk result (Adds writer.old writer.new (value_tokens (data_of tree.now))) }
+{
+    match tree {
+        Tree::Null => writer.null(),
+        Tree::Flag(flag) => writer.boolean(*flag),
+        Tree::Whole(n) => writer.i64(*n),
+        Tree::Text(text) => writer.string(text.as_str()),
+        Tree::List(items) => write_items(alloc, writer, items),
+        Tree::Members(pairs) => write_pairs(alloc, writer, pairs),
+    }
+}
+
+#[cycle(write)]
+fn write_items(alloc: Global, writer: &mut Writer, items: &Items) -> Result<(), AllocError>
+    ensures { OnOk result (Adds writer.old writer.new (value_tokens (array (items_data items.now)))) }
+{
+    writer.begin_array()?;
+    for tree in &items.items {
+        write_tree(alloc, writer, tree)?;
+    }
+    writer.end_array()
+}
+
+#[cycle(write)]
+fn write_pairs(alloc: Global, writer: &mut Writer, pairs: &Pairs) -> Result<(), AllocError>
+    ensures { OnOk result (Adds writer.old writer.new (value_tokens (object (members_data pairs.now)))) }
+{
+    writer.begin_object()?;
+    write_members(alloc, writer, pairs)?;
+    writer.end_object()
+}
+
+/// The members in the order of their names' units. Most stand in it.
+#[cycle(write)]
+fn write_members(alloc: Global, writer: &mut Writer, pairs: &Pairs) -> Result<(), AllocError>
+    ensures { OnOk result (Adds writer.old writer.new (sorted_tokens (members_data pairs.now))) }
+{
+    if is_in_order(pairs) {
+        return write_all(alloc, writer, pairs);
+    }
+    let order = places(alloc, pairs, false)?;
+    write_places(alloc, writer, pairs, &order)
+}
+
+/// The members as they stand.
+#[cycle(write)]
+fn write_all(alloc: Global, writer: &mut Writer, pairs: &Pairs) -> Result<(), AllocError>
+    ensures { OnOk result (Adds writer.old writer.new (flat_map pair_tokens (pairs_in pairs.now))) }
+{
+    for pair in &pairs.pairs {
+        write_pair(alloc, writer, pair)?;
+    }
+    Ok(())
+}
+
+/// The members at these places.
+#[cycle(write)]
+fn write_places(
+    alloc: Global,
+    writer: &mut Writer,
+    pairs: &Pairs,
+    order: &[usize],
+) -> Result<(), AllocError>
+    requires { All (λ i. i < length (pairs_in pairs.now)) order.now }
+    ensures { OnOk result (Adds writer.old writer.new (flat_map (place_tokens (pairs_in pairs.now)) order.now)) }
+{
+    for place in order {
+        write_pair(alloc, writer, &pairs.pairs[*place])?;
+    }
+    Ok(())
+}
+
+#[cycle(write)]
+fn write_pair(alloc: Global, writer: &mut Writer, pair: &Pair) -> Result<(), AllocError>
+    ensures { OnOk result (Adds writer.old writer.new (pair_tokens pair.now)) }
+{
+    writer.key(pair.name.as_str())?;
+    write_tree(alloc, writer, &pair.tree)
+}
