@@ -1,0 +1,6 @@
+pub mod Trees
+pub mod Grammar
+pub mod Reading
+pub mod Truth
+pub mod Names
+pub mod Printing

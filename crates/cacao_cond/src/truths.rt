@@ -1,0 +1,180 @@
+//! How conditions are decided.
+ghost use Rattle.std.specs.Prelude.{◌≡◌};
+ghost use Rattle.std.specs.Fmt.{signed_decimal};
+ghost use Rattle.std.specs.Str.{bytes_eq};
+ghost use Rattle.std.specs.Option.{option_copied};
+ghost use Rattle.cacao_cond.specs.declared.deciding.Atom.TheVariants as atom;
+ghost use Rattle.cacao_cond.specs.Trees.{constants_of, tree_of, all_of_tree, prime_tree};
+ghost use Rattle.cacao_cond.specs.Truth.{flag_text, equals, order_of, compares, is_among, holds, holds_all, holds_prime, atom_of};
+
+use crate::deciding::{Atom, Values};
+use crate::trees::{AllOf, Cond, Constant, Constants, Op, Prime};
+use cacao_vars::{Name, Word};
+use itoa::Buffer;
+use std::cmp::Ordering;
+
+fn text_of_flag(flag: bool) -> &'static str
+    ensures { result.now ≡ flag_text flag }
+{
+    if flag { "true" } else { "false" }
+}
+
+// Whether the decimal text of the number is this text.
+fn is_text_of(value: i64, text: &str) -> bool
+    ensures { result ≡ bytes_eq (signed_decimal value) text.now }
+{
+    let mut buffer = Buffer::new();
+    buffer.format(value) == text
+}
+
+fn whole_equals(value: i64, constant: &Constant) -> bool
+    ensures { result ≡ equals (atom.Whole value) constant.now }
+{
+    match constant {
+        Constant::Whole(other) => value == *other,
+        Constant::Flag(other) => is_text_of(value, text_of_flag(*other)),
+        Constant::Text(other) => is_text_of(value, other.text()),
+    }
+}
+
+fn flag_equals(value: bool, constant: &Constant) -> bool
+    ensures { result ≡ equals (atom.Flag value) constant.now }
+{
+    match constant {
+        Constant::Whole(other) => is_text_of(*other, text_of_flag(value)),
+        Constant::Flag(other) => value == *other,
+        Constant::Text(other) => text_of_flag(value) == other.text(),
+    }
+}
+
+fn text_equals(value: &Word, constant: &Constant) -> bool
+    ensures { result ≡ equals (atom.Text value.now) constant.now }
+{
+    match constant {
+        Constant::Whole(other) => is_text_of(*other, value.text()),
+        Constant::Flag(other) => text_of_flag(*other) == value.text(),
+        Constant::Text(other) => *value == *other,
+    }
+}
+
+// `=`.
+fn is_equal(value: &Atom, constant: &Constant) -> bool
+    ensures { result ≡ equals value.now constant.now }
+{
+    match value {
+        Atom::Unset => false,
+        Atom::Whole(value) => whole_equals(*value, constant),
+        Atom::Flag(value) => flag_equals(*value, constant),
+        Atom::Text(value) => text_equals(value, constant),
+    }
+}
+
+// The order of two values of one sort.
+fn order(value: &Atom, constant: &Constant) -> Option<Ordering>
+    ensures { result ≡ order_of value.now constant.now }
+{
+    match value {
+        Atom::Unset => None,
+        Atom::Whole(value) => match constant {
+            Constant::Whole(other) => Some(value.cmp(other)),
+            _ => None,
+        },
+        Atom::Flag(value) => match constant {
+            Constant::Flag(other) => Some(value.cmp(other)),
+            _ => None,
+        },
+        Atom::Text(value) => match constant {
+            Constant::Text(other) => Some(value.cmp(other)),
+            _ => None,
+        },
+    }
+}
+
+// Whether a comparison holds.
+fn is_true_of(value: &Atom, op: Op, constant: &Constant) -> bool
+    ensures { result ≡ compares value.now op constant.now }
+{
+    match op {
+        Op::Equal => is_equal(value, constant),
+        Op::Unequal => match value {
+            Atom::Unset => false,
+            _ => !is_equal(value, constant),
+        },
+        Op::Less => match order(value, constant) {
+            Some(order) => order.is_lt(),
+            None => false,
+        },
+        Op::AtMost => match order(value, constant) {
+            Some(order) => order.is_le(),
+            None => false,
+        },
+        Op::More => match order(value, constant) {
+            Some(order) => order.is_gt(),
+            None => false,
+        },
+        Op::AtLeast => match order(value, constant) {
+            Some(order) => order.is_ge(),
+            None => false,
+        },
+    }
+}
+
+// Whether the value equals one of the constants.
+fn is_one_of(value: &Atom, constants: &Constants) -> bool
+    ensures { result ≡ is_among value.now (constants_of constants.now) }
+{
+    match constants {
+        Constants::Last(constant) => is_equal(value, constant),
+        Constants::More(constant, rest) => is_equal(value, constant) || is_one_of(value, rest),
+    }
+}
+
+fn compared_is_true(name: &Name, op: Op, constant: &Constant, values: &Values) -> bool
+    ensures { result ≡ compares (atom_of values.now name.now) op constant.now }
+{
+    match values.find(name) {
+        Some(value) => is_true_of(value, op, constant),
+        None => is_true_of(&Atom::Unset, op, constant),
+    }
+}
+
+fn among_is_true(name: &Name, constants: &Constants, values: &Values) -> bool
+    ensures { result ≡ is_among (atom_of values.now name.now) (constants_of constants.now) }
+{
+    match values.find(name) {
+        Some(value) => is_one_of(value, constants),
+        None => is_one_of(&Atom::Unset, constants),
+    }
+}
+
+/// Whether the condition holds where its variables have these values. It takes no memory.
+#[cycle(truth)]
+pub fn truth(cond: &Cond, values: &Values) -> bool
+    ensures { result ≡ holds (tree_of cond.now) values.now }
+{
+    match cond {
+        Cond::Last(part) => all_hold(part, values),
+        Cond::Or(part, rest) => all_hold(part, values) || truth(rest, values),
+    }
+}
+
+#[cycle(truth)]
+fn all_hold(all: &AllOf, values: &Values) -> bool
+    ensures { result ≡ holds_all (all_of_tree all.now) values.now }
+{
+    match all {
+        AllOf::Last(prime) => prime_holds(prime, values),
+        AllOf::And(prime, rest) => prime_holds(prime, values) && all_hold(rest, values),
+    }
+}
+
+#[cycle(truth)]
+fn prime_holds(prime: &Prime, values: &Values) -> bool
+    ensures { result ≡ holds_prime (prime_tree prime.now) values.now }
+{
+    match prime {
+        Prime::Group(cond) => truth(cond, values),
+        Prime::Compare { name, op, constant } => compared_is_true(name, *op, constant, values),
+        Prime::Among { name, constants } => among_is_true(name, constants, values),
+    }
+}
