@@ -1,0 +1,5 @@
+pub mod Loop
+pub mod Takes
+pub mod FieldLemmas
+pub mod RecordLemmas
+pub mod ReadLemmas

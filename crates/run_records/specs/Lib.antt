@@ -1,0 +1,5 @@
+pub mod Layout
+pub mod Ranges
+pub mod Fields
+pub mod Reading
+pub mod Laws
