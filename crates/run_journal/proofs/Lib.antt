@@ -1,0 +1,6 @@
+pub mod BlockLemmas
+pub mod EntryLemmas
+pub mod Headers
+pub mod LayoutLaws
+pub mod Tears
+pub mod Unique

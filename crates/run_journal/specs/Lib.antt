@@ -1,0 +1,4 @@
+pub mod Journal
+pub mod JournalView
+pub mod Laws
+pub mod Layout

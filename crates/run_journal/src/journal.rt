@@ -1,0 +1,115 @@
+// The entries of one file.
+ghost use Rattle.std.specs.Prelude.{◌≡◌, ◌<◌, ◌≤◌, [], length, All, false, true, OnOk, OnErr, IsErrOf, Err, slice_index_or};
+ghost use Rattle.run_journal.specs.Layout.{front, IsShort};
+ghost use Rattle.run_journal.specs.JournalView.{JournalView};
+
+use crate::error::JournalError;
+use crate::reader::Found;
+use cacao_site::Bytes;
+use std::alloc::Global;
+use std::marker::Model;
+
+/// The entries of a file of a disk, in order, as this value read and appended them.
+///
+/// After `Disk` the value answers `Broken` until the file is opened again.
+#[derive(Drop)]
+pub struct Journal {
+    pub(crate) file: u8,
+    // The place of the closed gate, in bytes.
+    pub(crate) gate: u64,
+    pub(crate) broken: bool,
+    pub(crate) prepared: bool,
+    pub(crate) items: Vec<Bytes>,
+    // Room for what is written behind the gate.
+    pub(crate) block: Vec<u8>,
+    pub(crate) spare: usize,
+}
+
+impl Model for Journal {
+    ghost use Rattle.run_journal.specs.JournalView.{JournalView};
+
+    ghost Value = { JournalView };
+
+    ghost use Rattle.run_journal.specs.Journal.{journal_view, IsKept};
+
+    ghost view = { journal_view };
+
+    ghost invariant = { IsKept };
+}
+
+impl Journal {
+    /// The journal of a file with at most 9 bytes. Takes no memory.
+    #[tactic(auto, unfolding(crate::specs::Layout::front, crate::specs::Layout::entries))]
+    pub(crate) fn blank(alloc: Global, file: u8) -> Journal
+        requires { file ≤ 16 }
+        ensures { result ≡ record { file = file; items = []; broken = false; prepared = false; spare = 0 } }
+    {
+        Journal {
+            file,
+            gate: 8,
+            broken: false,
+            prepared: false,
+            items: Vec::new(alloc),
+            block: Vec::new(alloc),
+            spare: 0,
+        }
+    }
+
+    /// The journal of a file with these entries. Takes no memory.
+    pub(crate) fn found(alloc: Global, file: u8, found: Found) -> Journal
+        requires file { file ≤ 16 }
+        requires gate { found.gate ≡ length (front found.items.items) }
+        requires fits { found.gate < 67_108_864 }
+        requires short { All IsShort found.items.items }
+        ensures { result ≡ record { file = file; items = found.items.items; broken = false; prepared = true; spare = 0 } }
+    {
+        Journal {
+            file,
+            gate: found.gate,
+            broken: false,
+            prepared: true,
+            items: found.items,
+            block: Vec::new(alloc),
+            spare: 0,
+        }
+    }
+
+    /// Makes all room that the append of one more item of at most `bytes` bytes needs.
+    pub fn reserve(&mut self, bytes: u32) -> Result<(), JournalError>
+        requires { bytes ≤ 17_829_888 }
+        ensures spare { OnOk result (bytes < self.new.spare) }
+        ensures memory { OnErr result (result ≡ Err JournalError.Memory) }
+        ensures file { self.new.file ≡ self.old.file }
+        ensures items { self.new.items ≡ self.old.items }
+        ensures broken { self.new.broken ≡ self.old.broken }
+        ensures prepared { self.new.prepared ≡ self.old.prepared }
+    {
+        self.block.clear();
+        self.block.reserve(bytes as usize + 5)?;
+        self.items.reserve(1)?;
+        self.spare = bytes as usize + 1;
+        Ok(())
+    }
+
+    /// The bytes of an entry, by its number from 0.
+    pub fn entry(&self, n: u32) -> &[u8]
+        requires { n < length self.now.items }
+        ensures { result.now ≡ slice_index_or self.now.items n [] }
+    {
+        self.items[n as usize].as_slice()
+    }
+
+    /// How many entries there are.
+    pub fn count(&self) -> u32
+        ensures { result ≡ length self.now.items }
+    {
+        self.items.len() as u32
+    }
+
+    /// Whether the header stands, so that entries can be appended.
+    pub fn is_prepared(&self) -> bool
+        ensures { result ≡ self.now.prepared }
+    {
+        self.prepared
+    }
+}

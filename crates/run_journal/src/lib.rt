@@ -1,0 +1,19 @@
+//! The gated journal: entries of a file, each durable before it is acknowledged.
+#![tactic(auto)]
+
+mod append;
+mod blocks;
+pub mod error;
+pub mod journal;
+pub mod laws;
+mod opening;
+mod prepare;
+mod reader;
+mod room;
+mod store;
+#[cfg(test)]
+mod tests;
+
+pub use error::JournalError;
+pub use journal::Journal;
+pub use laws::layout_law;
