@@ -1,0 +1,30 @@
+//! The program `cacao`: it hands the words of the command line and the outside of the system to the commands.
+#![tactic(auto)]
+
+use cacao_cli::top;
+use cacao_site::{FileShelf, FileSite};
+use std::alloc::{AllocError, Global};
+use std::process::ExitCode;
+use std::{env, io};
+
+/// The exit status where memory was wanted.
+const NO_MEMORY: u8 = 10;
+
+fn main(rt: HostRuntime) -> ExitCode {
+    let alloc = rt.alloc();
+    let Ok(words) = words(&rt, alloc) else {
+        return ExitCode::from(NO_MEMORY);
+    };
+    let mut shelf = FileShelf::new(&rt);
+    let mut site = FileSite::new(&rt);
+    ExitCode::from(top(alloc, words.as_slice(), &mut shelf, &mut site))
+}
+
+/// The words after the program's name; none where the system does not give them or one is not UTF-8.
+fn words(rt: &HostRuntime, alloc: Global) -> Result<Vec<String>, AllocError> {
+    match env::args(rt) {
+        Ok(args) => args.skip(1).collect(alloc),
+        Err(error) if error.kind() == io::ErrorKind::OutOfMemory => Err(AllocError),
+        Err(_) => Ok(Vec::new(alloc)),
+    }
+}
