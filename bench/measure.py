@@ -1,7 +1,7 @@
 #!/usr/bin/env python3
 """Runs commands in turn, many rounds, and prints each one's median time and greatest memory, with ratios to the first.
 
-usage: measure.py FILE NAME COMMAND [NAME COMMAND ..]    (a COMMAND is split at its spaces; memory wants GNU time)
+usage: measure.py FILE -- NAME COMMAND ARGUMENT.. [-- NAME COMMAND ARGUMENT.. ..]    (memory wants GNU time)
 """
 import os
 import statistics
@@ -29,15 +29,29 @@ def memory_of(command):
         return int(told.read()) * 1024
 
 
+def commands_of(words):
+    """The commands by their names, each a list of words behind `--`."""
+    commands = {}
+    for word in words:
+        if word == "--":
+            name = None
+        elif name is None:
+            name = word
+            commands[name] = []
+        else:
+            commands[name].append(word)
+    return commands
+
+
 def main(file, words):
-    commands = {name: command.split() for name, command in zip(words[::2], words[1::2])}
+    commands = commands_of(words)
     size = os.path.getsize(file)
     seconds = {name: [] for name in commands}
     for _ in range(ROUNDS):
         for name, command in commands.items():
             seconds[name].append(seconds_of(command))
     medians = {name: statistics.median(taken) for name, taken in seconds.items()}
-    first = words[0]
+    first = next(iter(commands))
     print(f"{size} bytes, {ROUNDS} rounds, medians")
     for name, median in medians.items():
         memory = memory_of(commands[name])

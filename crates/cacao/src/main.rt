@@ -16,7 +16,7 @@ fn main(rt: HostRuntime) -> ExitCode {
         return ExitCode::from(NO_MEMORY);
     };
     let mut shelf = FileShelf::new(&rt);
-    let mut site = FileSite::new(&rt);
+    let mut site = FileSite::new(&rt, alloc);
     ExitCode::from(top(alloc, words.as_slice(), &mut shelf, &mut site))
 }
 

@@ -1,1 +1,15 @@
-pub mod WordLemmas
+pub mod CauseLemmas
+pub mod ClapLemmas
+pub mod ClapRowLemmas
+pub mod ClapRules
+pub mod ClapSteps
+pub mod ClapWalk
+pub mod CountLemmas
+pub mod ExactLemmas
+pub mod LeaveLemmas
+pub mod LineLemmas
+pub mod NameLemmas
+pub mod PerformLemmas
+pub mod ReadLemmas
+pub mod StatusLemmas
+pub mod TreeLemmas

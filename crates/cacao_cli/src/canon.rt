@@ -1,32 +1,53 @@
 // The command `canon`.
-ghost use Rattle.std.specs.Prelude.{◌≡◌, ◌≤◌, Some, IfOk, IfErr};
-ghost use Rattle.cacao_site.specs.Counts.{CountsOne};
-ghost use Rattle.cacao_cli.specs.Does.{IsCanonLine};
-ghost use Rattle.cacao_cli.specs.Refuses.{Fails};
-ghost use Rattle.cacao_cli.specs.Words.{canonise};
+ghost use Rattle.std.specs.Prelude.{◌≡◌, ◌≤◌, Some, IfOk};
+ghost use Rattle.cacao_json.specs.Tree.{data_of};
+ghost use Rattle.cacao_cli.specs.Asked.{canonises};
+ghost use Rattle.cacao_cli.specs.Command.{end_of};
+ghost use Rattle.cacao_cli.specs.Ended.{Performed};
+ghost use Rattle.cacao_cli.specs.Files.{shelf_call};
+ghost use Rattle.cacao_cli.specs.Work.{canon_line};
 
-use crate::failure::Failure;
-use crate::file::read_file_tree;
-use cacao_site::Shelf;
+use crate::end::End;
+use crate::file::read_file;
+use crate::say::say_then;
+use crate::tree::tree_of;
+use cacao_json::Tree;
+use cacao_site::{Shelf, Site};
 use cacao_text::canonical_book;
-use std::alloc::Global;
+use std::alloc::{AllocError, Global};
 
-/// The line that `canon` says: the canonical text (RFC 8785) of the tree in the file, without the top member
-/// `signatures`, and a line feed.
-pub fn canon<'w, L: Shelf>(
+/// The canonical text (RFC 8785) of the tree, without the top member `signatures`, and a line feed.
+fn canon_line(alloc: Global, tree: &Tree) -> Result<Vec<u8>, AllocError>
+    ensures { IfOk result (λ line. line.items ≡ canon_line (data_of tree.now)) }
+{
+    let mut line = canonical_book(alloc, tree)?.into_vec();
+    line.push(b'\n')?;
+    Ok(line)
+}
+
+/// `canon`: says the canonical text of the tree in the file.
+pub fn canon<'w, L: Shelf, S: Site>(
     alloc: Global,
     book: &'w str,
     shelf: &mut L,
-) -> Result<Vec<u8>, Failure<'w>>
-    ensures line { IfOk result (λ line. IsCanonLine (L.told shelf.old) book.now line.items) }
-    ensures failure { IfErr result
-        (Fails (Some (canonise book.now)) (L.told shelf.old) (L.faults shelf.old) (L.faults shelf.new)) }
+    site: &mut S,
+) -> End<'w>
+    ensures performed { Performed (Some (canonises book.entry.now))
+        (shelf_call (L.told shelf.old) (L.faults shelf.old) (L.faults shelf.new) (L.reads shelf.old) (L.reads shelf.new))
+        (S.view site.old) (S.view site.new) (end_of result) }
     ensures files { L.told shelf.new ≡ L.told shelf.old }
     ensures faults { L.faults shelf.old ≤ L.faults shelf.new }
-    ensures one_read { CountsOne (L.reads shelf.old) (L.reads shelf.new) }
 {
-    let tree = read_file_tree(alloc, book, shelf)?;
-    let mut line = canonical_book(alloc, &tree)?.into_vec();
-    line.push(b'\n')?;
-    Ok(line)
+    let bytes = match read_file(alloc, book, shelf) {
+        Ok(bytes) => bytes,
+        Err(end) => return end,
+    };
+    let tree = match tree_of(alloc, book, bytes.as_slice()) {
+        Ok(tree) => tree,
+        Err(end) => return end,
+    };
+    match canon_line(alloc, &tree) {
+        Ok(line) => say_then(line.as_slice(), End::Done, site),
+        Err(_) => End::NoMemory,
+    }
 }

@@ -2,14 +2,17 @@
 #![tactic(auto)]
 
 mod canon;
-mod failure;
+mod end;
+mod fault_line;
 mod file;
+mod limit;
+mod names;
 mod program;
-mod refusal;
+mod reason;
 mod say;
+mod tree;
 mod words;
 
-pub use file::FILE_LIMIT;
 pub use program::top;
 
 #[cfg(test)]

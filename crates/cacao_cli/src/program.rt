@@ -1,55 +1,100 @@
 // The program as one call.
-ghost use Rattle.std.specs.Prelude.{◌≡◌, ◌⊎◌, ◌≤◌, map, string_bytes, None, IfSome};
-ghost use Rattle.cacao_site.specs.Counts.{CountsOne, Rose};
-ghost use Rattle.cacao_cli.specs.Words.{asked};
-ghost use Rattle.cacao_cli.specs.Status.{ComesExactly, IsTooLarge, IsMissing, IsUnreadable, CanBeDone};
-ghost use Rattle.cacao_cli.specs.Says.{Says, SaysAtMostOnce};
+ghost use Rattle.std.specs.Prelude.{◌≡◌, ◌≢◌, ◌≤◌, ◌∷◌, [], length, map, string_bytes, Some, None};
+ghost use Rattle.cacao_site.specs.Counts.{next_count};
+ghost use Rattle.cacao_cli.specs.Asked.{asked};
+ghost use Rattle.cacao_cli.specs.Causes.{CanBeDone, IsMissing, IsPastLimit, IsUnreadable};
+ghost use Rattle.cacao_cli.specs.Command.{asked_by, end_of};
+ghost use Rattle.cacao_cli.specs.Ended.{Ended, Performed};
+ghost use Rattle.cacao_cli.specs.Exact.{Answers, ComesExactly, IfFilesTold, IfTold, faults_of};
+ghost use Rattle.cacao_cli.specs.Files.{files_of, shelf_call};
+ghost use Rattle.cacao_cli.specs.Leaves.{Leaves, NoFault, ReadsAtMost};
 
 use crate::canon::canon;
-use crate::failure::Failure;
-use crate::refusal::Refusal;
-use crate::say::{NO_MEMORY, refuse, tell};
+use crate::end::End;
+use crate::say::finish;
 use crate::words::{Command, read_words};
 use cacao_site::{Shelf, Site};
 use std::alloc::Global;
 
-/// The exit status where the command did its work to the end.
-const DONE: u8 = 0;
+/// Does what a command asks, all but the last line.
+fn carry_out<'w, L: Shelf, S: Site>(
+    alloc: Global,
+    command: &Command<'w>,
+    shelf: &mut L,
+    site: &mut S,
+) -> End<'w>
+    ensures performed { Performed (Some (asked_by command.entry.now))
+        (shelf_call (L.told shelf.old) (L.faults shelf.old) (L.faults shelf.new) (L.reads shelf.old) (L.reads shelf.new))
+        (S.view site.old) (S.view site.new) (end_of result) }
+    ensures files { L.told shelf.new ≡ L.told shelf.old }
+    ensures faults { L.faults shelf.old ≤ L.faults shelf.new }
+    ensures untouched { files_of (Some (asked_by command.entry.now)) ≡ [] → shelf.new ≡ shelf.old }
+{
+    match command {
+        Command::Canon { book } => canon(alloc, book, shelf, site),
+    }
+}
+
+/// Does what the words ask, all but the last line.
+fn perform<'w, L: Shelf, S: Site>(
+    alloc: Global,
+    words: &'w [String],
+    shelf: &mut L,
+    site: &mut S,
+) -> End<'w>
+    ensures performed { Performed (asked (map string_bytes words.entry.now))
+        (shelf_call (L.told shelf.old) (L.faults shelf.old) (L.faults shelf.new) (L.reads shelf.old) (L.reads shelf.new))
+        (S.view site.old) (S.view site.new) (end_of result) }
+    ensures files { L.told shelf.new ≡ L.told shelf.old }
+    ensures faults { L.faults shelf.old ≤ L.faults shelf.new }
+    ensures untouched { files_of (asked (map string_bytes words.entry.now)) ≡ [] → shelf.new ≡ shelf.old }
+{
+    match read_words(alloc, words) {
+        Ok(Some(command)) => carry_out(alloc, &command, shelf, site),
+        Ok(None) => End::NotUnderstood,
+        Err(_) => End::NoMemory,
+    }
+}
 
 /// Does what the words after the program's name ask, says its lines, and answers the exit status.
 ///
-/// Each status but 0 says why: 2 the words have no reading, 3 the shelf failed, 4 there is no such file, 5 a
-/// file has no tree, 9 a line could not be said, 10 memory was wanted, 11 a limit was passed. Where several causes hold, 2
-/// comes before 11, 11 before 3, 3 before 4, and 4 before 5.
+/// Each status but 0 says why: 2 the words have no reading, 3 the shelf failed, 4 there is no such file, 5 a file has no tree, 9 a line
+/// could not be said, 10 memory was wanted, 11 a limit was passed. Where several causes hold, 2 comes before 11 for too many
+/// playbooks, then 3, 4 and 11 of one file before those of the next, and all of them before 5.
 pub fn top<L: Shelf, S: Site>(alloc: Global, words: &[String], shelf: &mut L, site: &mut S) -> u8
-    ensures not_understood { ComesExactly 2 (asked (map string_bytes words.now) ≡ None) result }
-    ensures shelf_failed { result ≡ 3 → Rose (L.faults shelf.old) (L.faults shelf.new) }
-    ensures missing { IfSome (L.told shelf.old) (λ files.
-        ComesExactly 4 (IsMissing (asked (map string_bytes words.now)) files) result) }
-    ensures unreadable { IfSome (L.told shelf.old) (λ files.
-        ComesExactly 5 (IsUnreadable (asked (map string_bytes words.now)) files) result) }
-    ensures too_large { IfSome (L.told shelf.old) (λ files.
-        ComesExactly 11 (IsTooLarge (asked (map string_bytes words.now)) files) result) }
-    ensures done { IfSome (L.told shelf.old) (λ files.
-        ComesExactly 0 (CanBeDone (asked (map string_bytes words.now)) files) result) }
-    ensures say_failed { result ≡ 9 → Rose (S.view site.old).clock.unsaid (S.view site.new).clock.unsaid }
-    ensures no_memory { result ≡ 10 → S.view site.new ≡ S.view site.old }
+    // All that the call does: what it reads, the work, the lines and the status.
+    ensures ended { Ended (asked (map string_bytes words.now))
+        (shelf_call (L.told shelf.old) (L.faults shelf.old) (L.faults shelf.new) (L.reads shelf.old) (L.reads shelf.new))
+        (S.view site.old) (S.view site.new) result }
 
-    ensures lines { Says (asked (map string_bytes words.now)) (L.told shelf.old)
-        (L.faults shelf.old) (L.faults shelf.new) (S.view site.old) (S.view site.new) result }
-    ensures rest { SaysAtMostOnce (S.view site.old) (S.view site.new) }
+    // The status is the one that the words, the files and the disk call for, or a fault stands in its place.
+    ensures exactly { Answers (asked (map string_bytes words.now)) (L.told shelf.old) (S.view site.old) (S.view site.new) result }
+
+    // Status by status, in words of its own.
+    ensures done { IfTold (asked (map string_bytes words.now)) (L.told shelf.old) (S.view site.old) (λ files.
+        ComesExactly 0 (faults_of (asked (map string_bytes words.now)))
+        (CanBeDone (asked (map string_bytes words.now)) files (S.view site.old) (S.view site.new)) result) }
+    ensures not_understood { ComesExactly 2 (9 ∷ 10 ∷ []) (asked (map string_bytes words.now) ≡ None) result }
+    ensures shelf_failed { result ≡ 3 → L.faults shelf.new ≡ next_count (L.faults shelf.old) }
+    ensures shelf_steady { result ≢ 3 → result ≢ 9 → L.faults shelf.new ≡ L.faults shelf.old }
+    ensures missing { IfFilesTold (files_of (asked (map string_bytes words.now))) (L.told shelf.old) (λ files.
+        ComesExactly 4 (3 ∷ 9 ∷ 10 ∷ []) (IsMissing files (files_of (asked (map string_bytes words.now)))) result) }
+    ensures unreadable { IfFilesTold (files_of (asked (map string_bytes words.now))) (L.told shelf.old) (λ files.
+        ComesExactly 5 (3 ∷ 9 ∷ 10 ∷ []) (IsUnreadable (asked (map string_bytes words.now)) files) result) }
+    ensures unsaid { result ≡ 9 → (S.view site.new).clock.unsaid ≡ next_count (S.view site.old).clock.unsaid }
+    ensures said { result ≢ 9 → (S.view site.new).clock.unsaid ≡ (S.view site.old).clock.unsaid }
+    ensures no_memory { result ≡ 10 → NoFault (L.faults shelf.old) (L.faults shelf.new) (S.view site.old) (S.view site.new) }
+    ensures past_limit { IfTold (asked (map string_bytes words.now)) (L.told shelf.old) (S.view site.old) (λ files.
+        ComesExactly 11 (faults_of (asked (map string_bytes words.now)))
+        (IsPastLimit (asked (map string_bytes words.now)) files (S.view site.old) (S.view site.new)) result) }
+
+    // What stays as it was.
+    ensures leaves { Leaves (asked (map string_bytes words.now)) (S.view site.old) (S.view site.new) result }
     ensures files { L.told shelf.new ≡ L.told shelf.old }
     ensures faults { L.faults shelf.old ≤ L.faults shelf.new }
-    ensures reads { (L.reads shelf.new ≡ L.reads shelf.old) ⊎ CountsOne (L.reads shelf.old) (L.reads shelf.new) }
+    ensures reads { ReadsAtMost (length (files_of (asked (map string_bytes words.now)))) (L.reads shelf.old) (L.reads shelf.new) }
+    ensures untouched { files_of (asked (map string_bytes words.now)) ≡ [] → shelf.new ≡ shelf.old }
 {
-    let Some(command) = read_words(words) else {
-        return refuse(alloc, Refusal::NotUnderstood, site);
-    };
-    match command {
-        Command::Canon { book } => match canon(alloc, book, shelf) {
-            Ok(line) => tell(line.as_slice(), DONE, site),
-            Err(Failure::Refused(refusal)) => refuse(alloc, refusal, site),
-            Err(Failure::Memory) => NO_MEMORY,
-        },
-    }
+    let end = perform(alloc, words, shelf, site);
+    finish(alloc, &end, site)
 }

@@ -1,35 +1,44 @@
-// The line that a call of the program says.
-ghost use Rattle.cacao_cli.specs.Refusal.{line_of, status_of};
-ghost use Rattle.cacao_cli.specs.Says.{Tells, SaysAtMostOnce};
+// The lines that a call of the program says.
+ghost use Rattle.std.specs.Prelude.{◌≡◌, ◌∷◌, []};
+ghost use Rattle.cacao_cli.specs.Command.{end_of};
+ghost use Rattle.cacao_cli.specs.Lines.{SaysOrFails, SaysWork, Tells};
 
-use crate::refusal::Refusal;
+use crate::end::End;
 use cacao_site::Site;
 use std::alloc::Global;
 
-/// The exit status where a line could not be said.
-pub const SAY_FAILED: u8 = 9;
-
-/// The exit status where memory was wanted.
-pub const NO_MEMORY: u8 = 10;
-
-/// Says the line, and answers the status.
-pub fn tell<S: Site>(line: &[u8], status: u8, site: &mut S) -> u8
-    ensures tells { Tells line.now status (S.view site.old) (S.view site.new) result }
-    ensures rest { SaysAtMostOnce (S.view site.old) (S.view site.new) }
+/// Says the line; the end is this one, if it was said.
+pub fn say_then<'w, S: Site>(line: &[u8], end: End<'w>, site: &mut S) -> End<'w>
+    ensures { SaysWork (line.now ∷ []) (end_of end.entry) (S.view site.old) (S.view site.new) (end_of result) }
 {
     match site.say(line) {
-        Ok(()) => status,
-        Err(_) => SAY_FAILED,
+        Ok(()) => end,
+        Err(_) => End::Unsaid,
     }
 }
 
-/// Says the line of the refusal, and answers its status.
-pub fn refuse<S: Site>(alloc: Global, refusal: Refusal<'_>, site: &mut S) -> u8
-    ensures tells { Tells (line_of refusal.entry) (status_of refusal.entry) (S.view site.old) (S.view site.new) result }
-    ensures rest { SaysAtMostOnce (S.view site.old) (S.view site.new) }
+/// Says the last line, if the end has one, and answers its status.
+pub fn finish<S: Site>(alloc: Global, end: &End<'_>, site: &mut S) -> u8
+    ensures { Tells (end_of end.entry.now) (S.view site.old) (S.view site.new) result }
 {
-    match format!(in alloc; "{refusal}\n") {
-        Ok(line) => tell(line.as_bytes(), refusal.status(), site),
-        Err(_) => NO_MEMORY,
+    if let End::ShelfFailed { line } = end {
+        return say_last(line.as_bytes(), end.status(), site);
+    }
+    if !end.has_line() {
+        return end.status();
+    }
+    match format!(in alloc; "{end}\n") {
+        Ok(line) => say_last(line.as_bytes(), end.status(), site),
+        Err(_) => End::NoMemory.status(),
+    }
+}
+
+/// Says the last line, and answers the status.
+fn say_last<S: Site>(line: &[u8], status: u8, site: &mut S) -> u8
+    ensures { SaysOrFails line.now status (S.view site.old) (S.view site.new) result }
+{
+    match site.say(line) {
+        Ok(()) => status,
+        Err(_) => 9,
     }
 }

@@ -5,3 +5,4 @@ pub mod Sound
 pub mod Again
 pub mod NameLemmas
 pub mod Printed
+pub mod ListedLemmas

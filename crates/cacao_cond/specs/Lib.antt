@@ -4,3 +4,5 @@ pub mod Reading
 pub mod Truth
 pub mod Names
 pub mod Printing
+pub mod Worths
+pub mod Listed

@@ -1,11 +1,10 @@
 -- How the reader goes through a text from the left: each step answers what it read and what is left, or nothing.
 -- The grammar is in `Grammar`; these steps tell nothing else.
-use Rattle.std.specs.Prelude.{◌≡◌, ℕ, ℤ, zero, suc, ◌-◌, ◌<◌, ◌≢◌, slice_index, ◌&&◌, ◌==◌, ◌||◌, nat_le, nat_lt, nat_eq, ◌^◌, negsuc, Bool, true, false, List, [], ◌∷◌, ◌++◌, length, drop, codes, pos, Option, Some, None, option_map, Result, Ok, Err, if◌then◌else◌}
+use Rattle.std.specs.Prelude.{◌≡◌, ℕ, ℤ, zero, suc, ◌-◌, ◌&&◌, ◌==◌, ◌||◌, nat_le, nat_lt, nat_eq, ◌^◌, negsuc, Bool, true, false, List, [], ◌∷◌, ◌++◌, length, drop, codes, pos, Option, Some, None, option_map, Result, Ok, Err, if◌then◌else◌}
 use Rattle.std.specs.List.{starts_with}
-use Rattle.std.specs.Fmt.{decimal}
 use Rattle.std.specs.Option.{option_map_or}
-use Rattle.std.specs.Str.{is_utf8, bytes_eq}
-use Rattle.std.specs.Str.Parse.{digits_value}
+use Rattle.std.specs.Str.{is_utf8}
+use Rattle.decimals.specs.Numbers.{number}
 use Rattle.cacao_vars.specs.References.{begins_with_reference, name_run, behind_run}
 use Rattle.cacao_cond.specs.declared.errors.CondError.{CondError}
 use Rattle.cacao_cond.specs.declared.errors.CondError.TheVariants.{Grammar, Memory}
@@ -67,13 +66,9 @@ abbrev pub behind_digits : List ℕ → List ℕ
 behind_digits [] = []
 behind_digits (c ∷ cs) = if is_digit c then behind_digits cs else c ∷ cs
 
--- a number in decimal may begin so
-abbrev pub MayBeNumber : List ℕ → Type 0
-MayBeNumber digits = (0 < length digits) × (slice_index digits 0 ≢ 43) × (slice_index digits 0 ≡ 48 → length digits ≡ 1)
-
 -- the number below 2 ^ 64 whose decimal text this is
 abbrev pub number_of : List ℕ → Option ℕ
-number_of digits = if nat_lt (digits_value 10 digits) (2 ^ 64) && bytes_eq (decimal (digits_value 10 digits)) digits then Some (digits_value 10 digits) else None
+number_of digits = number 18_446_744_073_709_551_615 digits
 
 abbrev pub negative_of : ℕ → Option ℤ
 negative_of n = if nat_le 1 n && nat_le n (2 ^ 63) then Some (negsuc (n - 1)) else None

@@ -11,8 +11,7 @@ use Rattle.cacao_cond.specs.declared.trees.Op.{Op}
 use Rattle.cacao_cond.specs.declared.trees.Op.TheVariants.{Equal, Unequal, Less, AtMost, More, AtLeast}
 use Rattle.cacao_cond.specs.declared.trees.Constant.{Constant}
 use Rattle.cacao_cond.specs.declared.trees.Constant.TheVariants as constant
-use Rattle.cacao_cond.specs.declared.deciding.Atom.{Atom}
-use Rattle.cacao_cond.specs.declared.deciding.Atom.TheVariants as atom
+use Rattle.cacao_cond.specs.Worths.{Worth, unset, whole, flag, text}
 use Rattle.cacao_cond.specs.Trees.{ConstantTree, AnyTree, AllTree, PrimeTree}
 use Rattle.cacao_cond.specs.Trees.ConstantTree.{last_constant, more_constants}
 use Rattle.cacao_cond.specs.Trees.AnyTree.{last_part, or_else}
@@ -20,45 +19,45 @@ use Rattle.cacao_cond.specs.Trees.AllTree.{last_prime, and_also}
 use Rattle.cacao_cond.specs.Trees.PrimeTree.{group, compared, among}
 
 -- the value that is listed of a name, the first where there are several
-abbrev pub atom_at : List (List ℕ × Atom) → List ℕ → Option Atom
-atom_at values name = option_map (λ p. p.1) (find (λ p. bytes_eq p.0 name) values)
+abbrev pub worth_at : List (List ℕ × Worth) → List ℕ → Option Worth
+worth_at values name = option_map (λ p. p.1) (find (λ p. bytes_eq p.0 name) values)
 
 -- the value of a name: unset where it is not listed
-abbrev pub atom_of : List (List ℕ × Atom) → List ℕ → Atom
-atom_of values name = unwrap_or (atom_at values name) atom.Unset
+abbrev pub worth_in : List (List ℕ × Worth) → List ℕ → Worth
+worth_in values name = unwrap_or (worth_at values name) unset
 
 abbrev pub flag_text : Bool → List ℕ
 flag_text true = codes "true"
 flag_text false = codes "false"
 
 -- `=`: an unset value equals nothing, and those of different sorts are equal where their texts are
-abbrev pub equals : Atom → Constant → Bool
-equals atom.Unset c = false
-equals (atom.Whole a) (constant.Whole b) = int_eq a b
-equals (atom.Whole a) (constant.Flag b) = bytes_eq (signed_decimal a) (flag_text b)
-equals (atom.Whole a) (constant.Text b) = bytes_eq (signed_decimal a) b
-equals (atom.Flag a) (constant.Whole b) = bytes_eq (signed_decimal b) (flag_text a)
-equals (atom.Flag a) (constant.Flag b) = beq a b
-equals (atom.Flag a) (constant.Text b) = bytes_eq (flag_text a) b
-equals (atom.Text a) (constant.Whole b) = bytes_eq (signed_decimal b) a
-equals (atom.Text a) (constant.Flag b) = bytes_eq (flag_text b) a
-equals (atom.Text a) (constant.Text b) = bytes_eq a b
+abbrev pub equals : Worth → Constant → Bool
+equals unset c = false
+equals (whole a) (constant.Whole b) = int_eq a b
+equals (whole a) (constant.Flag b) = bytes_eq (signed_decimal a) (flag_text b)
+equals (whole a) (constant.Text b) = bytes_eq (signed_decimal a) b
+equals (flag a) (constant.Whole b) = bytes_eq (signed_decimal b) (flag_text a)
+equals (flag a) (constant.Flag b) = beq a b
+equals (flag a) (constant.Text b) = bytes_eq (flag_text a) b
+equals (text a) (constant.Whole b) = bytes_eq (signed_decimal b) a
+equals (text a) (constant.Flag b) = bytes_eq (flag_text b) a
+equals (text a) (constant.Text b) = bytes_eq a b
 
 -- the order of two values of one sort: numbers as numbers, false before true, texts by their bytes
-abbrev pub order_of : Atom → Constant → Option Ordering
-order_of (atom.Whole a) (constant.Whole b) = Some (int_cmp a b)
-order_of (atom.Flag a) (constant.Flag b) = Some (bool_cmp a b)
-order_of (atom.Text a) (constant.Text b) = Some (slice_cmp nat_cmp a b)
+abbrev pub order_of : Worth → Constant → Option Ordering
+order_of (whole a) (constant.Whole b) = Some (int_cmp a b)
+order_of (flag a) (constant.Flag b) = Some (bool_cmp a b)
+order_of (text a) (constant.Text b) = Some (slice_cmp nat_cmp a b)
 order_of a b = None
 
-abbrev pub is_set : Atom → Bool
-is_set atom.Unset = false
-is_set (atom.Whole a) = true
-is_set (atom.Flag a) = true
-is_set (atom.Text a) = true
+abbrev pub is_set : Worth → Bool
+is_set unset = false
+is_set (whole a) = true
+is_set (flag a) = true
+is_set (text a) = true
 
 -- a comparison; with an unset value it is false, and so is an order of different sorts
-abbrev pub compares : Atom → Op → Constant → Bool
+abbrev pub compares : Worth → Op → Constant → Bool
 compares a Equal b = equals a b
 compares a Unequal b = is_set a && not (equals a b)
 compares a Less b = option_map_or is_lt (order_of a b) false
@@ -67,22 +66,22 @@ compares a More b = option_map_or is_gt (order_of a b) false
 compares a AtLeast b = option_map_or is_ge (order_of a b) false
 
 -- `IN`: the value equals one of the constants
-abbrev pub is_among : Atom → ConstantTree → Bool
+abbrev pub is_among : Worth → ConstantTree → Bool
 is_among a (last_constant b) = equals a b
 is_among a (more_constants b rest) = equals a b || is_among a rest
 
 abbrev mutual
   -- one of the parts holds
-  pub holds : AnyTree → List (List ℕ × Atom) → Bool
+  pub holds : AnyTree → List (List ℕ × Worth) → Bool
   holds (last_part part) values = holds_all part values
   holds (or_else part rest) values = holds_all part values || holds rest values
 
   -- each of the parts holds
-  pub holds_all : AllTree → List (List ℕ × Atom) → Bool
+  pub holds_all : AllTree → List (List ℕ × Worth) → Bool
   holds_all (last_prime prime) values = holds_prime prime values
   holds_all (and_also prime rest) values = holds_prime prime values && holds_all rest values
 
-  pub holds_prime : PrimeTree → List (List ℕ × Atom) → Bool
+  pub holds_prime : PrimeTree → List (List ℕ × Worth) → Bool
   holds_prime (group any) values = holds any values
-  holds_prime (compared name op constant) values = compares (atom_of values name) op constant
-  holds_prime (among name constants) values = is_among (atom_of values name) constants
+  holds_prime (compared name op constant) values = compares (worth_in values name) op constant
+  holds_prime (among name constants) values = is_among (worth_in values name) constants

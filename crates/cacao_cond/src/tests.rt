@@ -1,6 +1,6 @@
 //! Rows whose answers are known from outside.
-use crate::{Atom, Cond, CondError, Values, names, print_cond, read_cond, truth};
-use cacao_vars::{Name, Word};
+use crate::{Atom, Cond, CondError, Values, names, print_cond, read_cond, truth, value_of};
+use cacao_vars::{Kind, Name};
 use std::alloc::Global;
 use std::test::Fail;
 
@@ -17,10 +17,6 @@ fn read(alloc: Global, text: &str) -> Result<Option<Cond>, Fail> {
 
 fn name(alloc: Global, text: &str) -> Result<Name, Fail> {
     Ok(Name::read(alloc, text)?.ok_or("no name")?)
-}
-
-fn text(alloc: Global, text: &str) -> Result<Atom, Fail> {
-    Ok(Atom::Text(Word::new(alloc, text)?))
 }
 
 #[test]
@@ -103,15 +99,46 @@ fn printed_texts(rt: HostRuntime) -> Result<(), Fail> {
     Ok(())
 }
 
+/// Names of variables.
+#[derive(Drop)]
+struct Names {
+    severity: Name,
+    host: Name,
+    a: Name,
+    flag: Name,
+    none: Name,
+}
+
+impl Names {
+    /// One value for each, and a second one for `a`.
+    fn values<'a>(&'a self, alloc: Global) -> Result<Values<'a>, Fail> {
+        let mut values = Values::new(alloc);
+        values.push(&self.severity, Atom::Whole(8))?;
+        values.push(&self.host, Atom::Text("198.51.100.7"))?;
+        values.push(&self.a, Atom::Text("10"))?;
+        values.push(&self.a, Atom::Text("11"))?;
+        values.push(&self.flag, Atom::Flag(false))?;
+        values.push(&self.none, Atom::Unset)?;
+        Ok(values)
+    }
+}
+
 #[test]
 fn truths(rt: HostRuntime) -> Result<(), Fail> {
     let alloc = rt.alloc();
-    let mut values = Values::new(alloc);
-    values.push(name(alloc, "__severity__")?, Atom::Whole(8))?;
-    values.push(name(alloc, "__host__")?, text(alloc, "198.51.100.7")?)?;
-    values.push(name(alloc, "__a__")?, text(alloc, "10")?)?;
-    values.push(name(alloc, "__flag__")?, Atom::Flag(false))?;
-    values.push(name(alloc, "__none__")?, Atom::Unset)?;
+    let severity = name(alloc, "__severity__")?;
+    let host = name(alloc, "__host__")?;
+    let a = name(alloc, "__a__")?;
+    let flag = name(alloc, "__flag__")?;
+    let none = name(alloc, "__none__")?;
+    let names = Names {
+        severity,
+        host,
+        a,
+        flag,
+        none,
+    };
+    let values = names.values(alloc)?;
     let table = [
         (
             "__severity__:value >= 7 AND (__host__:value IN ('198.51.100.7', '10.0.0.1') OR __rule__:value = 0)",
@@ -126,6 +153,14 @@ fn truths(rt: HostRuntime) -> Result<(), Fail> {
         ("__flag__:value < true", true),
         ("__flag__:value = 'false'", true),
         ("__flag__:value != 0", true),
+        ("__flag__:value = false", true),
+        ("__flag__:value = 'true'", false),
+        ("__severity__:value >= 8", true),
+        ("__severity__:value <= 8", true),
+        ("__severity__:value > -2", true),
+        ("__severity__:value IN (7, 8)", true),
+        ("__severity__:value = 8 AND __a__:value = 1", false),
+        ("__severity__:value = 7 OR __a__:value = 1", false),
         ("__none__:value != 1", false),
         ("__rule__:value != 1", false),
         ("__rule__:value IN (0)", false),
@@ -142,6 +177,33 @@ fn truths(rt: HostRuntime) -> Result<(), Fail> {
         let cond = read(alloc, text)?.ok_or("no condition")?;
         assert_eq!(rt; truth(&cond, &values), wanted, "{text}");
     }
+    Ok(())
+}
+
+#[test]
+fn values_by_kind(rt: HostRuntime) -> Result<(), Fail> {
+    assert_eq!(rt;
+        value_of(&Kind::Integer, Some("9007199254740991")),
+        Atom::Whole(9_007_199_254_740_991)
+    );
+    assert_eq!(rt;
+        value_of(&Kind::Integer, Some("9007199254740992")),
+        Atom::Unset
+    );
+    assert_eq!(rt;
+        value_of(&Kind::Long, Some("9007199254740992")),
+        Atom::Whole(9_007_199_254_740_992)
+    );
+    assert_eq!(rt;
+        value_of(&Kind::Long, Some("-9223372036854775808")),
+        Atom::Whole(i64::MIN)
+    );
+    assert_eq!(rt; value_of(&Kind::Integer, Some("")), Atom::Unset);
+    assert_eq!(rt; value_of(&Kind::Bool, Some("true")), Atom::Flag(true));
+    assert_eq!(rt; value_of(&Kind::Bool, Some("")), Atom::Unset);
+    assert_eq!(rt; value_of(&Kind::Uuid, Some("")), Atom::Text(""));
+    assert_eq!(rt; value_of(&Kind::String, Some("8")), Atom::Text("8"));
+    assert_eq!(rt; value_of(&Kind::String, None), Atom::Unset);
     Ok(())
 }
 

@@ -1,12 +1,12 @@
 //! The parts of a condition that take no memory, read from the left.
 ghost use Rattle.std.specs.Prelude.{◌≡◌, ◌+◌, ◌≤◌, ◌^◌, ◌<◌, ◌≢◌, ◌↔◌, ℕ, Some, None, IfSome, IsTrue, MatchOption, OnSome, length, take, drop, option_map};
 ghost use Rattle.std.specs.Option.{option_copied};
-ghost use Rattle.std.specs.Fmt.{decimal};
 ghost use Rattle.cacao_vars.specs.Names.{IsName};
-ghost use Rattle.cacao_cond.specs.Reading.{skipped, begins, behind, behind_joint, op_at, digit_run, behind_digits, is_digit, MayBeNumber, number_of, negative_of, positive_of, whole_at, reference_at, opening_at};
+ghost use Rattle.cacao_cond.specs.Reading.{skipped, begins, behind, behind_joint, op_at, digit_run, behind_digits, is_digit, negative_of, positive_of, whole_at, reference_at, opening_at};
 
 use crate::trees::Op;
 use cacao_vars::leading_reference;
+use decimals::read_number;
 
 // The text without the spaces before it.
 pub fn skip(text: &[u8]) -> &[u8]
@@ -92,33 +92,6 @@ fn digits_len(text: &[u8]) -> usize
     len
 }
 
-// Whether the text may be a number in decimal: it has a first character, which is no plus, and no zero before others.
-fn may_be_number(digits: &[u8]) -> bool
-    ensures { IsTrue result ↔ MayBeNumber digits.now }
-{
-    !digits.is_empty() && digits[0] != b'+' && (digits[0] != b'0' || digits.len() == 1)
-}
-
-// The number below 2 ^ 64 whose decimal text this is.
-fn number(digits: &[u8]) -> Option<u64>
-    ensures { MatchOption result ((n : ℕ) → n < 2 ^ 64 → digits.now ≢ decimal n) (λ n. (n < 2 ^ 64) × (digits.now ≡ decimal n)) }
-{
-    if !may_be_number(digits) {
-        return None;
-    }
-    match std::str::from_utf8(digits) {
-        Ok(text) => text.parse::<u64>().ok(),
-        Err(_) => None,
-    }
-}
-
-// The same, by its digits.
-fn exact_number(digits: &[u8]) -> Option<u64>
-    ensures { result ≡ number_of digits.now }
-{
-    number(digits)
-}
-
 fn negative(magnitude: u64) -> Option<i64>
     ensures { result ≡ negative_of magnitude }
 {
@@ -144,11 +117,11 @@ pub fn whole(text: &[u8]) -> Option<(i64, &[u8])>
     if begins_with(b'-', text) {
         let digits = &text[1..];
         let len = digits_len(digits);
-        let value = negative(exact_number(&digits[..len])?)?;
+        let value = negative(read_number(&digits[..len], u64::MAX)?)?;
         Some((value, &digits[len..]))
     } else {
         let len = digits_len(text);
-        let value = positive(exact_number(&text[..len])?)?;
+        let value = positive(read_number(&text[..len], u64::MAX)?)?;
         Some((value, &text[len..]))
     }
 }

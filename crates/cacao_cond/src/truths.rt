@@ -2,14 +2,13 @@
 ghost use Rattle.std.specs.Prelude.{◌≡◌};
 ghost use Rattle.std.specs.Fmt.{signed_decimal};
 ghost use Rattle.std.specs.Str.{bytes_eq};
-ghost use Rattle.std.specs.Option.{option_copied};
-ghost use Rattle.cacao_cond.specs.declared.deciding.Atom.TheVariants as atom;
+ghost use Rattle.cacao_cond.specs.Worths.{whole, flag, text, worth_of};
 ghost use Rattle.cacao_cond.specs.Trees.{constants_of, tree_of, all_of_tree, prime_tree};
-ghost use Rattle.cacao_cond.specs.Truth.{flag_text, equals, order_of, compares, is_among, holds, holds_all, holds_prime, atom_of};
+ghost use Rattle.cacao_cond.specs.Truth.{flag_text, equals, order_of, compares, is_among, holds, holds_all, holds_prime, worth_in};
 
 use crate::deciding::{Atom, Values};
 use crate::trees::{AllOf, Cond, Constant, Constants, Op, Prime};
-use cacao_vars::{Name, Word};
+use cacao_vars::Name;
 use itoa::Buffer;
 use std::cmp::Ordering;
 
@@ -28,7 +27,7 @@ fn is_text_of(value: i64, text: &str) -> bool
 }
 
 fn whole_equals(value: i64, constant: &Constant) -> bool
-    ensures { result ≡ equals (atom.Whole value) constant.now }
+    ensures { result ≡ equals (whole value) constant.now }
 {
     match constant {
         Constant::Whole(other) => value == *other,
@@ -38,7 +37,7 @@ fn whole_equals(value: i64, constant: &Constant) -> bool
 }
 
 fn flag_equals(value: bool, constant: &Constant) -> bool
-    ensures { result ≡ equals (atom.Flag value) constant.now }
+    ensures { result ≡ equals (flag value) constant.now }
 {
     match constant {
         Constant::Whole(other) => is_text_of(*other, text_of_flag(value)),
@@ -47,31 +46,31 @@ fn flag_equals(value: bool, constant: &Constant) -> bool
     }
 }
 
-fn text_equals(value: &Word, constant: &Constant) -> bool
-    ensures { result ≡ equals (atom.Text value.now) constant.now }
+fn text_equals(value: &str, constant: &Constant) -> bool
+    ensures { result ≡ equals (text value.now) constant.now }
 {
     match constant {
-        Constant::Whole(other) => is_text_of(*other, value.text()),
-        Constant::Flag(other) => text_of_flag(*other) == value.text(),
-        Constant::Text(other) => *value == *other,
+        Constant::Whole(other) => is_text_of(*other, value),
+        Constant::Flag(other) => text_of_flag(*other) == value,
+        Constant::Text(other) => value == other.text(),
     }
 }
 
 // `=`.
-fn is_equal(value: &Atom, constant: &Constant) -> bool
-    ensures { result ≡ equals value.now constant.now }
+fn is_equal(value: Atom<'_>, constant: &Constant) -> bool
+    ensures { result ≡ equals (worth_of value.entry) constant.now }
 {
     match value {
         Atom::Unset => false,
-        Atom::Whole(value) => whole_equals(*value, constant),
-        Atom::Flag(value) => flag_equals(*value, constant),
+        Atom::Whole(value) => whole_equals(value, constant),
+        Atom::Flag(value) => flag_equals(value, constant),
         Atom::Text(value) => text_equals(value, constant),
     }
 }
 
 // The order of two values of one sort.
-fn order(value: &Atom, constant: &Constant) -> Option<Ordering>
-    ensures { result ≡ order_of value.now constant.now }
+fn order(value: Atom<'_>, constant: &Constant) -> Option<Ordering>
+    ensures { result ≡ order_of (worth_of value.entry) constant.now }
 {
     match value {
         Atom::Unset => None,
@@ -84,15 +83,15 @@ fn order(value: &Atom, constant: &Constant) -> Option<Ordering>
             _ => None,
         },
         Atom::Text(value) => match constant {
-            Constant::Text(other) => Some(value.cmp(other)),
+            Constant::Text(other) => Some(value.cmp(other.text())),
             _ => None,
         },
     }
 }
 
 // Whether a comparison holds.
-fn is_true_of(value: &Atom, op: Op, constant: &Constant) -> bool
-    ensures { result ≡ compares value.now op constant.now }
+fn is_true_of(value: Atom<'_>, op: Op, constant: &Constant) -> bool
+    ensures { result ≡ compares (worth_of value.entry) op constant.now }
 {
     match op {
         Op::Equal => is_equal(value, constant),
@@ -120,8 +119,8 @@ fn is_true_of(value: &Atom, op: Op, constant: &Constant) -> bool
 }
 
 // Whether the value equals one of the constants.
-fn is_one_of(value: &Atom, constants: &Constants) -> bool
-    ensures { result ≡ is_among value.now (constants_of constants.now) }
+fn is_one_of(value: Atom<'_>, constants: &Constants) -> bool
+    ensures { result ≡ is_among (worth_of value.entry) (constants_of constants.now) }
 {
     match constants {
         Constants::Last(constant) => is_equal(value, constant),
@@ -129,27 +128,27 @@ fn is_one_of(value: &Atom, constants: &Constants) -> bool
     }
 }
 
-fn compared_is_true(name: &Name, op: Op, constant: &Constant, values: &Values) -> bool
-    ensures { result ≡ compares (atom_of values.now name.now) op constant.now }
+fn compared_is_true(name: &Name, op: Op, constant: &Constant, values: &Values<'_>) -> bool
+    ensures { result ≡ compares (worth_in values.now name.now) op constant.now }
 {
     match values.find(name) {
         Some(value) => is_true_of(value, op, constant),
-        None => is_true_of(&Atom::Unset, op, constant),
+        None => is_true_of(Atom::Unset, op, constant),
     }
 }
 
-fn among_is_true(name: &Name, constants: &Constants, values: &Values) -> bool
-    ensures { result ≡ is_among (atom_of values.now name.now) (constants_of constants.now) }
+fn among_is_true(name: &Name, constants: &Constants, values: &Values<'_>) -> bool
+    ensures { result ≡ is_among (worth_in values.now name.now) (constants_of constants.now) }
 {
     match values.find(name) {
         Some(value) => is_one_of(value, constants),
-        None => is_one_of(&Atom::Unset, constants),
+        None => is_one_of(Atom::Unset, constants),
     }
 }
 
 /// Whether the condition holds where its variables have these values. It takes no memory.
 #[cycle(truth)]
-pub fn truth(cond: &Cond, values: &Values) -> bool
+pub fn truth(cond: &Cond, values: &Values<'_>) -> bool
     ensures { result ≡ holds (tree_of cond.now) values.now }
 {
     match cond {
@@ -159,7 +158,7 @@ pub fn truth(cond: &Cond, values: &Values) -> bool
 }
 
 #[cycle(truth)]
-fn all_hold(all: &AllOf, values: &Values) -> bool
+fn all_hold(all: &AllOf, values: &Values<'_>) -> bool
     ensures { result ≡ holds_all (all_of_tree all.now) values.now }
 {
     match all {
@@ -169,7 +168,7 @@ fn all_hold(all: &AllOf, values: &Values) -> bool
 }
 
 #[cycle(truth)]
-fn prime_holds(prime: &Prime, values: &Values) -> bool
+fn prime_holds(prime: &Prime, values: &Values<'_>) -> bool
     ensures { result ≡ holds_prime (prime_tree prime.now) values.now }
 {
     match prime {

@@ -37,7 +37,7 @@ answer-repeated bytes d c m reads cs ms more =
 by_cause : (bytes : List ℕ) (e : JsonError) → RefusesText bytes e → IsAnswerOrMemory (Err e) (answer bytes)
 by_cause bytes NotJson h = ap (if_read (colons bytes)) h
 by_cause bytes (RepeatedName c m) h = answer-repeated bytes h.0 c m h.1 h.2 h.3 h.4
-by_cause bytes (NotWhole i) h = answer-whole bytes h.0 (Some i) h.1 h.2 h.3
+by_cause bytes (NotWhole i) h = answer-whole bytes h.0 (Some i) h.1 h.2.0 h.2.1
 by_cause bytes Memory h = tt
 
 -- a result with its cause is the one answer

@@ -5,8 +5,8 @@ use Rattle.json.specs.Text.{content, plain}
 use Rattle.json.specs.Word.{is_operator, is_space, word}
 use Rattle.json.specs.Lex.{Lexeme, token, comma, colon, Class, quote, backslash, operator, space, other, class, operator_lexeme, string_token, Mode, between, in_word, in_string, in_escape, lex_byte, lex, fresh, tokens}
 use Rattle.cacao_json.specs.Counts.{colons_from, colons}
-use Rattle.cacao_json.specs.declared.count.Place.{Place}
-use Rattle.cacao_json.specs.declared.count.Place.TheVariants.{Outside, Inside, Taken}
+use Rattle.cacao_json.specs.declared.count.Position.{Position}
+use Rattle.cacao_json.specs.declared.count.Position.TheVariants.{Outside, Inside, Escaped}
 use Rattle.cacao_json.proofs.Words.{is_good, is_safe, safe_byte, is_word-word}
 use Rattle.cacao_json.proofs.Keys.{keys_in, colons_in, if_good, keys_in-punctuate, length-punctuate}
 
@@ -33,11 +33,11 @@ IfInWord in_word b = b ≡ true
 IfInWord in_string b = Unit {0}
 IfInWord in_escape b = Unit {0}
 
-abbrev place_of : Mode → Place
+abbrev place_of : Mode → Position
 place_of between = Outside
 place_of in_word = Outside
 place_of in_string = Inside
-place_of in_escape = Taken
+place_of in_escape = Escaped
 
 module _ (x : ℕ) (xs : List ℕ) (k : Mode → List Lexeme) (rest : (n : Mode) → IfInWord n (is_safe xs) → colons_in (k n) ≤ colons_from (place_of n) xs) where
   outside : (q b o s : Bool) → (o ≡ true → (ls : List Lexeme) → colons_in (operator_lexeme x ∷ ls) ≤ cond (x == 58) 1 0 + colons_in ls)
@@ -57,7 +57,7 @@ module _ (x : ℕ) (xs : List ℕ) (k : Mode → List Lexeme) (rest : (n : Mode)
   within_word false false false true mark safe = omega (arith, rest between tt)
   within_word false false false false mark safe = omega (arith, rest in_word safe)
 
-  within_string : (q b o s : Bool) → colons_in (lex_byte in_string (classified q b o s) x xs k) ≤ colons_from (cond q Outside (cond b Taken Inside)) xs
+  within_string : (q b o s : Bool) → colons_in (lex_byte in_string (classified q b o s) x xs k) ≤ colons_from (cond q Outside (cond b Escaped Inside)) xs
   within_string true b o s = rest between tt
   within_string false true o s = rest in_escape tt
   within_string false false true s = rest in_string tt

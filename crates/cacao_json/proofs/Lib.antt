@@ -1,8 +1,9 @@
 pub mod Trees
 pub mod Utf8
 pub mod LeftToTake
-pub mod WholeParts
-pub mod Finds
+pub mod FormedParts
+pub mod Places
+pub mod Copies
 pub mod Sizes
 pub mod Words
 pub mod Walk
@@ -17,3 +18,4 @@ pub mod TextTokens
 pub mod Shapes
 pub mod EscapeLengths
 pub mod Spelling
+pub mod Profiles

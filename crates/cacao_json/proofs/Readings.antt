@@ -1,12 +1,12 @@
 -- From a reading to the tree, and back.
-use Rattle.std.proofs.Common.{◌≡◌, ◌==◌, ◌&&◌, ℕ, ◌+◌, ◌≤◌, List, length, Bool, true, false, Option, Some, None, refl, sym, ap, ◌∙◌, eq-eqb}
+use Rattle.std.proofs.Common.{◌≡◌, ◌==◌, ◌&&◌, ℕ, ◌+◌, ◌-◌, ◌≤◌, List, length, Bool, true, false, Option, Some, None, refl, sym, ap, ◌∙◌, eq-eqb, Result, Ok, Err, is_err, arith}
 use Rattle.std.specs.Prelude.{option_and_then, is_none, if◌then◌else◌}
 use Rattle.std.specs.Str.{is_utf8}
 use Rattle.std.proofs.lemmas.Bool.{eqb-true, and_parts}
 use Rattle.serde_json.specs.Data.{Data}
 use Rattle.serde_json.specs.Read.{read}
-use Rattle.cacao_json.specs.Counts.{colons, members, numbers, first_broken}
-use Rattle.cacao_json.specs.Reading.{reading, tree}
+use Rattle.cacao_json.specs.Counts.{colons, members, numbers, first_broken, TakesWhole}
+use Rattle.cacao_json.specs.Reading.{reading, kept, tree}
 use Rattle.cacao_json.proofs.Bounds.{members-read, numbers-read}
 
 if_utf8 : (b : Bool) (o : Option Data) (d : Data) → (if b then o else None) ≡ Some d → (b ≡ true) × (o ≡ Some d)
@@ -22,9 +22,6 @@ members-reading bytes d e = members-read bytes d (read-reading bytes d e).1
 
 pub numbers-reading : (bytes : List ℕ) (d : Data) → reading bytes ≡ Some d → length (numbers d) ≤ length bytes + 1
 numbers-reading bytes d e = numbers-read bytes d (read-reading bytes d e).1
-
-abbrev kept : List ℕ → Data → Option Data
-kept bytes d = if (colons bytes == members d) && is_none (first_broken (numbers d)) then Some d else None
 
 both : (b c : Bool) (d : Data) → b ≡ true → c ≡ true → (if b && c then Some d else None) ≡ Some d
 both true true d e f = refl
@@ -62,3 +59,12 @@ has_tree_by bytes (Some x) d r e =
 
 pub HasTree-from_tree : (bytes : List ℕ) (d : Data) → tree bytes ≡ Some d → HasTree bytes d
 HasTree-from_tree bytes d e = has_tree_by bytes (reading bytes) d refl e
+
+-- where no colon is left, the members are as many
+pub all_taken : (bytes : List ℕ) (d : Data) (count left : ℕ) → reading bytes ≡ Some d → count ≡ colons bytes → left ≡ count - members d → left ≤ 0 → colons bytes ≡ members d
+all_taken bytes d count left e c l h = omega (arith, members-reading bytes d e, c, l)
+
+-- what `left_after_numbers` answers where all numbers are whole
+pub none_broken : (r : Result ℕ ℕ) (n : ℕ) (d : Data) → is_err r ≡ false → TakesWhole r n (numbers d) → first_broken (numbers d) ≡ None
+none_broken (Ok m) n d e h = h.0
+none_broken (Err m) n d e h = absurd (cc)

@@ -1,6 +1,6 @@
 -- A text's tree is a tree of the profile.
 use Rattle.std.proofs.Common.{◌≡◌, ℕ, List, Bool, true, false, Option, Some, None, Ordering, Less, Equal, Greater, nat_cmp, IsUtf8, refl, ap, subst, ◌∙◌}
-use Rattle.std.specs.Prelude.{IfSome, ⊤, if◌then◌else◌}
+use Rattle.std.specs.Prelude.{IfSome, if◌then◌else◌}
 use Rattle.std.specs.Ordering.{match_ordering, ordering_reverse}
 use Rattle.std.specs.Cmp.Lexicographic.{slice_cmp}
 use Rattle.std.proofs.lemmas.Cmp.{nat_list_cmp_total}
@@ -12,61 +12,43 @@ use Rattle.serde_json.specs.Read.{read, of_json}
 use Rattle.serde_json.proofs.Nesting.{depth-read}
 use Rattle.cacao_json.specs.Counts.{is_whole, first_broken, numbers, numbers_of_items, numbers_of_pairs}
 use Rattle.cacao_json.specs.Reading.{tree}
-use Rattle.cacao_json.specs.Profile.{IsBelow, IsFormed, AreFormed, AreFormedPairs, IsTree}
+use Rattle.cacao_json.specs.Profile.{IsBelow, IsSorted, AreSorted, AreSortedMembers, IsFormed, AreFormed, AreFormedMembers, IsTree}
 use Rattle.cacao_json.proofs.LeftToTake.{first_broken_parts}
 use Rattle.cacao_json.proofs.TextTokens.{AreTextTokens, text_tokens_parts, AreTextTokens-tokens}
 use Rattle.cacao_json.proofs.Walk.{each_json, tokens-read}
 use Rattle.cacao_json.proofs.Readings.{read-reading, HasTree-from_tree}
 
--- the same but for the range of numbers
-abbrev mutual
-  IsShaped : Data → Type 0
-  IsShaped null = ⊤
-  IsShaped (boolean b) = ⊤
-  IsShaped (number n) = ⊤
-  IsShaped (string s) = IsUtf8 s
-  IsShaped (array ds) = AreShaped ds
-  IsShaped (object ms) = AreShapedPairs ms
-
-  AreShaped : Items → Type 0
-  AreShaped no_items = ⊤
-  AreShaped (item d ds) = IsShaped d × AreShaped ds
-
-  AreShapedPairs : Members → Type 0
-  AreShapedPairs no_members = ⊤
-  AreShapedPairs (member k d ms) = IsUtf8 k × IsShaped d × IsBelow k ms × AreShapedPairs ms
-
--- ---- a member that is put keeps the shape
+-- ---- a member that is put keeps the order
 
 below_by : (o : Ordering) (l k : List ℕ) (a b c : Members) → IsBelow l a → IsBelow l b → IsBelow l c → IsBelow l (match_ordering o a b c)
 below_by Less l k a b c x y z = x
 below_by Equal l k a b c x y z = y
 below_by Greater l k a b c x y z = z
 
-below_put : (l k : List ℕ) (d : Data) (ms : Members) → slice_cmp nat_cmp l k ≡ Less → IsBelow l ms → IsBelow l (put k d ms)
+pub below_put : (l k : List ℕ) (d : Data) (ms : Members) → slice_cmp nat_cmp l k ≡ Less → IsBelow l ms → IsBelow l (put k d ms)
 below_put l k d no_members h w = h
 below_put l k d (member m e ms) h w = below_by (slice_cmp nat_cmp k m) l k (member k d (member m e ms)) (member m d ms) (member m e (put k d ms)) h w w
 
-put_by : (o : Ordering) (k l : List ℕ) (d e : Data) (ms : Members) → slice_cmp nat_cmp k l ≡ o → IsUtf8 k → IsShaped d → AreShapedPairs (member l e ms) → AreShapedPairs (put k d ms)
-    → AreShapedPairs (match_ordering o (member k d (member l e ms)) (member l d ms) (member l e (put k d ms)))
+put_by : (o : Ordering) (k l : List ℕ) (d e : Data) (ms : Members) → slice_cmp nat_cmp k l ≡ o → IsUtf8 k → IsSorted d → AreSortedMembers (member l e ms) → AreSortedMembers (put k d ms)
+    → AreSortedMembers (match_ordering o (member k d (member l e ms)) (member l d ms) (member l e (put k d ms)))
 put_by Less k l d e ms c u h w p = (u, h, c, w)
 put_by Equal k l d e ms c u h w p = (w.0, h, w.2, w.3)
 put_by Greater k l d e ms c u h w p = (w.0, w.1, below_put l k d ms (nat_list_cmp_total.antisymm l k ∙ ap ordering_reverse c) w.2, p)
 
-shaped_put : (k : List ℕ) (d : Data) (ms : Members) → IsUtf8 k → IsShaped d → AreShapedPairs ms → AreShapedPairs (put k d ms)
-shaped_put k d no_members u h w = (u, h, tt, tt)
-shaped_put k d (member l e ms) u h w = put_by (slice_cmp nat_cmp k l) k l d e ms refl u h w (shaped_put k d ms u h w.3)
+pub sorted_put : (k : List ℕ) (d : Data) (ms : Members) → IsUtf8 k → IsSorted d → AreSortedMembers ms → AreSortedMembers (put k d ms)
+sorted_put k d no_members u h w = (u, h, tt, tt)
+sorted_put k d (member l e ms) u h w = put_by (slice_cmp nat_cmp k l) k l d e ms refl u h w (sorted_put k d ms u h w.3)
 
--- ---- what is read has the shape
+-- ---- what is read is sorted
 
 record Shapes (j : json.Json) (d : Data) : Type 0 where
-  gives : AreTextTokens (json_tokens j) → IsShaped d
+  gives : AreTextTokens (json_tokens j) → IsSorted d
 
 record ItemsShape (js : json.Items) (ds : Items) : Type 0 where
-  gives : AreTextTokens (items_tokens js) → AreShaped ds
+  gives : AreTextTokens (items_tokens js) → AreSorted ds
 
 record MembersShape (ms : json.Members) (found ds : Members) : Type 0 where
-  gives : AreTextTokens (members_tokens ms) → AreShapedPairs found → AreShapedPairs ds
+  gives : AreTextTokens (members_tokens ms) → AreSortedMembers found → AreSortedMembers ds
 
 shapes : (j : json.Json) → IfSome (of_json j) (Shapes j)
 shapes = each_json Shapes ItemsShape MembersShape (record { gives = λ t. tt }) (λ b. record { gives = λ t. tt }) (λ s n e. record { gives = λ t. tt }) (λ s. record { gives = λ t. t.0 })
@@ -74,11 +56,11 @@ shapes = each_json Shapes ItemsShape MembersShape (record { gives = λ t. tt }) 
     (λ j d js ds w v. record { gives = λ t. (w.gives (text_tokens_parts (json_tokens j) (items_tokens js) t).0, v.gives (text_tokens_parts (json_tokens j) (items_tokens js) t).1) })
     (λ found. record { gives = λ t h. h })
     (λ k j d ms found ds w v. record {
-      gives = λ t h. (let p = text_tokens_parts (json_tokens j) (members_tokens ms) t.1 in v.gives p.1 (shaped_put k d found t.0 (w.gives p.0) h));
+      gives = λ t h. (let p = text_tokens_parts (json_tokens j) (members_tokens ms) t.1 in v.gives p.1 (sorted_put k d found t.0 (w.gives p.0) h));
     })
 
-shaped-read : (text : List ℕ) (d : Data) → IsUtf8 text → read text ≡ Some d → IsShaped d
-shaped-read text d u e =
+sorted-read : (text : List ℕ) (d : Data) → IsUtf8 text → read text ≡ Some d → IsSorted d
+sorted-read text d u e =
     let w = tokens-read text d e in
     let s = subst (λ o. IfSome o (Shapes w.0)) w.2 (shapes w.0) in
     s.gives (subst AreTextTokens w.1 (AreTextTokens-tokens text u))
@@ -90,7 +72,7 @@ whole_one true e = refl
 whole_one false e = absurd (cc)
 
 mutual
-  formed : (d : Data) → IsShaped d → first_broken (numbers d) ≡ None → IsFormed d
+  pub formed : (d : Data) → IsSorted d → first_broken (numbers d) ≡ None → IsFormed d
   formed null h e = tt
   formed (boolean b) h e = tt
   formed (number n) h e = whole_one (is_whole n) e
@@ -98,11 +80,11 @@ mutual
   formed (array ds) h e = formed_items ds h e
   formed (object ms) h e = formed_pairs ms h e
 
-  formed_items : (ds : Items) → AreShaped ds → first_broken (numbers_of_items ds) ≡ None → AreFormed ds
+  formed_items : (ds : Items) → AreSorted ds → first_broken (numbers_of_items ds) ≡ None → AreFormed ds
   formed_items no_items h e = tt
   formed_items (item d ds) h e = let p = first_broken_parts (numbers d) (numbers_of_items ds) e in (formed d h.0 p.0, formed_items ds h.1 p.1)
 
-  formed_pairs : (ms : Members) → AreShapedPairs ms → first_broken (numbers_of_pairs ms) ≡ None → AreFormedPairs ms
+  formed_pairs : (ms : Members) → AreSortedMembers ms → first_broken (numbers_of_pairs ms) ≡ None → AreFormedMembers ms
   formed_pairs no_members h e = tt
   formed_pairs (member k d ms) h e = let p = first_broken_parts (numbers d) (numbers_of_pairs ms) e in (h.0, formed d h.1 p.0, h.2, formed_pairs ms h.3 p.1)
 
@@ -110,4 +92,4 @@ pub IsTree-from_tree : (bytes : List ℕ) (d : Data) → tree bytes ≡ Some d �
 IsTree-from_tree bytes d e =
     let w = HasTree-from_tree bytes d e in
     let r = read-reading bytes d w.reads in
-    record { shallow = depth-read bytes d r.1; formed = formed d (shaped-read bytes d (IsUtf8-from_is_utf8 bytes r.0) r.1) w.whole }
+    record { shallow = depth-read bytes d r.1; formed = formed d (sorted-read bytes d (IsUtf8-from_is_utf8 bytes r.0) r.1) w.whole }

@@ -1,25 +1,25 @@
 -- What is counted of a text and of its data: colons outside strings, members, numbers.
-use Rattle.std.specs.Prelude.{◌≡◌, ◌-◌, length, Result, MatchResult, ℕ, suc, Option, Some, None, option_map, ◌+◌, ◌==◌, List, [], ◌∷◌, ◌++◌, Bool, false, nat_le, negsuc, pos, if◌then◌else◌}
+use Rattle.std.specs.Prelude.{◌≡◌, ◌-◌, length, Result, Ok, Err, ℕ, suc, Option, Some, None, option_map, ◌+◌, ◌==◌, List, [], ◌∷◌, ◌++◌, Bool, false, nat_le, negsuc, pos, if◌then◌else◌}
 use Rattle.serde_json.specs.Data.{Num, unsigned, negative, float, Data, null, boolean, number, string, array, object, Items, no_items, item, Members, no_members, member}
-use Rattle.cacao_json.specs.declared.count.Place.{Place}
-use Rattle.cacao_json.specs.declared.count.Place.TheVariants.{Outside, Inside, Taken}
+use Rattle.cacao_json.specs.declared.count.Position.{Position}
+use Rattle.cacao_json.specs.declared.count.Position.TheVariants.{Outside, Inside, Escaped}
 
 -- Where the byte after this one stands. A string begins at a quotation mark outside a string. In it a backslash
 -- takes the next byte along, and the next quotation mark ends it.
-abbrev pub next_place : Place → ℕ → Place
-next_place Outside b = if b == 34 then Inside else Outside
-next_place Inside b = if b == 34 then Outside else (if b == 92 then Taken else Inside)
-next_place Taken b = Inside
+abbrev pub next_position : Position → ℕ → Position
+next_position Outside b = if b == 34 then Inside else Outside
+next_position Inside b = if b == 34 then Outside else (if b == 92 then Escaped else Inside)
+next_position Escaped b = Inside
 
 -- 1 for a colon outside strings
-abbrev pub colon_at : Place → ℕ → ℕ
+abbrev pub colon_at : Position → ℕ → ℕ
 colon_at Outside b = if b == 58 then 1 else 0
 colon_at Inside b = 0
-colon_at Taken b = 0
+colon_at Escaped b = 0
 
-abbrev pub colons_from : Place → List ℕ → ℕ
+abbrev pub colons_from : Position → List ℕ → ℕ
 colons_from place [] = 0
-colons_from place (b ∷ bs) = colon_at place b + colons_from (next_place place b) bs
+colons_from place (b ∷ bs) = colon_at place b + colons_from (next_position place b) bs
 
 -- the colons outside strings
 abbrev pub colons : List ℕ → ℕ
@@ -75,4 +75,5 @@ first_broken (n ∷ ns) = if is_whole n then option_map suc (first_broken ns) el
 
 -- one is taken from the count for each number, or for each before the first that is not whole
 abbrev pub TakesWhole : Result ℕ ℕ → ℕ → List Num → Type 0
-TakesWhole r count ns = MatchResult r (λ left. (first_broken ns ≡ None) × (left ≡ count - length ns)) (λ left. (i : ℕ) × (first_broken ns ≡ Some i) × (left ≡ count - i))
+TakesWhole (Ok left) count ns = (first_broken ns ≡ None) × (left ≡ count - length ns)
+TakesWhole (Err left) count ns = (i : ℕ) × (first_broken ns ≡ Some i) × (left ≡ count - i)

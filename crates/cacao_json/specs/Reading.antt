@@ -9,7 +9,11 @@ use Rattle.cacao_json.specs.Counts.{colons, members, numbers, first_broken}
 abbrev pub reading : List ℕ → Option Data
 reading bytes = if is_utf8 bytes then read bytes else None
 
--- The tree of the bytes: their reading, if they have as many colons outside strings as it has members, so that no
--- name was repeated, and each of its numbers is whole.
+-- the data, if the bytes have as many colons outside strings as they have members, so that no name was repeated, and
+-- each of their numbers is whole
+abbrev pub kept : List ℕ → Data → Option Data
+kept bytes d = if (colons bytes == members d) && is_none (first_broken (numbers d)) then Some d else None
+
+-- the tree of the bytes: their reading, if that is kept
 abbrev pub tree : List ℕ → Option Data
-tree bytes = option_and_then (λ d. if (colons bytes == members d) && is_none (first_broken (numbers d)) then Some d else None) (reading bytes)
+tree bytes = option_and_then (kept bytes) (reading bytes)

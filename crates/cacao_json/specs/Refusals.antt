@@ -8,11 +8,15 @@ use Rattle.cacao_json.specs.declared.tree.Tree.{Tree}
 use Rattle.cacao_json.specs.declared.error.JsonError.{JsonError}
 use Rattle.cacao_json.specs.declared.error.JsonError.TheVariants.{NotJson, RepeatedName, NotWhole, Memory}
 
+-- no name was repeated, and the number at i is the first that is not whole
+abbrev pub HasBroken : List ℕ → Data → ℕ → Type 0
+HasBroken bytes d i = (colons bytes ≡ members d) × (first_broken (numbers d) ≡ Some i)
+
 -- The cause of each refusal. No two of the first three hold of one text, and none holds of a text that has a tree.
 abbrev pub RefusesText : List ℕ → JsonError → Type 0
 RefusesText bytes NotJson = reading bytes ≡ None
 RefusesText bytes (RepeatedName c m) = (d : Data) × (reading bytes ≡ Some d) × (c ≡ colons bytes) × (m ≡ members d) × (m < c)
-RefusesText bytes (NotWhole i) = (d : Data) × (reading bytes ≡ Some d) × (colons bytes ≡ members d) × (first_broken (numbers d) ≡ Some i)
+RefusesText bytes (NotWhole i) = (d : Data) × (reading bytes ≡ Some d) × HasBroken bytes d i
 RefusesText bytes Memory = ⊤
 
 -- the answer for data that was read, by the index of the first number that is not whole

@@ -1,48 +1,41 @@
 -- The data that a tree stands for.
-use Rattle.std.specs.Prelude.{List, [], ◌∷◌, ℕ}
-use Rattle.serde_json.specs.Data.{Data, null, boolean, number, string, array, object, Items as DataItems, no_items, item, Members as DataMembers, no_members, member}
+use Rattle.std.specs.Prelude.{List, [], ◌∷◌, ℕ, map, if◌then◌else◌}
+use Rattle.std.specs.Str.{bytes_eq}
+use Rattle.serde_json.specs.Data.{Data, null, boolean, number, string, array, object, Items, no_items, item, Members, no_members, member}
 use Rattle.serde_json.specs.Find.{of_integer}
 use Rattle.cacao_json.specs.declared.tree.Tree.{Tree}
-use Rattle.cacao_json.specs.declared.tree.Items.{Items}
+use Rattle.cacao_json.specs.declared.tree.Tree.TheVariants as tree
 use Rattle.cacao_json.specs.declared.tree.Pair.{Pair}
-use Rattle.cacao_json.specs.declared.tree.Pairs.{Pairs}
-use Rattle.cacao_json.specs.declared.tree.Tree.TheOpen.{Tree-F, Items-F, Pair-F, Pairs-F}
-use Rattle.cacao_json.specs.declared.tree.Tree.TheFolds.{fold-Tree, fold-Items, fold-Pair, fold-Pairs}
 
-abbrev pub items_of : List Data → DataItems
+abbrev pub items_of : List Data → Items
 items_of [] = no_items
 items_of (d ∷ ds) = item d (items_of ds)
 
-abbrev pub members_of : List (List ℕ × Data) → DataMembers
+abbrev pub members_of : List (List ℕ × Data) → Members
 members_of [] = no_members
 members_of (m ∷ ms) = member m.0 m.1 (members_of ms)
 
--- one level, with each part already seen as its data
-abbrev pub tree_step : Tree-F Data DataItems (List ℕ × Data) DataMembers → Data
-tree_step Tree-F.Null = null
-tree_step (Tree-F.Flag b) = boolean b
-tree_step (Tree-F.Whole z) = number (of_integer z)
-tree_step (Tree-F.Text s) = string s
-tree_step (Tree-F.List ds) = array ds
-tree_step (Tree-F.Members ms) = object ms
-
-abbrev pub items_step : Items-F Data DataItems (List ℕ × Data) DataMembers → DataItems
-items_step f = items_of f.items.items
-
-abbrev pub pair_step : Pair-F Data DataItems (List ℕ × Data) DataMembers → List ℕ × Data
-pair_step f = (f.name, f.tree)
-
-abbrev pub pairs_step : Pairs-F Data DataItems (List ℕ × Data) DataMembers → DataMembers
-pairs_step f = members_of f.pairs.items
-
 abbrev pub data_of : Tree → Data
-data_of = fold-Tree Data DataItems (List ℕ × Data) DataMembers tree_step items_step pair_step pairs_step
+data_of tree.Null = null
+data_of (tree.Flag b) = boolean b
+data_of (tree.Whole z) = number (of_integer z)
+data_of (tree.Text s) = string s
+data_of (tree.List ds) = array ds
+data_of (tree.Members ms) = object ms
 
-abbrev pub items_data : Items → DataItems
-items_data = fold-Items Data DataItems (List ℕ × Data) DataMembers tree_step items_step pair_step pairs_step
-
+-- a member, as its name and its data
 abbrev pub pair_data : Pair → List ℕ × Data
-pair_data = fold-Pair Data DataItems (List ℕ × Data) DataMembers tree_step items_step pair_step pairs_step
+pair_data p = (p.name, data_of p.tree)
 
-abbrev pub members_data : Pairs → DataMembers
-members_data = fold-Pairs Data DataItems (List ℕ × Data) DataMembers tree_step items_step pair_step pairs_step
+abbrev pub pairs_data : List Pair → Members
+pairs_data ps = members_of (map pair_data ps)
+
+-- the members but those with this name
+abbrev pub without : List ℕ → Members → Members
+without name no_members = no_members
+without name (member k d ms) = if bytes_eq name k then without name ms else member k d (without name ms)
+
+-- the items, and one more behind them
+abbrev pub item_last : Items → Data → Items
+item_last no_items d = item d no_items
+item_last (item e ds) d = item e (item_last ds d)

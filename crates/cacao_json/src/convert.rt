@@ -1,8 +1,8 @@
 // From what `serde_json` reads to a tree.
-ghost use Rattle.std.specs.Prelude.{◌≡◌, IfOk, None};
+ghost use Rattle.std.specs.Prelude.{◌≡◌, IfOk};
 ghost use Rattle.serde_json.specs.View.{view, items_view, members_view};
-ghost use Rattle.cacao_json.specs.Counts.{numbers, numbers_of_items, numbers_of_pairs, first_broken};
-ghost use Rattle.cacao_json.specs.Tree.{data_of, items_data, members_data};
+ghost use Rattle.cacao_json.specs.Profile.{IsFormed, AreFormed, AreFormedMembers};
+ghost use Rattle.cacao_json.specs.Tree.{data_of};
 
 use crate::text::Text;
 use crate::tree::{Items, Pair, Pairs, Tree};
@@ -10,10 +10,10 @@ use crate::whole::whole_number;
 use serde_json::{Map, Value};
 use std::alloc::{AllocError, Global};
 
-/// The tree of a value whose numbers are whole.
+/// The tree of a value of the profile.
 #[cycle(convert)]
 pub fn tree_of(alloc: Global, value: Value) -> Result<Tree, AllocError>
-    requires { first_broken (numbers (view value)) ≡ None }
+    requires { IsFormed (view value) }
     ensures { IfOk result (λ tree. data_of tree ≡ view value) }
 {
     match value {
@@ -28,8 +28,8 @@ pub fn tree_of(alloc: Global, value: Value) -> Result<Tree, AllocError>
 
 #[cycle(convert)]
 fn list_of(alloc: Global, items: Vec<Value>) -> Result<Items, AllocError>
-    requires { first_broken (numbers_of_items (items_view items.items)) ≡ None }
-    ensures { IfOk result (λ list. items_data list ≡ items_view items.items) }
+    requires { AreFormed (items_view items.items) }
+    ensures { IfOk result (λ list. list ≡ items_view items.items) }
 {
     let mut trees = Vec::with_capacity(alloc, items.len())?;
     for item in items {
@@ -40,8 +40,8 @@ fn list_of(alloc: Global, items: Vec<Value>) -> Result<Items, AllocError>
 
 #[cycle(convert)]
 fn pairs_of(alloc: Global, members: Map<String, Value>) -> Result<Pairs, AllocError>
-    requires { first_broken (numbers_of_pairs (members_view members.entries)) ≡ None }
-    ensures { IfOk result (λ pairs. members_data pairs ≡ members_view members.entries) }
+    requires { AreFormedMembers (members_view members.entries) }
+    ensures { IfOk result (λ pairs. pairs ≡ members_view members.entries) }
 {
     let mut pairs = Vec::with_capacity(alloc, members.len())?;
     for (name, value) in members {

@@ -2,19 +2,24 @@
 #![tactic(auto)]
 
 mod convert;
-pub mod count;
+mod copy;
+mod count;
 pub mod error;
 mod find;
+pub mod laws;
+mod place;
 pub mod read;
 pub mod text;
 pub mod tree;
 mod whole;
 
+pub use copy::copy_tree;
 pub use error::JsonError;
 pub use find::{member, text_of, whole_of};
-pub use read::{TEXT_LIMIT, read_tree};
+pub use laws::profile_law;
+pub use read::{TEXT_LIMIT, find_tree, read_tree};
 pub use text::Text;
-pub use tree::{Items, Pair, Pairs, Tree};
+pub use tree::{Items, Pair, Pairs, Tree, tree_law};
 
 #[cfg(test)]
 mod tests;

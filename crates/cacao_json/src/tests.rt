@@ -1,6 +1,10 @@
 // Texts of the public documents and of other programs, beside their answers.
-use crate::{JsonError, Text, Tree, member, read_tree, text_of, whole_of};
+use crate::{
+    Items, JsonError, Pairs, Text, Tree, copy_tree, find_tree, member, profile_law, read_tree,
+    text_of, tree_law, whole_of,
+};
 use std::alloc::Global;
+use std::cmp::Ordering;
 use std::process::Abort;
 use std::test::Fail;
 
@@ -50,4 +54,78 @@ fn refusals_name_their_cause(rt: HostRuntime) {
     refuses(&rt, alloc, "[-0]", not_whole(0));
     refuses(&rt, alloc, "[1e2]", not_whole(0));
     refuses(&rt, alloc, r#"{"b":1.5,"a":2}"#, not_whole(1));
+}
+
+#[test]
+fn members_stand_in_order_each_once(rt: HostRuntime) -> Result<(), Fail> {
+    let alloc = rt.alloc();
+    let mut pairs = Pairs::new(alloc);
+    for (name, number) in [("b", 1), ("\u{e9}", 2), ("a", 3), ("b", 4), ("", 5)] {
+        pairs.put(Text::from_str(alloc, name)?, Tree::Whole(number))?;
+    }
+    let mut names = String::new(alloc);
+    for pair in pairs.as_slice() {
+        names.push_str(pair.name.as_str())?;
+    }
+    assert_eq!(rt; names.as_str(), "ab\u{e9}");
+    let removed = pairs.remove("b").ok_or("no member")?;
+    assert_eq!(rt; whole_of(&removed), Some(4));
+    assert!(rt; pairs.remove("b").is_none());
+    assert_eq!(rt; pairs.into_vec().len(), 3);
+    Ok(())
+}
+
+#[test]
+fn items_stand_in_their_order(rt: HostRuntime) -> Result<(), Fail> {
+    let alloc = rt.alloc();
+    let mut items = Items::from_vec(vec![in alloc; Tree::Whole(2)]?);
+    items.push(Tree::Whole(1))?;
+    let trees = items.into_vec();
+    assert_eq!(rt; trees.len(), 2);
+    assert_eq!(rt; whole_of(&trees[0]), Some(2));
+    assert!(rt; Items::new(alloc).as_slice().is_empty());
+    Ok(())
+}
+
+#[test]
+fn a_copy_has_the_same_members(rt: HostRuntime) -> Result<(), Fail> {
+    let alloc = rt.alloc();
+    let tree = answer(alloc, r#"{"a":[1,{"b":"c"}],"d":null}"#)?;
+    tree_law(&tree);
+    profile_law();
+    let copy = copy_tree(alloc, &tree)?;
+    drop(tree);
+    let Some(Tree::List(items)) = member(&copy, "a") else {
+        return Err(Fail::from("no list"));
+    };
+    let [first, second] = items.as_slice() else {
+        return Err(Fail::from("not two items"));
+    };
+    assert_eq!(rt; whole_of(first), Some(1));
+    let text = text_of(member(second, "b").ok_or("no member")?).ok_or("no text")?;
+    assert_eq!(rt; text.as_str(), "c");
+    Ok(())
+}
+
+#[test]
+fn a_tree_is_found_in_a_text_of_any_length(rt: HostRuntime) -> Result<(), Fail> {
+    let alloc = rt.alloc();
+    let found = find_tree(alloc, b"[7]")?;
+    assert!(rt; matches!(&found, Some(Tree::List(_))));
+    for text in ["[7", r#"{"a":1,"a":1}"#, "[1.0]"] {
+        assert!(rt; find_tree(alloc, text.as_bytes())?.is_none(), "{text}");
+    }
+    Ok(())
+}
+
+#[test]
+fn texts_are_ordered_by_their_bytes(rt: HostRuntime) -> Result<(), Fail> {
+    let alloc = rt.alloc();
+    let high = Text::from_str(alloc, "\u{e000}")?;
+    let higher = Text::from_string(String::from_str(alloc, "\u{1f600}")?);
+    assert!(rt; high.cmp(&higher) == Ordering::Less);
+    assert!(rt; high < higher);
+    assert!(rt; high.clone()? == high);
+    assert_eq!(rt; higher.into_string().as_str(), "\u{1f600}");
+    Ok(())
 }

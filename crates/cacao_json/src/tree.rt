@@ -1,12 +1,16 @@
 // The tree of a JSON text.
-ghost use Rattle.std.specs.Prelude.{◌≡◌};
-ghost use Rattle.serde_json.specs.Data.{no_members, no_items};
-ghost use Rattle.cacao_json.specs.Tree.{members_data, items_data};
+ghost use Rattle.std.specs.Prelude.{◌≡◌, map, is_ok, option_map, if◌then◌else◌};
+ghost use Rattle.serde_json.specs.Data.{no_items, no_members, put};
+ghost use Rattle.serde_json.specs.Find.{get_member};
+ghost use Rattle.cacao_json.specs.Tree.{data_of, pair_data, items_of, members_of, item_last, without};
+ghost use Rattle.cacao_json.specs.Profile.{IsSorted, AreSorted, AreSortedMembers};
 
+use crate::place::place_of;
 use crate::text::Text;
-use std::alloc::Global;
+use std::alloc::{AllocError, Global};
+use std::marker::Model;
 
-/// A JSON value whose numbers are integers of 64 bits.
+/// A JSON value (RFC 8259, section 3) whose numbers are integers of 64 bits.
 #[cycle(tree)]
 #[derive(Drop)]
 pub enum Tree {
@@ -18,11 +22,11 @@ pub enum Tree {
     Members(Pairs),
 }
 
-/// The items of a JSON array, in their order.
+/// The items of a JSON array, in their order. Contracts see them as `serde_json`'s.
 #[cycle(tree)]
 #[derive(Drop)]
 pub struct Items {
-    pub items: Vec<Tree>,
+    pub(crate) items: Vec<Tree>,
 }
 
 /// A member of a JSON object.
@@ -33,31 +37,179 @@ pub struct Pair {
     pub tree: Tree,
 }
 
-/// The members of a JSON object. Those of a tree that was read stand in byte order of their names, each name once.
+/// The members of a JSON object, in byte order of their names, each name once. Contracts see them as
+/// `serde_json`'s.
 #[cycle(tree)]
 #[derive(Drop)]
 pub struct Pairs {
-    pub pairs: Vec<Pair>,
+    pub(crate) pairs: Vec<Pair>,
+}
+
+impl Model for Items {
+    ghost use Rattle.serde_json.specs.Data.{Items};
+    ghost use Rattle.cacao_json.specs.Code.{items_code};
+    ghost use Rattle.cacao_json.specs.Size.{items_size};
+
+    ghost Value = { Items };
+
+    ghost coded = { items_code };
+
+    ghost use Rattle.std.specs.Prelude.{map};
+    ghost use Rattle.cacao_json.specs.Tree.{data_of, items_of};
+    ghost use Rattle.cacao_json.specs.Profile.{AreSorted};
+
+    ghost view = { λ a. items_of (map data_of a.items.items) };
+
+    ghost invariant = { λ a. AreSorted (items_of (map data_of a.items.items)) };
+
+    ghost size = { items_size };
+
+    ghost use Rattle.cacao_json.specs.Falls.{items_fall};
+
+    ghost size_decreases = { λ a h. items_fall a.items.items };
+}
+
+impl Model for Pairs {
+    ghost use Rattle.serde_json.specs.Data.{Members};
+    ghost use Rattle.cacao_json.specs.Code.{members_code};
+    ghost use Rattle.cacao_json.specs.Size.{members_size};
+
+    ghost Value = { Members };
+
+    ghost coded = { members_code };
+
+    ghost use Rattle.std.specs.Prelude.{map};
+    ghost use Rattle.cacao_json.specs.Tree.{pair_data, members_of};
+    ghost use Rattle.cacao_json.specs.Profile.{AreSortedMembers};
+
+    ghost view = { λ a. members_of (map pair_data a.pairs.items) };
+
+    ghost invariant = { λ a. AreSortedMembers (members_of (map pair_data a.pairs.items)) };
+
+    ghost size = { members_size };
+
+    ghost use Rattle.cacao_json.specs.Falls.{pairs_fall};
+
+    ghost size_decreases = { λ a h. pairs_fall a.pairs.items };
 }
 
 impl Items {
     /// No items.
     pub fn new(alloc: Global) -> Items
-        ensures { items_data result ≡ no_items }
+        ensures { result ≡ no_items }
     {
         Items {
             items: Vec::new(alloc),
         }
+    }
+
+    /// The trees of the vector, with no copy.
+    pub fn from_vec(trees: Vec<Tree>) -> Items
+        ensures { result ≡ items_of (map data_of trees.items) }
+    {
+        for tree in &trees {
+            tree_law(tree);
+        }
+        Items { items: trees }
+    }
+
+    /// The items, in their order.
+    pub fn as_slice(&self) -> &[Tree]
+        ensures value { items_of (map data_of result.now) ≡ self.now }
+        ensures sorted { AreSorted self.now }
+    {
+        &self.items
+    }
+
+    /// The vector, with no copy.
+    pub fn into_vec(self) -> Vec<Tree>
+        ensures value { items_of (map data_of result.items) ≡ self }
+        ensures sorted { AreSorted self }
+    {
+        self.items
+    }
+
+    /// One item more, behind the others. `Err`: there was no memory, and nothing changed.
+    pub fn push(&mut self, tree: Tree) -> Result<(), AllocError>
+        ensures { self.new ≡ (if is_ok result then item_last self.old (data_of tree) else self.old) }
+    {
+        tree_law(&tree);
+        self.items.push(tree)?;
+        Ok(())
     }
 }
 
 impl Pairs {
     /// No members.
     pub fn new(alloc: Global) -> Pairs
-        ensures { members_data result ≡ no_members }
+        ensures { result ≡ no_members }
     {
         Pairs {
             pairs: Vec::new(alloc),
         }
+    }
+
+    /// The members, in byte order of their names.
+    pub fn as_slice(&self) -> &[Pair]
+        ensures value { members_of (map pair_data result.now) ≡ self.now }
+        ensures sorted { AreSortedMembers self.now }
+    {
+        &self.pairs
+    }
+
+    /// The member with this name set, in its place: its tree replaced where the name is there, else the member added.
+    /// `Err`: there was no memory, and nothing changed.
+    pub fn put(&mut self, name: Text, tree: Tree) -> Result<(), AllocError>
+        ensures { self.new ≡ (if is_ok result then put name (data_of tree) self.old else self.old) }
+    {
+        tree_law(&tree);
+        match place_of(&self.pairs, name.as_str()) {
+            Ok(place) => {
+                self.pairs[place] = Pair { name, tree };
+                Ok(())
+            }
+            Err(place) => {
+                self.pairs.insert(place, Pair { name, tree })?;
+                Ok(())
+            }
+        }
+    }
+
+    /// The member with this name taken out. `None`: there was none, and nothing changed.
+    pub fn remove(&mut self, name: &str) -> Option<Tree>
+        ensures value { option_map data_of result ≡ get_member name.now self.old }
+        ensures others { self.new ≡ without name.now self.old }
+    {
+        match place_of(&self.pairs, name) {
+            Ok(place) => Some(self.pairs.remove(place).tree),
+            Err(_) => None,
+        }
+    }
+
+    /// The vector, with no copy.
+    pub fn into_vec(self) -> Vec<Pair>
+        ensures value { members_of (map pair_data result.items) ≡ self }
+        ensures sorted { AreSortedMembers self }
+    {
+        self.pairs
+    }
+}
+
+/// What holds of every tree: at each level the names of an object rise in byte order, each once, and the names and
+/// texts are in UTF-8. The function does nothing; its contract is the law.
+pub fn tree_law(tree: &Tree)
+    ensures { IsSorted (data_of tree.now) }
+{
+    match tree {
+        Tree::Text(text) => {
+            let _ = text.as_str();
+        }
+        Tree::List(items) => {
+            let _ = items.as_slice();
+        }
+        Tree::Members(pairs) => {
+            let _ = pairs.as_slice();
+        }
+        _ => {}
     }
 }

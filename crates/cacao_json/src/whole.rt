@@ -6,8 +6,8 @@ ghost use Rattle.cacao_json.specs.Counts.{is_whole, numbers, numbers_of_items, n
 
 use serde_json::{Map, Number, Value};
 
-/// The most that a number is away from 0.
-const MOST: i64 = 9_007_199_254_740_991;
+/// The largest whole number of the profile (RFC 7493, section 2.2): 2 to the power of 53, less 1.
+const LARGEST: i64 = 9_007_199_254_740_991;
 
 /// The number as an integer, if it is whole.
 pub fn whole_number(number: &Number) -> Option<i64>
@@ -16,7 +16,7 @@ pub fn whole_number(number: &Number) -> Option<i64>
     ensures none { IfNone result (is_whole (number_view number.now) ≡ false) }
 {
     let n = number.as_i64()?;
-    if -MOST <= n && n <= MOST {
+    if -LARGEST <= n && n <= LARGEST {
         Some(n)
     } else {
         None
@@ -26,7 +26,7 @@ pub fn whole_number(number: &Number) -> Option<i64>
 /// What is left of the count when one is taken for each number; in `Err`, for each number before the
 /// first that is not whole.
 #[cycle(whole)]
-pub fn take_whole(value: &Value, count: usize) -> Result<usize, usize>
+pub fn left_after_numbers(value: &Value, count: usize) -> Result<usize, usize>
     ensures { TakesWhole result count (numbers (view value.now)) }
 {
     match value {
@@ -34,19 +34,19 @@ pub fn take_whole(value: &Value, count: usize) -> Result<usize, usize>
             Some(_) => Ok(count.saturating_sub(1)),
             None => Err(count),
         },
-        Value::Array(items) => take_items(items, count),
-        Value::Object(pairs) => take_pairs(pairs, count),
+        Value::Array(items) => left_after_items(items, count),
+        Value::Object(pairs) => left_after_pairs(pairs, count),
         _ => Ok(count),
     }
 }
 
 #[cycle(whole)]
-fn take_items(items: &Vec<Value>, count: usize) -> Result<usize, usize>
+fn left_after_items(items: &Vec<Value>, count: usize) -> Result<usize, usize>
     ensures { TakesWhole result count (numbers_of_items (items_view items.now.items)) }
 {
     let mut left = count;
     for value in items {
-        match take_whole(value, left) {
+        match left_after_numbers(value, left) {
             Ok(more) => left = more,
             Err(before) => return Err(before),
         }
@@ -55,12 +55,12 @@ fn take_items(items: &Vec<Value>, count: usize) -> Result<usize, usize>
 }
 
 #[cycle(whole)]
-fn take_pairs(pairs: &Map<String, Value>, count: usize) -> Result<usize, usize>
+fn left_after_pairs(pairs: &Map<String, Value>, count: usize) -> Result<usize, usize>
     ensures { TakesWhole result count (numbers_of_pairs (members_view pairs.now.entries)) }
 {
     let mut left = count;
     for (_, value) in pairs.iter() {
-        match take_whole(value, left) {
+        match left_after_numbers(value, left) {
             Ok(more) => left = more,
             Err(before) => return Err(before),
         }

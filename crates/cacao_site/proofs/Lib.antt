@@ -1,8 +1,11 @@
 pub mod Beats
 pub mod EntryLemmas
+pub mod Held
 pub mod LineLemmas
 pub mod Logged
+pub mod ParcelLemmas
 pub mod ReplayLemmas
+pub mod SiteLemmas
 pub mod Overlays
 pub mod Tears
 pub mod Crashes

@@ -83,3 +83,9 @@ pub record EachBeat (file : ℕ) (old new : DiskView) (P : List ℕ → Type 0) 
 -- at each beat each image is one of old, or one of old after this write was cut short
 abbrev pub TornSince : ℕ → ℕ → ℕ → DiskView → DiskView → Type 0
 TornSince file at n old new = EachBeat file old new (λ image. (was : List ℕ) × IsLeft old file old.beat was × Torn at n was image)
+
+-- this file alone may have changed, each image of it at each beat has P, and nothing but the disk changed
+pub record OnlyFile (file : ℕ) (old new : SiteView) (P : List ℕ → Type 0) : Type 0 where
+  pub each : EachBeat file old.disk new.disk P
+  pub others : (other : ℕ) → other ≢ file → StaysAt old.disk new.disk other
+  pub rest : SameRest old new

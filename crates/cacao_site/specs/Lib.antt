@@ -1,4 +1,5 @@
 pub mod CallLog
+pub mod Clock
 pub mod Counts
 pub mod Crash
 pub mod DiskCalls
@@ -10,12 +11,15 @@ pub mod MemoryShelf
 pub mod MemorySite
 pub mod MemorySound
 pub mod MemoryView
+pub mod Parcels
 pub mod Plan
 pub mod Replay
 pub mod SaidLines
 pub mod SaidView
 pub mod SayCalls
+pub mod SiteCalls
 pub mod Sound
 pub mod SoundLemmas
 pub mod Untold
 pub mod View
+pub mod Weather

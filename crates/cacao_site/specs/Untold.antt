@@ -1,10 +1,16 @@
 -- The view of a site that tells no contents.
-use Rattle.std.specs.Prelude.{ℕ, [], None, false}
-use Rattle.cacao_site.specs.View.{SiteView}
+use Rattle.std.specs.Prelude.{ℕ, List, [], Some, None, false}
+use Rattle.cacao_site.specs.View.{ClockView, DiskView, SiteView}
+use Rattle.cacao_site.specs.declared.parcel.Parcel.{Parcel}
 
-abbrev pub untold_site : ℕ → ℕ → ℕ → SiteView
-untold_site beat faults unsaid = record {
-  disk = record { told = false; reads = λ file. []; left = λ file beat image. false; beat = beat; calls = 0; written = 0; faults = faults };
-  link = record { puts = None; taken = None; empty_takes = None; pending = None; said = None };
-  clock = record { now = 0; asked = 0; furthest = 0; mishaps = 0; shorts = 0; unsaid = unsaid };
+-- a disk that tells its beat and its faults
+abbrev pub untold_disk : ℕ → ℕ → DiskView
+untold_disk beat faults = record { told = false; reads = λ file. []; left = λ file beat image. false; beat = beat; calls = 0; written = 0; faults = faults }
+
+-- beside such a disk, the pending parcels and the clock are told
+abbrev pub untold_site : ℕ → ℕ → List Parcel → ClockView → SiteView
+untold_site beat faults pending clock = record {
+  disk = untold_disk beat faults;
+  link = record { puts = None; taken = None; empty_takes = None; pending = Some pending; said = None };
+  clock = clock;
 }

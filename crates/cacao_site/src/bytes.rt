@@ -1,11 +1,13 @@
 // A list of bytes.
-ghost use Rattle.std.specs.Prelude.{◌≡◌, ◌==◌, IfOk, length};
+ghost use Rattle.std.specs.Prelude.{◌≡◌, ◌==◌, nat_eq, IfOk, length};
+ghost use Rattle.std.specs.Cmp;
+ghost use Rattle.std.specs.Cmp.Lexicographic.{pointwise, nat_list_eq_equiv};
 
 use std::alloc::{AllocError, Global};
 use std::marker::Model;
 
 /// A list of bytes on the heap, which contracts see as a list of numbers below 256.
-#[derive(Drop)]
+#[derive(Debug, Drop)]
 pub struct Bytes {
     items: Vec<u8>,
 }
@@ -66,4 +68,18 @@ impl Bytes {
         let Bytes { items } = self;
         items
     }
+}
+
+impl PartialEq for Bytes {
+    ghost eq = { pointwise nat_eq };
+
+    ghost laws = { Cmp.partial_equiv_from_equiv nat_list_eq_equiv };
+
+    fn eq(&self, other: &Bytes) -> bool {
+        self.items == other.items
+    }
+}
+
+impl Eq for Bytes {
+    ghost laws = { nat_list_eq_equiv };
 }

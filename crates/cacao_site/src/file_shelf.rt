@@ -1,6 +1,6 @@
 // A shelf over the files of the system.
 ghost use Rattle.std.specs.Prelude.{◌≡◌, ◌≤◌, None};
-ghost use Rattle.cacao_site.specs.Counts.{Rose};
+ghost use Rattle.cacao_site.specs.Counts.{next_count};
 
 use crate::bytes::Bytes;
 use crate::shelf::{Shelf, ShelfError};
@@ -30,7 +30,7 @@ impl<'a, R: Files> FileShelf<'a, R> {
 
     fn fault(&mut self) -> ShelfError
         ensures gives { result ≡ ShelfError.Failed }
-        ensures rises { Rose self.old.faults self.new.faults }
+        ensures rises { self.new.faults ≡ next_count self.old.faults }
         ensures counts { self.old.faults ≤ self.new.faults }
     {
         self.faults = self.faults.saturating_add(1);

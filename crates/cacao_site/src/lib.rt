@@ -6,6 +6,7 @@
 
 pub mod bytes;
 mod call_log;
+mod clock;
 pub mod disk;
 mod entry;
 pub mod failed;
@@ -13,8 +14,10 @@ mod file_list;
 pub mod file_shelf;
 pub mod file_site;
 mod lent;
+mod link;
 mod memory_calls;
 mod memory_crash;
+mod memory_link;
 pub mod memory_shelf;
 pub mod memory_site;
 pub mod parcel;

@@ -1,15 +1,12 @@
-// The calls of a site in memory.
+// The disk of a site in memory.
 ghost use Rattle.std.specs.Prelude.{◌≡◌, ◌+◌, ◌<◌, ◌≤◌, IfOk, OnOk, OnErr, is_err, length, take, drop, IsTrue};
-ghost use Rattle.cacao_site.specs.Counts.{Rose};
+ghost use Rattle.cacao_site.specs.Counts.{next_count};
 ghost use Rattle.cacao_site.specs.DiskCalls.{CallsOn, StaysAt, SameRest, Follows, Spreads, Same, Torn, Written, IsDurable};
-ghost use Rattle.cacao_site.specs.LinkCalls.{Gains};
 ghost use Rattle.cacao_site.specs.Plan.{fails_by};
-ghost use Rattle.cacao_site.specs.SayCalls.{SaysOnly};
 
 use crate::disk::Disk;
 use crate::failed::Failed;
 use crate::memory_site::MemorySite;
-use crate::site::Site;
 
 impl Disk for MemorySite {
     ghost use Rattle.cacao_site.specs.MemorySite.{plan_of, used_of, view_of};
@@ -23,7 +20,8 @@ impl Disk for MemorySite {
         requires { file ≤ 16 }
         ensures call { CallsOn file 0 (view_of self.old).disk (view_of self.new).disk }
         ensures rest { SameRest (view_of self.old) (view_of self.new) }
-        ensures cause { OnErr result (Rose (view_of self.old).disk.faults (view_of self.new).disk.faults) }
+        ensures faultless { OnOk result ((view_of self.new).disk.faults ≡ (view_of self.old).disk.faults) }
+        ensures cause { OnErr result ((view_of self.new).disk.faults ≡ next_count (view_of self.old).disk.faults) }
         ensures stays { StaysAt (view_of self.old).disk (view_of self.new).disk file }
         ensures length { IfOk result (λ n. IsTrue (view_of self.old).disk.told → n ≡ length ((view_of self.old).disk.reads file)) }
         ensures by_plan { is_err result ≡ fails_by (plan_of self.old) (view_of self.old).disk.calls (used_of self.old) 0 }
@@ -45,11 +43,13 @@ impl Disk for MemorySite {
         requires size { length into.old ≤ 4_096 }
         ensures call { CallsOn file 0 (view_of self.old).disk (view_of self.new).disk }
         ensures rest { SameRest (view_of self.old) (view_of self.new) }
-        ensures cause { OnErr result (Rose (view_of self.old).disk.faults (view_of self.new).disk.faults) }
+        ensures faultless { OnOk result ((view_of self.new).disk.faults ≡ (view_of self.old).disk.faults) }
+        ensures cause { OnErr result ((view_of self.new).disk.faults ≡ next_count (view_of self.old).disk.faults) }
         ensures stays { StaysAt (view_of self.old).disk (view_of self.new).disk file }
         ensures count { IfOk result (λ n. n ≤ length into.old) }
         ensures bytes { IfOk result (λ n. IsTrue (view_of self.old).disk.told
             → take n into.new ≡ take (length into.old) (drop at ((view_of self.old).disk.reads file))) }
+        ensures behind { IfOk result (λ n. drop n into.new ≡ drop n into.old) }
         ensures by_plan { is_err result ≡ fails_by (plan_of self.old) (view_of self.old).disk.calls (used_of self.old) 0 }
         ensures plan { plan_of self.new ≡ plan_of self.old }
         ensures used { used_of self.new ≡ used_of self.old }
@@ -68,14 +68,15 @@ impl Disk for MemorySite {
         requires fits { at + length bytes.now ≤ 67_108_864 }
         ensures call { CallsOn file (length bytes.now) (view_of self.old).disk (view_of self.new).disk }
         ensures rest { SameRest (view_of self.old) (view_of self.new) }
-        ensures cause { OnErr result (Rose (view_of self.old).disk.faults (view_of self.new).disk.faults) }
+        ensures faultless { OnOk result ((view_of self.new).disk.faults ≡ (view_of self.old).disk.faults) }
+        ensures cause { OnErr result ((view_of self.new).disk.faults ≡ next_count (view_of self.old).disk.faults) }
         ensures images { Follows file (Torn at (length bytes.now)) (view_of self.old).disk (view_of self.new).disk }
         ensures spreads { OnOk result (Spreads file (Torn at (length bytes.now)) (view_of self.old).disk (view_of self.new).disk) }
         ensures written { OnOk result (IsTrue (view_of self.old).disk.told
             → Written at bytes.now ((view_of self.old).disk.reads file) ((view_of self.new).disk.reads file)) }
 
-        // A write that failed counts as a write, unless it came past the last call that the plan allows.
-        ensures spreads_failed { OnErr result ((view_of self.old).disk.calls < (plan_of self.old).calls
+        // A write that failed counts as a write, the one under way when the device stopped too; behind it the device is dead.
+        ensures spreads_failed { OnErr result ((view_of self.old).disk.calls ≤ (plan_of self.old).calls
             → Spreads file (Torn at (length bytes.now)) (view_of self.old).disk (view_of self.new).disk) }
         ensures unwritten { OnErr result ((view_of self.new).disk.reads file ≡ (view_of self.old).disk.reads file) }
         ensures by_plan { is_err result ≡ fails_by (plan_of self.old) (view_of self.old).disk.calls (used_of self.old) (length bytes.now) }
@@ -95,7 +96,8 @@ impl Disk for MemorySite {
         requires { file ≤ 16 }
         ensures call { CallsOn file 0 (view_of self.old).disk (view_of self.new).disk }
         ensures rest { SameRest (view_of self.old) (view_of self.new) }
-        ensures cause { OnErr result (Rose (view_of self.old).disk.faults (view_of self.new).disk.faults) }
+        ensures faultless { OnOk result ((view_of self.new).disk.faults ≡ (view_of self.old).disk.faults) }
+        ensures cause { OnErr result ((view_of self.new).disk.faults ≡ next_count (view_of self.old).disk.faults) }
         ensures images { Follows file Same (view_of self.old).disk (view_of self.new).disk }
         ensures reads { OnOk result ((view_of self.new).disk.reads file ≡ (view_of self.old).disk.reads file) }
         ensures durable { OnOk result (IsDurable file (view_of self.new).disk) }
@@ -109,31 +111,6 @@ impl Disk for MemorySite {
             return Err(Failed);
         }
         self.log_sync(file);
-        Ok(())
-    }
-}
-
-impl Site for MemorySite {
-    ghost use Rattle.cacao_site.specs.MemorySite.{plan_of, used_of, view_of};
-
-    fn say(&mut self, bytes: &[u8]) -> Result<(), Failed>
-        ensures only { SaysOnly (view_of self.old) (view_of self.new) }
-        ensures said { OnOk result
-            (Gains (view_of self.old).link.said ((view_of self.new).disk.beat, bytes.now) (view_of self.new).link.said) }
-        ensures said_before { OnErr result ((view_of self.new).link.said ≡ (view_of self.old).link.said) }
-        ensures unsaid { OnOk result ((view_of self.new).clock.unsaid ≡ (view_of self.old).clock.unsaid) }
-        ensures cause { OnErr result (Rose (view_of self.old).clock.unsaid (view_of self.new).clock.unsaid) }
-        ensures by_plan { is_err result ≡ fails_by (plan_of self.old) (view_of self.old).disk.calls (used_of self.old) (length bytes.now) }
-        ensures plan { plan_of self.new ≡ plan_of self.old }
-        ensures used { OnOk result (used_of self.new ≡ used_of self.old + length bytes.now) }
-        ensures unused { OnErr result (used_of self.new ≡ used_of self.old) }
-    {
-        if self.fails(bytes.len()) {
-            self.pass_disk();
-            self.unsaid = self.unsaid.saturating_add(1);
-            return Err(Failed);
-        }
-        self.add_line(bytes);
         Ok(())
     }
 }

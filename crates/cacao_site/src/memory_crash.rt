@@ -1,13 +1,18 @@
 // A crash of a site in memory.
-ghost use Rattle.std.specs.Prelude.{◌≡◌, ◌+◌, ◌≤◌, ℕ, List, All, [], IfOk, length};
+ghost use Rattle.std.specs.Prelude.{◌≡◌, ◌+◌, ◌≤◌, ℕ, List, Some, [], IfOk, length};
 ghost use Rattle.cacao_site.specs.Counts.{last_count, count_after};
 ghost use Rattle.cacao_site.specs.Crash.{ArePicked};
 ghost use Rattle.cacao_site.specs.DiskCalls.{IsLeft, IsDurable};
-ghost use Rattle.cacao_site.specs.MemoryView.{clock_view, memory_view};
+ghost use Rattle.cacao_site.specs.Clock.{clock_at};
+ghost use Rattle.cacao_site.specs.MemoryView.{link_view, memory_view};
+ghost use Rattle.cacao_site.specs.Parcels.{all_marked_at, AreNamed};
+ghost use Rattle.cacao_site.specs.Sound.{IsInTime};
 
 use crate::bytes::Bytes;
 use crate::call_log::CallLog;
+use crate::clock::Clock;
 use crate::file_list::FileList;
+use crate::link::Link;
 use crate::memory_site::MemorySite;
 use crate::plan::SitePlan;
 use crate::said_lines::SaidLines;
@@ -17,15 +22,9 @@ use std::alloc::{AllocError, Global};
 const FILES: u8 = 17;
 
 impl MemorySite {
-    ghost use Rattle.cacao_site.specs.MemorySite.{plan_of, used_of, view_of, synced_of};
+    ghost use Rattle.cacao_site.specs.MemorySite.{plan_of, used_of, view_of, held_of, turn_of, synced_of};
 
-    /// The site after a crash at this moment, where `choice` picks what each file then holds.
-    ///
-    /// 0 leaves what a read gives, and 1 what the last sync that was Ok left, or the contents at the start where there
-    /// was none. Every other number leaves some image that the crash may leave: with `cut` a third of the number less
-    /// 2, of each write since that sync the front up to byte `cut` lands, or the rest alone, or the front with other
-    /// bytes behind it. Parcels and lines are kept. The failing calls, the calls made, the room used and the clock
-    /// start anew by the plan, and no fault is counted.
+    /// The site after a crash at this moment, under its own plan: `crash_with` of that plan.
     pub fn crash(self, choice: u64) -> Result<MemorySite, AllocError>
         // Every image of the new site was one of the old at that moment.
         ensures left { IfOk result (λ site. (file : ℕ) (image : List ℕ) → file ≤ 16
@@ -37,18 +36,58 @@ impl MemorySite {
             → (view_of site).disk.reads file ≡ synced_of self file) }
         ensures durable { IfOk result (λ site. (file : ℕ) → IsDurable file (view_of site).disk) }
 
+        // Parcels and lines are as they were.
         ensures link { IfOk result (λ site. (view_of site).link ≡ (view_of self).link) }
+        ensures held { IfOk result (λ site. held_of site ≡ held_of self) }
+
         ensures beat { IfOk result (λ site. (view_of site).disk.beat ≡ (view_of self).disk.beat) }
-        ensures clock { IfOk result (λ site. (view_of site).clock ≡ clock_view (plan_of self).start 0) }
+        ensures clock { IfOk result (λ site. (view_of site).clock ≡ clock_at (plan_of self).start) }
         ensures calls { IfOk result (λ site. (view_of site).disk.calls ≡ 0) }
         ensures written { IfOk result (λ site. (view_of site).disk.written ≡ 0) }
         ensures faults { IfOk result (λ site. (view_of site).disk.faults ≡ 0) }
         ensures used { IfOk result (λ site. used_of site ≡ 0) }
+        ensures turn { IfOk result (λ site. turn_of site ≡ 0) }
         ensures plan { IfOk result (λ site. plan_of site ≡ plan_of self) }
     {
         let files = self.picked_files(choice)?;
         let beat = self.first_beat.saturating_add(self.calls);
-        MemorySite::restart(self.alloc, self.plan, files, self.lines, beat)
+        MemorySite::restart(self.alloc, self.plan, files, self.lines, self.link, beat)
+    }
+
+    /// The site after a crash at this moment, where `choice` picks what each file then holds, under another plan.
+    ///
+    /// 0 leaves what a read gives, and 1 what the last sync that was Ok left, or the contents at the start where there
+    /// was none. Every other number leaves some image that the crash may leave: with `cut` a third of the number less
+    /// 2, of each write since that sync the front up to byte `cut` lands, or the rest alone, or the front with other
+    /// bytes behind it. Parcels, those held back too, and lines are kept. The failing calls, the calls made, the room
+    /// used, the clock and the weather start anew by the plan, and no fault and no mishap is counted.
+    pub fn crash_with(self, choice: u64, plan: SitePlan) -> Result<MemorySite, AllocError>
+        // Every image of the new site was one of the old at that moment.
+        ensures left { IfOk result (λ site. (file : ℕ) (image : List ℕ) → file ≤ 16
+            → IsLeft (view_of site).disk file (view_of site).disk.beat image
+            → IsLeft (view_of self).disk file (view_of self).disk.beat image) }
+        ensures reads { IfOk result (λ site. (file : ℕ) → file ≤ 16 → choice ≡ 0
+            → (view_of site).disk.reads file ≡ (view_of self).disk.reads file) }
+        ensures synced { IfOk result (λ site. (file : ℕ) → file ≤ 16 → choice ≡ 1
+            → (view_of site).disk.reads file ≡ synced_of self file) }
+        ensures durable { IfOk result (λ site. (file : ℕ) → IsDurable file (view_of site).disk) }
+
+        // Parcels and lines are as they were.
+        ensures link { IfOk result (λ site. (view_of site).link ≡ (view_of self).link) }
+        ensures held { IfOk result (λ site. held_of site ≡ held_of self) }
+
+        ensures beat { IfOk result (λ site. (view_of site).disk.beat ≡ (view_of self).disk.beat) }
+        ensures clock { IfOk result (λ site. (view_of site).clock ≡ clock_at plan.start) }
+        ensures calls { IfOk result (λ site. (view_of site).disk.calls ≡ 0) }
+        ensures written { IfOk result (λ site. (view_of site).disk.written ≡ 0) }
+        ensures faults { IfOk result (λ site. (view_of site).disk.faults ≡ 0) }
+        ensures used { IfOk result (λ site. used_of site ≡ 0) }
+        ensures turn { IfOk result (λ site. turn_of site ≡ 0) }
+        ensures plan { IfOk result (λ site. plan_of site ≡ plan) }
+    {
+        let files = self.picked_files(choice)?;
+        let beat = self.first_beat.saturating_add(self.calls);
+        MemorySite::restart(self.alloc, plan, files, self.lines, self.link, beat)
     }
 
     /// What each file holds after a crash now.
@@ -66,7 +105,7 @@ impl MemorySite {
         Ok(files)
     }
 
-    /// A site that begins at a beat with these files and lines.
+    /// A site that begins at a beat with these files, lines and parcels.
     ///
     /// It has no memory for the record where its calls could pass the last beat.
     fn restart(
@@ -74,18 +113,26 @@ impl MemorySite {
         plan: SitePlan,
         starts: FileList,
         mut lines: SaidLines,
+        mut link: Link,
         beat: u64,
     ) -> Result<MemorySite, AllocError>
-        requires { All (λ line. line.0 ≤ beat) lines.lines }
-        ensures view { IfOk result (λ site. view_of site ≡ memory_view starts [] beat 0 0 0 lines.lines (clock_view plan.start 0)) }
+        requires lines { IsInTime beat (Some lines.lines) }
+        requires puts { IsInTime beat (Some link.puts.items) }
+        requires taken { IsInTime beat (Some link.taken.items) }
+        requires named { AreNamed link.puts.items link.pending.items link.held.items link.taken.items }
+        ensures view { IfOk result (λ site. view_of site ≡ memory_view starts [] beat 0 0 0 (link_view link lines.lines) (clock_at plan.start)) }
+        ensures held { IfOk result (λ site. held_of site ≡ all_marked_at link.puts.items link.held.items) }
+        ensures turn { IfOk result (λ site. turn_of site ≡ 0) }
         ensures plan { IfOk result (λ site. plan_of site ≡ plan) }
         ensures used { IfOk result (λ site. used_of site ≡ 0) }
     {
-        if u64::MAX - beat < u64::from(plan.calls) {
+        if u64::MAX - beat <= u64::from(plan.calls) {
             return Err(AllocError);
         }
-        let log = CallLog::new(alloc, plan.room as usize, plan.calls as usize)?;
+        let log = CallLog::new(alloc, plan.room as usize, plan.calls as usize + 1)?;
         lines.make_room(plan.room as usize, plan.calls as usize)?;
+        link.make_room(plan.slots()?)?;
+        let clock = Clock::new(plan.start);
         Ok(MemorySite {
             alloc,
             plan,
@@ -97,7 +144,9 @@ impl MemorySite {
             written: 0,
             faults: 0,
             used: 0,
-            unsaid: 0,
+            clock,
+            link,
+            turn: 0,
         })
     }
 }

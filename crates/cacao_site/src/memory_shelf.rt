@@ -1,6 +1,6 @@
 // A shelf in memory, which can fail at one call.
-ghost use Rattle.std.specs.Prelude.{◌≡◌, ◌≢◌, ◌↔◌, ◌+◌, ◌-◌, ◌^◌, ◌<◌, ◌≤◌, min, ℕ, List, Option, OnOk, OnErr, Some, None, IfOk, IfSome, IsSomeAnd, IsErrOf, IsTrue, length};
-ghost use Rattle.cacao_site.specs.Counts.{Rose, next_count};
+ghost use Rattle.std.specs.Prelude.{◌≡◌, ◌≢◌, ◌↔◌, ◌+◌, ◌-◌, ◌^◌, ◌<◌, ◌≤◌, min, ℕ, List, Option, OnOk, OnErr, Some, None, IfOk, IfErr, IfSome, IsSomeAnd, IsErrOf, IsTrue, length};
+ghost use Rattle.cacao_site.specs.Counts.{next_count};
 
 use crate::bytes::Bytes;
 use crate::shelf::{Shelf, ShelfError};
@@ -88,13 +88,14 @@ impl Shelf for MemoryShelf {
         ensures missing { IsErrOf result ShelfError.Missing → files_of self.old name.now ≡ None }
         ensures too_large { IsErrOf result ShelfError.TooLarge
             → IsSomeAnd (files_of self.old name.now) (λ bytes. most < length bytes) }
-        ensures failed { IsErrOf result ShelfError.Failed → Rose (faults_of self.old) (faults_of self.new) }
+        ensures failed { IsErrOf result ShelfError.Failed → faults_of self.new ≡ next_count (faults_of self.old) }
+        ensures steady { OnOk result (faults_of self.new ≡ faults_of self.old) }
+        ensures others { IfErr result (λ e. e ≢ ShelfError.Failed → faults_of self.new ≡ faults_of self.old) }
         ensures by_plan { IsErrOf result ShelfError.Failed ↔ (failing_of self.old ≡ Some (calls_of self.old)) }
         ensures stays { Some (files_of self.new) ≡ Some (files_of self.old) }
         ensures counts { faults_of self.old ≤ faults_of self.new }
         ensures failing { failing_of self.new ≡ failing_of self.old }
         ensures calls { calls_of self.new ≡ next_count (calls_of self.old) }
-        ensures steady { failing_of self.old ≢ Some (calls_of self.old) → faults_of self.new ≡ faults_of self.old }
     {
         let failing = self.is_failing();
         self.calls = self.calls.saturating_add(1);

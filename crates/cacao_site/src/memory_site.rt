@@ -1,12 +1,19 @@
 // A site in memory, which tells everything and fails by its plan.
-ghost use Rattle.std.specs.Prelude.{◌≡◌, ◌+◌, ◌-◌, ◌^◌, ◌<◌, ◌≤◌, ℕ, min, All, IfOk, IfSome, length, Some, [], ◌∷◌, ◌++◌, take, drop, false, slice_get, option_map};
+ghost use Rattle.std.specs.Prelude.{◌≡◌, ◌+◌, ◌-◌, ◌*◌, vec_len, vec_capacity, ◌^◌, ◌<◌, ◌≤◌, ℕ, min, IfOk, IfSome, length, Some, [], ◌∷◌, ◌++◌, take, drop, false, slice_get, option_map};
 ghost use Rattle.cacao_site.specs.Counts.{next_count, count_after, last_count};
 ghost use Rattle.cacao_site.specs.DiskCalls.{CallsOn, StaysAt, KeepsDisk, Follows, Spreads, Same, Torn, Written, IsDurable};
-ghost use Rattle.cacao_site.specs.MemoryView.{clock_view, memory_view};
+ghost use Rattle.cacao_site.specs.Clock.{clock_at};
+ghost use Rattle.std.specs.VecDeque.{deque_len, deque_capacity};
+ghost use Rattle.cacao_site.specs.MemoryView.{memory_view, no_link};
+ghost use Rattle.cacao_site.specs.Parcels.{AreNamed};
 ghost use Rattle.cacao_site.specs.Plan.{fails_by};
+ghost use Rattle.cacao_site.specs.Sound.{IsInTime};
 
 use crate::call_log::CallLog;
+use crate::clock::Clock;
 use crate::file_list::FileList;
+use crate::link::Link;
+use crate::parcel::Parcel;
 use crate::plan::SitePlan;
 use crate::said_lines::SaidLines;
 use std::alloc::{AllocError, Global};
@@ -26,32 +33,46 @@ pub struct MemorySite {
     pub(crate) written: u64,
     pub(crate) faults: u64,
     pub(crate) used: u64,
-    pub(crate) unsaid: u64,
+    pub(crate) clock: Clock,
+    pub(crate) link: Link,
+    // The puts so far, as far as the list of weather goes.
+    pub(crate) turn: usize,
     ghost fits: { plan.room < 2 ^ 64 },
     ghost in_room: { used ≤ plan.room },
     ghost handed: { written ≤ last_count },
-    ghost beats: { first_beat + plan.calls ≤ last_count },
-    ghost logged: { length log.calls ≡ min calls plan.calls },
-    ghost log_most: { length log.calls + (plan.calls - calls) ≤ log.most },
+    ghost beats: { first_beat + plan.calls < last_count },
+    ghost logged: { length log.calls ≡ min calls (plan.calls + 1) },
+    ghost log_most: { length log.calls + (plan.calls + 1 - calls) ≤ log.most },
     ghost log_room: { log.used + (plan.room - used) ≤ log.room },
     ghost line_most: { length lines.lines + (plan.calls - calls) ≤ lines.most },
     ghost line_room: { lines.used + (plan.room - used) ≤ lines.room },
-    ghost said_before: { All (λ line. line.0 ≤ count_after first_beat calls) lines.lines },
+    ghost said_in_time: { IsInTime (count_after first_beat calls) (Some lines.lines) },
+    ghost turns: { turn ≤ length plan.weather },
+    ghost put_slots: { 64 * (vec_len link.puts + (length plan.weather - turn)) + (plan.room - used) ≤ 64 * vec_capacity link.puts },
+    ghost pending_slots: { 64 * (deque_len link.pending + vec_len link.held) + (plan.room - used) ≤ 64 * deque_capacity link.pending },
+    ghost held_slots: { 64 * vec_len link.held + (plan.room - used) ≤ 64 * vec_capacity link.held },
+    ghost puts_in_time: { IsInTime (count_after first_beat calls) (Some link.puts.items) },
+    ghost taken_in_time: { IsInTime (count_after first_beat calls) (Some link.taken.items) },
+    ghost named: { AreNamed link.puts.items link.pending.items link.held.items link.taken.items },
 }
 
 impl MemorySite {
-    ghost use Rattle.cacao_site.specs.MemorySite.{plan_of, used_of, view_of, KeepsRest};
+    ghost use Rattle.cacao_site.specs.MemorySite.{plan_of, used_of, view_of, held_of, turn_of, KeepsRest};
 
     /// A site with blank files, no line said, no parcel and no fault.
     ///
     /// It takes all memory that its plan lets it use, and `AllocError` says that there is not that much.
     pub fn new(alloc: Global, plan: SitePlan) -> Result<MemorySite, AllocError>
-        ensures view { IfOk result (λ site. view_of site ≡ memory_view [] [] 0 0 0 0 [] (clock_view plan.start 0)) }
+        ensures view { IfOk result (λ site. view_of site ≡ memory_view [] [] 0 0 0 0 no_link (clock_at plan.start)) }
+        ensures held { IfOk result (λ site. held_of site ≡ []) }
+        ensures turn { IfOk result (λ site. turn_of site ≡ 0) }
         ensures plan { IfOk result (λ site. plan_of site ≡ plan) }
         ensures used { IfOk result (λ site. used_of site ≡ 0) }
     {
-        let log = CallLog::new(alloc, plan.room as usize, plan.calls as usize)?;
+        let log = CallLog::new(alloc, plan.room as usize, plan.calls as usize + 1)?;
         let lines = SaidLines::new(alloc, plan.room as usize, plan.calls as usize)?;
+        let link = Link::new(alloc, plan.slots()?)?;
+        let clock = Clock::new(plan.start);
         Ok(MemorySite {
             alloc,
             plan,
@@ -63,7 +84,9 @@ impl MemorySite {
             written: 0,
             faults: 0,
             used: 0,
-            unsaid: 0,
+            clock,
+            link,
+            turn: 0,
         })
     }
 
@@ -80,6 +103,35 @@ impl MemorySite {
         ensures { IfSome (view_of self.now).link.said (λ said. option_map (λ line. line.1) (slice_get said n) ≡ Some result.now) }
     {
         self.lines.line(n)
+    }
+
+    /// How many parcels were put, but for those that were lost for want of room.
+    pub fn put_count(&self) -> usize
+        ensures { IfSome (view_of self.now).link.puts (λ puts. result ≡ length puts) }
+    {
+        self.link.puts.len()
+    }
+
+    /// A parcel put, by its number from 0.
+    pub fn parcel_put(&self, n: usize) -> &Parcel
+        requires { IfSome (view_of self.now).link.puts (λ puts. n < length puts) }
+        ensures { IfSome (view_of self.now).link.puts (λ puts. option_map (λ put. put.1) (slice_get puts n) ≡ Some result.now) }
+    {
+        &self.link.puts[n].1
+    }
+
+    /// The count of parcels that were lost, doubled or held back.
+    pub fn mishaps(&self) -> u64
+        ensures { result ≡ (view_of self.now).clock.mishaps }
+    {
+        self.clock.mishaps
+    }
+
+    /// The count of moments that were asked of the clock and not reached.
+    pub fn shorts(&self) -> u64
+        ensures { result ≡ (view_of self.now).clock.shorts }
+    {
+        self.clock.shorts
     }
 
     /// Whether the next device call, which brings this many bytes, fails.
@@ -107,7 +159,7 @@ impl MemorySite {
         ensures used { self.new.used ≡ self.old.used }
         ensures rest { KeepsRest self.old self.new }
     {
-        if self.calls < u64::from(self.plan.calls) {
+        if self.calls <= u64::from(self.plan.calls) {
             self.log_look(bytes, faults)
         } else {
             self.refuse(bytes, faults)
@@ -126,7 +178,7 @@ impl MemorySite {
 
     /// Such a call, for which the record has room.
     fn log_look(&mut self, bytes: usize, faults: u64)
-        requires open { self.old.calls < self.old.plan.calls }
+        requires open { self.old.calls ≤ self.old.plan.calls }
         requires up { self.old.faults ≤ faults }
         ensures call { (file : ℕ) → CallsOn file bytes (view_of self.old).disk (view_of self.new).disk }
         ensures stays { (file : ℕ) → StaysAt (view_of self.old).disk (view_of self.new).disk file }
@@ -142,9 +194,9 @@ impl MemorySite {
         self.faults = faults;
     }
 
-    /// Such a call, past the last that the plan allows: nothing is done.
+    /// Such a call, past the first that the plan does not allow: nothing is done.
     fn refuse(&mut self, bytes: usize, faults: u64)
-        requires closed { self.old.plan.calls ≤ self.old.calls }
+        requires closed { self.old.plan.calls < self.old.calls }
         requires up { self.old.faults ≤ faults }
         ensures call { (file : ℕ) → CallsOn file bytes (view_of self.old).disk (view_of self.new).disk }
         ensures stays { (file : ℕ) → StaysAt (view_of self.old).disk (view_of self.new).disk file }
@@ -180,7 +232,7 @@ impl MemorySite {
 
     /// One write that fails.
     pub(crate) fn log_failed_write(&mut self, file: u8, at: u64, size: usize)
-        requires open { self.old.calls < self.old.plan.calls }
+        requires open { self.old.calls ≤ self.old.plan.calls }
         requires fits { at + size ≤ 67_108_864 }
         ensures call { CallsOn file size (view_of self.old).disk (view_of self.new).disk }
         ensures follows { Follows file (Torn at size) (view_of self.old).disk (view_of self.new).disk }
@@ -216,14 +268,14 @@ impl MemorySite {
         requires { at + size ≤ 67_108_864 }
         ensures call { CallsOn file size (view_of self.old).disk (view_of self.new).disk }
         ensures follows { Follows file (Torn at size) (view_of self.old).disk (view_of self.new).disk }
-        ensures spreads { self.old.calls < self.old.plan.calls
+        ensures spreads { self.old.calls ≤ self.old.plan.calls
             → Spreads file (Torn at size) (view_of self.old).disk (view_of self.new).disk }
         ensures reads { (view_of self.new).disk.reads file ≡ (view_of self.old).disk.reads file }
         ensures faults { self.new.faults ≡ next_count self.old.faults }
         ensures used { self.new.used ≡ self.old.used }
         ensures rest { KeepsRest self.old self.new }
     {
-        if self.calls < u64::from(self.plan.calls) {
+        if self.calls <= u64::from(self.plan.calls) {
             self.log_failed_write(file, at, size)
         } else {
             self.refuse(size, self.faults.saturating_add(1))
@@ -239,7 +291,9 @@ impl MemorySite {
         ensures lines { self.new.lines.lines ≡ self.old.lines.lines ++ ((view_of self.new).disk.beat, bytes.now) ∷ [] }
         ensures used { self.new.used ≡ self.old.used + length bytes.now }
         ensures plan { self.new.plan ≡ self.old.plan }
-        ensures unsaid { self.new.unsaid ≡ self.old.unsaid }
+        ensures clock { self.new.clock ≡ self.old.clock }
+        ensures link { self.new.link ≡ self.old.link }
+        ensures turn { self.new.turn ≡ self.old.turn }
     {
         self.pass_disk();
         self.used += bytes.len() as u64;
@@ -252,6 +306,7 @@ impl MemorySite {
         requires { length into.old ≤ 4_096 }
         ensures count { result ≤ length into.old }
         ensures bytes { take result into.new ≡ take (length into.old) (drop at ((view_of self.now).disk.reads file)) }
+        ensures behind { drop result into.new ≡ drop result into.old }
     {
         let start = self.starts.file(file);
         let left = self.log.length(file, start).saturating_sub(at);

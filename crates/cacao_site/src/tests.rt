@@ -1,4 +1,5 @@
 mod composed;
 mod disks;
 mod lines;
+mod links;
 mod shelves;

@@ -4,10 +4,10 @@ use Rattle.std.specs.Prelude.{flat_map, if◌then◌else◌}
 use Rattle.std.proofs.lemmas.Bool.{and_parts, cases_eq, cases_lt, ne_eqb}
 use Rattle.json.proofs.Printed.Strings.{escape_byte_plain}
 use Rattle.serde_json.specs.Data.{Data, null, boolean, number, string, array, object, Items, no_items, item, Members, no_members, member}
-use Rattle.cacao_json.specs.Counts.{next_place, colons_from, colons, members, members_of_items, members_of_pairs}
-use Rattle.cacao_json.specs.declared.count.Place.{Place}
-use Rattle.cacao_json.specs.declared.count.Place.TheVariants.{Outside, Inside, Taken}
-use Rattle.cacao_json.specs.Profile.{IsFormed, AreFormed, AreFormedPairs}
+use Rattle.cacao_json.specs.Counts.{next_position, colons_from, colons, members, members_of_items, members_of_pairs}
+use Rattle.cacao_json.specs.declared.count.Position.{Position}
+use Rattle.cacao_json.specs.declared.count.Position.TheVariants.{Outside, Inside, Escaped}
+use Rattle.cacao_json.specs.Profile.{IsFormed, AreFormed, AreFormedMembers}
 use Rattle.cacao_text.specs.Canon.{escaped, string_text, in_order, after_commas, joined, member_text, canon, item_texts, named_texts}
 use Rattle.cacao_text.proofs.Sorting.{Each, Each-in_order, total, total-in_order}
 use Rattle.cacao_text.proofs.Escapes.{escaped-escape_byte}
@@ -16,19 +16,19 @@ use Rattle.cacao_text.proofs.Digits.{IsMark, whole_text-marks}
 -- ---- strings
 
 -- from the place the bytes stay in the string, and end between its bytes
-abbrev stays : Place → List ℕ → Bool
+abbrev stays : Position → List ℕ → Bool
 stays Outside bs = false
 stays Inside [] = true
-stays Inside (b ∷ bs) = stays (next_place Inside b) bs
-stays Taken [] = false
-stays Taken (b ∷ bs) = stays Inside bs
+stays Inside (b ∷ bs) = stays (next_position Inside b) bs
+stays Escaped [] = false
+stays Escaped (b ∷ bs) = stays Inside bs
 
-colons-stays : (p : Place) (bs r : List ℕ) → stays p bs ≡ true → colons_from p (bs ++ r) ≡ colons_from Inside r
+colons-stays : (p : Position) (bs r : List ℕ) → stays p bs ≡ true → colons_from p (bs ++ r) ≡ colons_from Inside r
 colons-stays Outside bs r h = absurd (cc)
 colons-stays Inside [] r h = refl
-colons-stays Inside (b ∷ bs) r h = omega (arith, colons-stays (next_place Inside b) bs r h)
-colons-stays Taken [] r h = absurd (cc)
-colons-stays Taken (b ∷ bs) r h = omega (arith, colons-stays Inside bs r h)
+colons-stays Inside (b ∷ bs) r h = omega (arith, colons-stays (next_position Inside b) bs r h)
+colons-stays Escaped [] r h = absurd (cc)
+colons-stays Escaped (b ∷ bs) r h = omega (arith, colons-stays Inside bs r h)
 
 abbrev all_below : (ℕ → Bool) → ℕ → Bool
 all_below test zero = true
@@ -44,9 +44,9 @@ low_stays : all_below (λ x. stays Inside (escaped x)) 93 ≡ true
 unfolding escaped
 low_stays = refl
 
-high_next : (x : ℕ) → 93 ≤ x → next_place Inside x ≡ Inside
+high_next : (x : ℕ) → 93 ≤ x → next_position Inside x ≡ Inside
 high_next x h =
-    ap (λ b. if b then Outside else (if x == 92 then Taken else Inside)) (ne_eqb x 34 (λ e. omega arith)) ∙ ap (λ b. if b then Taken else Inside) (ne_eqb x 92 (λ e. omega arith))
+    ap (λ b. if b then Outside else (if x == 92 then Escaped else Inside)) (ne_eqb x 34 (λ e. omega arith)) ∙ ap (λ b. if b then Escaped else Inside) (ne_eqb x 92 (λ e. omega arith))
 
 stays_byte : (x : ℕ) → stays Inside (escaped x) ≡ true
 stays_byte x = elim (cases_lt x 93) [
@@ -135,13 +135,13 @@ mutual
   all_items no_items h = none
   all_items (item d ds) h = both (canon d) (after_commas (item_texts ds)) (members d) (members_of_items ds) (canon_colons d h.0) (after_items ds h.1)
 
-  named_each : (ms : Members) → AreFormedPairs ms → Each Counted (named_texts ms)
+  named_each : (ms : Members) → AreFormedMembers ms → Each Counted (named_texts ms)
   named_each no_members h = tt
   named_each (member k d ms) h =
       let w = canon_colons d h.1 in
       (same_count (canon d) (members d) (colons (canon d)) (sym (alone (canon d) (members d) w)) w, named_each ms h.3)
 
-  named_total : (ms : Members) → AreFormedPairs ms → total member_colons (named_texts ms) ≡ members_of_pairs ms
+  named_total : (ms : Members) → AreFormedMembers ms → total member_colons (named_texts ms) ≡ members_of_pairs ms
   named_total no_members h = refl
   named_total (member k d ms) h = omega (arith, alone (canon d) (members d) (canon_colons d h.1), named_total ms h.3)
 

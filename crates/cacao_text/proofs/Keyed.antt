@@ -9,10 +9,10 @@ use Rattle.std.specs.BTreeMap.{insert_entry}
 use Rattle.cacao_text.specs.declared.order.Key.{Key}
 use Rattle.cacao_json.specs.declared.tree.Pair.{Pair}
 use Rattle.cacao_json.specs.Tree.{pair_data}
-use Rattle.cacao_text.specs.Canon.{units, place, in_order}
+use Rattle.cacao_text.specs.Canon.{units, insert_named, in_order}
 use Rattle.cacao_text.specs.Arranged.{name_at, is_kept, kept_places}
 use Rattle.cacao_text.specs.Keys.{key_cmp, places_in}
-use Rattle.cacao_text.proofs.Sorting.{Each, Each-place}
+use Rattle.cacao_text.proofs.Sorting.{Each, Each-insert_named}
 use Rattle.cacao_text.proofs.Placed.{pair_at-drop}
 
 abbrev pub Entry : Type 0
@@ -35,15 +35,15 @@ greater : (i j : ℕ) → j < i → nat_cmp i j ≡ Greater
 greater i j h = sym (nat_cmp_is i j Greater h)
 
 pub Keyed-insert : (name : ℕ → List ℕ) (es : List Entry) (js : List ℕ) (k : Key) (i : ℕ) → Keyed name es js → k.units.items ≡ units (name i) → k.place ≡ i → Each (λ j. j < i) js
-    → Keyed name (insert_entry key_cmp es k tt) (place name i js)
+    → Keyed name (insert_entry key_cmp es k tt) (insert_named name i js)
 Keyed-insert name [] [] k i w u p b = (u, p, tt)
 Keyed-insert name [] (j ∷ js) k i w u p b = absurd w
 Keyed-insert name (e ∷ es) [] k i w u p b = absurd w
 Keyed-insert name (e ∷ es) (j ∷ js) k i w u p b =
     let last : nat_cmp k.place e.0.place ≡ Greater = ap₂ (λ (x y : ℕ). nat_cmp x y) p w.1 ∙ greater i j b.0 in
     let same : slice_cmp nat_cmp k.units.items e.0.units.items ≡ slice_cmp nat_cmp (units (name i)) (units (name j)) = ap₂ (λ (x y : List ℕ). slice_cmp nat_cmp x y) u w.0 in
-    subst (λ o. Keyed name (insert_entry key_cmp (e ∷ es) k tt) (if is_lt o then i ∷ j ∷ js else j ∷ place name i js)) same
-    (keyed_by name (slice_cmp nat_cmp k.units.items e.0.units.items) (nat_cmp k.place e.0.place) k e es _ (insert_entry key_cmp es k tt) i j js (place name i js) last (u, p, w) (w.0, w.1, Keyed-insert name es js k i w.2 u p b.1))
+    subst (λ o. Keyed name (insert_entry key_cmp (e ∷ es) k tt) (if is_lt o then i ∷ j ∷ js else j ∷ insert_named name i js)) same
+    (keyed_by name (slice_cmp nat_cmp k.units.items e.0.units.items) (nat_cmp k.place e.0.place) k e es _ (insert_entry key_cmp es k tt) i j js (insert_named name i js) last (u, p, w) (w.0, w.1, Keyed-insert name es js k i w.2 u p b.1))
 
 pub places_in-Keyed : (name : ℕ → List ℕ) (es : List Entry) (js : List ℕ) → Keyed name es js → places_in es ≡ js
 places_in-Keyed name [] [] w = refl
@@ -58,13 +58,13 @@ pub record IsPlaced (unsigned : Bool) (ps : List Pair) (i : ℕ) (es : List Entr
   pub done : List ℕ
   pub keyed : Keyed (name_at ps) es done
   pub below : Each (λ j. j < i) done
-  pub rest : fold (λ sorted j. place (name_at ps) j sorted) done (kept_places unsigned i (drop i ps)) ≡ in_order (name_at ps) (kept_places unsigned 0 ps)
+  pub rest : fold (λ sorted j. insert_named (name_at ps) j sorted) done (kept_places unsigned i (drop i ps)) ≡ in_order (name_at ps) (kept_places unsigned 0 ps)
 
 pub placed_start : (unsigned : Bool) (ps : List Pair) (es : List Entry) → es ≡ [] → IsPlaced unsigned ps 0 es
 placed_start unsigned ps es e = subst (IsPlaced unsigned ps 0) (sym e) (record { done = []; keyed = tt; below = tt; rest = refl })
 
 abbrev placing : List Pair → List ℕ → List ℕ → List ℕ
-placing ps done js = fold (λ sorted j. place (name_at ps) j sorted) done js
+placing ps done js = fold (λ sorted j. insert_named (name_at ps) j sorted) done js
 
 weaker : (i : ℕ) (js : List ℕ) → Each (λ j. j < i) js → Each (λ j. j < i + 1) js
 weaker i [] w = tt
@@ -82,9 +82,9 @@ placed_kept unsigned ps i p k es new below at stays same here made w =
     let left : kept_places unsigned i (drop i ps) ≡ i ∷ kept_places unsigned (i + 1) qs =
     ap (kept_places unsigned i) first ∙ ap (λ b. if b then i ∷ kept_places unsigned (i + 1) qs else kept_places unsigned (i + 1) qs) stays in
     record {
-      done = place (name_at ps) i w.done;
-      keyed = subst (λ es'. Keyed (name_at ps) es' (place (name_at ps) i w.done)) (sym made) (Keyed-insert (name_at ps) es w.done k i w.keyed (same ∙ ap units name) here w.below);
-      below = Each-place (λ j. j < i + 1) (name_at ps) i w.done (omega arith) (weaker i w.done w.below);
+      done = insert_named (name_at ps) i w.done;
+      keyed = subst (λ es'. Keyed (name_at ps) es' (insert_named (name_at ps) i w.done)) (sym made) (Keyed-insert (name_at ps) es w.done k i w.keyed (same ∙ ap units name) here w.below);
+      below = Each-insert_named (λ j. j < i + 1) (name_at ps) i w.done (omega arith) (weaker i w.done w.below);
       rest = ap (placing ps w.done) (sym left) ∙ w.rest;
     }
 

@@ -9,45 +9,15 @@ use Rattle.serde_json.specs.Data.{Num, Data, null, boolean, number, string, arra
 use Rattle.serde_json.specs.Read.{read}
 use Rattle.cacao_json.specs.Counts.{is_whole, first_broken, numbers, numbers_of_items, numbers_of_pairs}
 use Rattle.cacao_json.specs.Reading.{reading, tree}
-use Rattle.cacao_json.specs.Profile.{IsBelow, IsFormed, AreFormed, AreFormedPairs, IsTree}
+use Rattle.cacao_json.specs.Profile.{IsBelow, IsFormed, AreFormed, AreFormedMembers, IsTree}
 use Rattle.cacao_json.proofs.Readings.{tree-from_reading}
-use Rattle.cacao_text.specs.Canon.{canon, without, unsigned_of, book_text}
+use Rattle.cacao_json.proofs.Profiles.{formed_whole}
+use Rattle.cacao_json.specs.Tree.{without}
+use Rattle.cacao_text.specs.Canon.{canon, unsigned_of, book_text}
 use Rattle.cacao_text.specs.Laws.{ReadsBack, HasOneText, IsFixed, BookReadsBack, BookIsFixed}
 use Rattle.cacao_text.proofs.ReadBack.{read-canon}
 use Rattle.cacao_text.proofs.Utf8Text.{IsUtf8-canon}
 use Rattle.cacao_text.proofs.ColonCount.{colons-canon}
-
--- ---- numbers
-
-one_whole : (b : Bool) (o : Option ℕ) → b ≡ true → o ≡ None → (if b then option_map suc o else Some 0) ≡ None
-one_whole true o e f = ap (option_map suc) f
-one_whole false o e f = absurd (cc)
-
-all_whole : (xs ys : List Num) → first_broken xs ≡ None → first_broken ys ≡ None → first_broken (xs ++ ys) ≡ None
-all_whole [] ys e f = f
-all_whole (x ∷ xs) ys e f = whole_by (is_whole x) (first_broken xs) (first_broken (xs ++ ys)) (λ g. all_whole xs ys g f) e
-  where
-    whole_by : (b : Bool) (o p : Option ℕ) → (o ≡ None → p ≡ None) → (if b then option_map suc o else Some 0) ≡ None → (if b then option_map suc p else Some 0) ≡ None
-    whole_by true None p k e = ap (option_map suc) (k refl)
-    whole_by true (Some i) p k e = absurd (cc)
-    whole_by false o p k e = absurd (cc)
-
-mutual
-  formed_whole : (d : Data) → IsFormed d → first_broken (numbers d) ≡ None
-  formed_whole null h = refl
-  formed_whole (boolean b) h = refl
-  formed_whole (number n) h = one_whole (is_whole n) None h refl
-  formed_whole (string s) h = refl
-  formed_whole (array ds) h = whole_items ds h
-  formed_whole (object ms) h = whole_pairs ms h
-
-  whole_items : (ds : Items) → AreFormed ds → first_broken (numbers_of_items ds) ≡ None
-  whole_items no_items h = refl
-  whole_items (item d ds) h = all_whole (numbers d) (numbers_of_items ds) (formed_whole d h.0) (whole_items ds h.1)
-
-  whole_pairs : (ms : Members) → AreFormedPairs ms → first_broken (numbers_of_pairs ms) ≡ None
-  whole_pairs no_members h = refl
-  whole_pairs (member k d ms) h = all_whole (numbers d) (numbers_of_pairs ms) (formed_whole d h.1) (whole_pairs ms h.3)
 
 -- ---- the law
 
@@ -80,15 +50,15 @@ below_more : (k l : List ℕ) (ms : Members) → slice_cmp nat_cmp k l ≡ Less 
 below_more k l no_members h w = tt
 below_more k l (member m d ms) h w = nat_list_cmp_total.trans k l m h w
 
-below_without : (n k : List ℕ) (ms : Members) → AreFormedPairs ms → IsBelow k ms → IsBelow k (without n ms)
+below_without : (n k : List ℕ) (ms : Members) → AreFormedMembers ms → IsBelow k ms → IsBelow k (without n ms)
 below_without n k no_members f h = tt
 below_without n k (member l d ms) f h = below_if (bytes_eq n l) k l d (without n ms) h (below_without n k ms f.3 (below_more k l ms h f.2))
 
-formed_if : (b : Bool) (k : List ℕ) (d : Data) (ms : Members) → AreFormedPairs ms → AreFormedPairs (member k d ms) → AreFormedPairs (if b then ms else member k d ms)
+formed_if : (b : Bool) (k : List ℕ) (d : Data) (ms : Members) → AreFormedMembers ms → AreFormedMembers (member k d ms) → AreFormedMembers (if b then ms else member k d ms)
 formed_if true k d ms v w = v
 formed_if false k d ms v w = w
 
-formed_without : (n : List ℕ) (ms : Members) → AreFormedPairs ms → AreFormedPairs (without n ms)
+formed_without : (n : List ℕ) (ms : Members) → AreFormedMembers ms → AreFormedMembers (without n ms)
 formed_without n no_members h = tt
 formed_without n (member k d ms) h =
     let rest = formed_without n ms h.3 in

@@ -22,7 +22,8 @@ use Rattle.serde_json.specs.Data.{Num, unsigned, negative, float, Data, null, bo
 use Rattle.serde_json.specs.Read.{is_integer, float_of, number_from, number_of, of_json, read}
 use Rattle.cacao_json.proofs.Spelling.{spelled, comma_if, spelled-tokens}
 use Rattle.cacao_json.proofs.Walk.{each_json, tokens-read}
-use Rattle.cacao_text.specs.Canon.{whole_text, string_text, in_order, after_commas, joined, member_text, canon, item_texts, named_texts, without, book_text}
+use Rattle.cacao_json.specs.Tree.{without}
+use Rattle.cacao_text.specs.Canon.{whole_text, string_text, in_order, after_commas, joined, member_text, canon, item_texts, named_texts, book_text}
 use Rattle.cacao_text.proofs.Sorting.{total, total-in_order}
 use Rattle.cacao_text.proofs.Escapes.{string_text-quoted}
 

@@ -7,7 +7,8 @@ use Rattle.std.proofs.lemmas.List.Elements.{All-nil, All-cons}
 use Rattle.serde_json.specs.Data.{null, Members, member}
 use Rattle.cacao_json.specs.declared.tree.Pair.{Pair}
 use Rattle.cacao_json.specs.Tree.{pair_data, members_of}
-use Rattle.cacao_text.specs.Canon.{in_order, without}
+use Rattle.cacao_json.specs.Tree.{without}
+use Rattle.cacao_text.specs.Canon.{in_order}
 use Rattle.cacao_text.specs.Arranged.{arranged_pairs, arranged_pair, pair_at, name_at, is_kept, kept_places}
 use Rattle.cacao_text.proofs.Sorting.{map-in_order, Each, Each-in_order}
 

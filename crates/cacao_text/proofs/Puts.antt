@@ -7,8 +7,8 @@ use Rattle.std.proofs.lemmas.Cmp.{nat_list_cmp_total, tied_itself}
 use Rattle.std.proofs.lemmas.Map.Lookups.{exact_bytes}
 use Rattle.serde_json.specs.Data.{Data, Members, no_members, member, put}
 use Rattle.cacao_json.specs.Profile.{IsBelow}
-use Rattle.cacao_text.specs.Canon.{comes_before, place, in_order}
-use Rattle.cacao_text.proofs.Sorting.{Each, Each-place}
+use Rattle.cacao_text.specs.Canon.{comes_before, insert_named, in_order}
+use Rattle.cacao_text.proofs.Sorting.{Each, Each-insert_named}
 
 abbrev compare : List ℕ → List ℕ → Ordering
 compare k l = slice_cmp nat_cmp k l
@@ -70,11 +70,11 @@ put_if true x y found whole e f = e
 put_if false x y found whole e f = f
 
 -- placing a greater name puts it
-put_all-place : (m : Named) (ms : List Named) (found : Members) → AreBelow m.0 ms → put_all (place name m ms) found ≡ put_all ms (put m.0 m.1 found)
-put_all-place m [] found w = refl
-put_all-place m (n ∷ ns) found w =
-    put_if (comes_before m.0 n.0) (m ∷ n ∷ ns) (n ∷ place name m ns) found _ refl
-    (put_all-place m ns (put n.0 n.1 found) w.1 ∙ ap (put_all ns) (put_commute m.0 n.0 m.1 n.1 found (λ e. apart n.0 m.0 w.0 e)))
+put_all-insert_named : (m : Named) (ms : List Named) (found : Members) → AreBelow m.0 ms → put_all (insert_named name m ms) found ≡ put_all ms (put m.0 m.1 found)
+put_all-insert_named m [] found w = refl
+put_all-insert_named m (n ∷ ns) found w =
+    put_if (comes_before m.0 n.0) (m ∷ n ∷ ns) (n ∷ insert_named name m ns) found _ refl
+    (put_all-insert_named m ns (put n.0 n.1 found) w.1 ∙ ap (put_all ns) (put_commute m.0 n.0 m.1 n.1 found (λ e. apart n.0 m.0 w.0 e)))
 
 put_all-put : (ms : List Named) (k : List ℕ) (d : Data) (found : Members) → AreBelow k ms → put_all ms (put k d found) ≡ put k d (put_all ms found)
 put_all-put [] k d found w = refl
@@ -92,15 +92,15 @@ below_more : (k l : List ℕ) (sorted : List Named) → compare k l ≡ Less →
 below_more k l [] h w = tt
 below_more k l (m ∷ ms) h w = (nat_list_cmp_total.trans m.0 k l w.0 h, below_more k l ms h w.1)
 
-below_next : (k : List ℕ) (d : Data) (ms : Members) (sorted : List Named) → IsBelow k ms → AreBelow k sorted → AreBelowFirst (place name (k, d) sorted) ms
+below_next : (k : List ℕ) (d : Data) (ms : Members) (sorted : List Named) → IsBelow k ms → AreBelow k sorted → AreBelowFirst (insert_named name (k, d) sorted) ms
 below_next k d no_members sorted h w = tt
-below_next k d (member l e ms) sorted h w = Each-place (λ m. compare m.0 l ≡ Less) name (k, d) sorted h (below_more k l sorted h w)
+below_next k d (member l e ms) sorted h w = Each-insert_named (λ m. compare m.0 l ≡ Less) name (k, d) sorted h (below_more k l sorted h w)
 
-put_all-fold : (ms : Members) (sorted : List Named) (found : Members) → AreRising ms → AreBelowFirst sorted ms → put_all (fold (λ s m. place name m s) sorted (pairs_of ms)) found ≡ put_all (pairs_of ms) (put_all sorted found)
+put_all-fold : (ms : Members) (sorted : List Named) (found : Members) → AreRising ms → AreBelowFirst sorted ms → put_all (fold (λ s m. insert_named name m s) sorted (pairs_of ms)) found ≡ put_all (pairs_of ms) (put_all sorted found)
 put_all-fold no_members sorted found h w = refl
 put_all-fold (member k d ms) sorted found h w =
-    put_all-fold ms (place name (k, d) sorted) found h.1 (below_next k d ms sorted h.0 w)
-    ∙ ap (put_all (pairs_of ms)) (put_all-place (k, d) sorted found w ∙ put_all-put sorted k d found w)
+    put_all-fold ms (insert_named name (k, d) sorted) found h.1 (below_next k d ms sorted h.0 w)
+    ∙ ap (put_all (pairs_of ms)) (put_all-insert_named (k, d) sorted found w ∙ put_all-put sorted k d found w)
 
 -- ---- members in byte order are those that are put
 

@@ -17,7 +17,7 @@ use Rattle.serde_json.specs.Written.{number_text, outline, items_outline, member
 use Rattle.serde_json.proofs.Numbers.{number_of-decimal, number_of-negative}
 use Rattle.serde_json.proofs.Texts.{print-outline}
 use Rattle.cacao_json.specs.Counts.{is_whole}
-use Rattle.cacao_json.specs.Profile.{IsFormed, AreFormed, AreFormedPairs, IsTree}
+use Rattle.cacao_json.specs.Profile.{IsFormed, AreFormed, AreFormedMembers, IsTree}
 use Rattle.cacao_json.specs.Tree.{members_of}
 use Rattle.cacao_text.specs.Canon.{in_order, canon}
 use Rattle.cacao_text.specs.Arranged.{arranged, arranged_items, arranged_pairs}
@@ -64,7 +64,7 @@ arranged_pairs-pairs_of (member k d ms) = ap (λ l. (k, arranged d) ∷ l) (arra
 sorted-pairs_of : (ms : Members) → in_order (λ (m : Named). m.0) (arranged_pairs ms) ≡ map arrange (in_order (λ (m : Named). m.0) (pairs_of ms))
 sorted-pairs_of ms = ap (in_order (λ (m : Named). m.0)) (arranged_pairs-pairs_of ms) ∙ sym (map-in_order arrange (λ (m : Named). m.0) (pairs_of ms))
 
-rising : (ms : Members) → AreFormedPairs ms → AreRising ms
+rising : (ms : Members) → AreFormedMembers ms → AreRising ms
 rising no_members h = tt
 rising (member k d ms) h = (h.2, rising ms h.3)
 
@@ -93,7 +93,7 @@ mutual
   back_items no_items h = refl
   back_items (item d ds) h = ap (option_and_then (λ x. option_map (item x) (of_items (items_outline (arranged_items ds))))) (back d h.0) ∙ ap (option_map (item d)) (back_items ds h.1)
 
-  back_each : (ms : Members) → AreFormedPairs ms → Each IsBack (pairs_of ms)
+  back_each : (ms : Members) → AreFormedMembers ms → Each IsBack (pairs_of ms)
   back_each no_members h = tt
   back_each (member k d ms) h = (back d h.1, back_each ms h.3)
 
@@ -119,7 +119,7 @@ mutual
   good_items no_items h = tt
   good_items (item d ds) h = (good d h.0, good_items ds h.1)
 
-  good_each : (ms : Members) → AreFormedPairs ms → Each HasGood (arranged_pairs ms)
+  good_each : (ms : Members) → AreFormedMembers ms → Each HasGood (arranged_pairs ms)
   good_each no_members h = tt
   good_each (member k d ms) h = (good d h.1, good_each ms h.3)
 

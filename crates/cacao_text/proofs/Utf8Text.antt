@@ -3,7 +3,7 @@ use Rattle.std.proofs.Common.{ℕ, List, [], ◌∷◌, true, false, map, IsUtf8
 use Rattle.std.proofs.lemmas.Str.{IsUtf8-append, IsUtf8-nil}
 use Rattle.json.proofs.Printed.Utf8.{IsUtf8-are_ascii, IsUtf8-quoted}
 use Rattle.serde_json.specs.Data.{Data, null, boolean, number, string, array, object, Items, no_items, item, Members, no_members, member}
-use Rattle.cacao_json.specs.Profile.{IsFormed, AreFormed, AreFormedPairs}
+use Rattle.cacao_json.specs.Profile.{IsFormed, AreFormed, AreFormedMembers}
 use Rattle.cacao_text.specs.Canon.{string_text, in_order, after_commas, joined, member_text, canon, item_texts, named_texts}
 use Rattle.cacao_text.proofs.Sorting.{Each, Each-in_order}
 use Rattle.cacao_text.proofs.Escapes.{string_text-quoted}
@@ -49,6 +49,6 @@ mutual
   utf8_items no_items h = tt
   utf8_items (item d ds) h = (IsUtf8-canon d h.0, utf8_items ds h.1)
 
-  utf8_each : (ms : Members) → AreFormedPairs ms → Each AreUtf8 (named_texts ms)
+  utf8_each : (ms : Members) → AreFormedMembers ms → Each AreUtf8 (named_texts ms)
   utf8_each no_members h = tt
   utf8_each (member k d ms) h = ((h.0, IsUtf8-canon d h.1), utf8_each ms h.3)

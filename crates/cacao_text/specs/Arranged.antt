@@ -10,8 +10,7 @@ use Rattle.serde_json.specs.Data.{Data, null, boolean, number, string, array, ob
 use Rattle.serde_json.specs.Written.{outline}
 use Rattle.cacao_json.specs.declared.tree.Tree.{Tree}
 use Rattle.cacao_json.specs.declared.tree.Pair.{Pair}
-use Rattle.cacao_json.specs.declared.tree.Pairs.{Pairs, out-Pairs}
-use Rattle.cacao_json.specs.Tree.{data_of, pair_data, members_of}
+use Rattle.cacao_json.specs.Tree.{data_of, items_of, pair_data, members_of}
 use Rattle.cacao_text.specs.Canon.{comes_before, in_order}
 
 -- the data with the members of each object in the order of their names' units
@@ -42,11 +41,15 @@ Adds old new ts = (new.before ≡ old.before) × (new.tokens ≡ old.tokens ++ t
 
 -- ---- pairs, and their places
 
-abbrev pub pairs_in : Pairs → List Pair
-pairs_in p = (out-Pairs p).pairs.items
+abbrev pub names_in : List Pair → List (List ℕ)
+names_in ps = map (λ p. (pair_data p).0) ps
 
-abbrev pub names_in : Pairs → List (List ℕ)
-names_in p = map (λ q. (pair_data q).0) (pairs_in p)
+-- what they stand for
+abbrev pub items_data : List Tree → Data
+items_data ts = array (items_of (map data_of ts))
+
+abbrev pub pairs_data : List Pair → Members
+pairs_data ps = members_of (map pair_data ps)
 
 abbrev pub arranged_pair : Pair → List ℕ × Data
 arranged_pair p = ((pair_data p).0, arranged (pair_data p).1)
@@ -83,7 +86,8 @@ is_kept unsigned name = not (unsigned && bytes_eq (codes "signatures") name)
 -- the places of the members that stay, where the first is at i
 abbrev pub kept_places : Bool → ℕ → List Pair → List ℕ
 kept_places unsigned i [] = []
-kept_places unsigned i (p ∷ ps) = if is_kept unsigned (pair_data p).0 then i ∷ kept_places unsigned (i + 1) ps else kept_places unsigned (i + 1) ps
+kept_places unsigned i (p ∷ ps) =
+    if is_kept unsigned (pair_data p).0 then i ∷ kept_places unsigned (i + 1) ps else kept_places unsigned (i + 1) ps
 
 -- none of the names comes before k
 abbrev pub NoneBefore : List ℕ → List (List ℕ) → Type 0

@@ -3,8 +3,9 @@ use Rattle.std.specs.Prelude.{ℕ, suc, ◌+◌, ◌/◌, ◌%◌, ◌==◌, nat
 use Rattle.std.specs.Ordering.{nat_cmp, is_lt}
 use Rattle.std.specs.Cmp.Lexicographic.{slice_cmp}
 use Rattle.std.specs.Char.Escape.{encode_utf16}
-use Rattle.std.specs.Str.{bytes_eq, chars}
+use Rattle.std.specs.Str.{chars}
 use Rattle.serde_json.specs.Data.{Num, unsigned, negative, float, Data, null, boolean, number, string, array, object, Items, no_items, item, Members, no_members, member}
+use Rattle.cacao_json.specs.Tree.{without}
 
 -- ---- numbers and strings
 
@@ -45,13 +46,13 @@ abbrev pub comes_before : List ℕ → List ℕ → Bool
 comes_before k l = is_lt (slice_cmp nat_cmp (units k) (units l))
 
 -- m goes before the first whose name it comes before
-abbrev pub place : {A : Type 0} → (A → List ℕ) → A → List A → List A
-place name m [] = m ∷ []
-place name m (n ∷ ns) = if comes_before (name m) (name n) then m ∷ n ∷ ns else n ∷ place name m ns
+abbrev pub insert_named : {A : Type 0} → (A → List ℕ) → A → List A → List A
+insert_named name m [] = m ∷ []
+insert_named name m (n ∷ ns) = if comes_before (name m) (name n) then m ∷ n ∷ ns else n ∷ insert_named name m ns
 
 -- the members sorted by their names, placed one after another
 abbrev pub in_order : {A : Type 0} → (A → List ℕ) → List A → List A
-in_order name ms = fold (λ sorted m. place name m sorted) [] ms
+in_order name ms = fold (λ sorted m. insert_named name m sorted) [] ms
 
 -- ---- texts
 
@@ -87,11 +88,6 @@ abbrev mutual
   pub named_texts : Members → List (List ℕ × List ℕ)
   named_texts no_members = []
   named_texts (member k d ms) = (k, canon d) ∷ named_texts ms
-
--- the members but those with this name
-abbrev pub without : List ℕ → Members → Members
-without name no_members = no_members
-without name (member k d ms) = if bytes_eq name k then without name ms else member k d (without name ms)
 
 -- a playbook without its signatures: the members of the top object but `signatures`
 abbrev pub unsigned_of : Data → Data

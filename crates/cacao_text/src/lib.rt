@@ -9,7 +9,7 @@ pub mod write;
 
 pub use bytes::Bytes2;
 pub use laws::canonical_law;
-pub use write::{canonical, canonical_book};
+pub use write::{canonical, canonical_book, canonical_string};
 
 #[cfg(test)]
 mod tests;

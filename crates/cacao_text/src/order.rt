@@ -2,12 +2,12 @@
 ghost use Rattle.std.specs.Prelude.{◌≡◌, IfOk, OnOk};
 ghost use Rattle.std.specs.BTreeMap.{insert_entry};
 ghost use Rattle.std.specs.Bool.{OnTrue};
-ghost use Rattle.cacao_text.specs.Arranged.{pairs_in, names_in, name_at, is_kept, kept_places, AreInOrder, Follows};
+ghost use Rattle.cacao_text.specs.Arranged.{names_in, name_at, is_kept, kept_places, AreInOrder, Follows};
 ghost use Rattle.cacao_text.specs.Keys.{key_cmp, places_in};
 ghost use Rattle.cacao_text.specs.Canon.{in_order};
 
 use crate::units::units_of;
-use cacao_json::Pairs;
+use cacao_json::Pair;
 use std::alloc::{AllocError, Global};
 use std::collections::BTreeMap;
 
@@ -20,11 +20,11 @@ struct Key {
 
 /// Whether the names are all of ASCII and rise, so that they stand in the order of their units. That is
 /// so for most objects that were read.
-pub fn is_in_order(pairs: &Pairs) -> bool
+pub fn is_in_order(pairs: &[Pair]) -> bool
     ensures { OnTrue result (AreInOrder (names_in pairs.now)) }
 {
     let mut before = "";
-    for pair in &pairs.pairs {
+    for pair in pairs {
         let name = pair.name.as_str();
         if !follows(before, name) {
             return false;
@@ -41,28 +41,28 @@ fn follows(before: &str, name: &str) -> bool
 }
 
 /// The places of the members in the order of their names' units. An unsigned object has no member `signatures`.
-pub fn places(alloc: Global, pairs: &Pairs, unsigned: bool) -> Result<Vec<usize>, AllocError>
+pub fn places(alloc: Global, pairs: &[Pair], unsigned: bool) -> Result<Vec<usize>, AllocError>
     ensures { IfOk result (λ list. list.items
-        ≡ in_order (name_at (pairs_in pairs.now)) (kept_places unsigned 0 (pairs_in pairs.now))) }
+        ≡ in_order (name_at pairs.now) (kept_places unsigned 0 pairs.now)) }
 {
     let mut order = BTreeMap::new(alloc);
-    for (place, pair) in pairs.pairs.iter().enumerate() {
+    for (place, pair) in pairs.iter().enumerate() {
         let name = pair.name.as_str();
-        if stays(unsigned, name) {
+        if is_kept(unsigned, name) {
             let units = units_of(alloc, name)?;
-            put(&mut order, Key { units, place })?;
+            insert_key(&mut order, Key { units, place })?;
         }
     }
-    listed(alloc, &order)
+    places_in_map(alloc, &order)
 }
 
-fn stays(unsigned: bool, name: &str) -> bool
+fn is_kept(unsigned: bool, name: &str) -> bool
     ensures { result ≡ is_kept unsigned name.now }
 {
     !unsigned || "signatures" != name
 }
 
-fn put(order: &mut BTreeMap<Key, ()>, key: Key) -> Result<(), AllocError>
+fn insert_key(order: &mut BTreeMap<Key, ()>, key: Key) -> Result<(), AllocError>
     ensures { OnOk result (order.new.entries ≡ insert_entry key_cmp order.old.entries key tt) }
 {
     order.insert(key, ())?;
@@ -70,7 +70,7 @@ fn put(order: &mut BTreeMap<Key, ()>, key: Key) -> Result<(), AllocError>
 }
 
 /// The places in the map, in its order.
-fn listed(alloc: Global, order: &BTreeMap<Key, ()>) -> Result<Vec<usize>, AllocError>
+fn places_in_map(alloc: Global, order: &BTreeMap<Key, ()>) -> Result<Vec<usize>, AllocError>
     ensures { IfOk result (λ list. list.items ≡ places_in order.now.entries) }
 {
     let mut list = Vec::with_capacity(alloc, order.len())?;

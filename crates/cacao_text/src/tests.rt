@@ -1,5 +1,5 @@
 // Texts of RFC 8785 and of other programs, beside their canonical text.
-use crate::{Bytes2, canonical, canonical_book};
+use crate::{Bytes2, canonical, canonical_book, canonical_law, canonical_string};
 use cacao_json::{JsonError, Tree, read_tree};
 use std::alloc::Global;
 use std::process::Abort;
@@ -60,6 +60,15 @@ fn canonical_texts(rt: HostRuntime) -> Result<(), Fail> {
         r#"{"ab":1,"a":{"":2,"B":3},"":4,"A":5}"#,
         r#"{"":4,"A":5,"a":{"":2,"B":3},"ab":1}"#,
     )
+}
+
+#[test]
+fn strings_with_no_tree(rt: HostRuntime) -> Result<(), Fail> {
+    canonical_law();
+    let line: Bytes2 = canonical_string(rt.alloc(), "a\"\\\n\u{1f}\u{e9}/")?;
+    assert!(rt; !line.is_empty());
+    assert!(rt; line.as_slice() == "\"a\\\"\\\\\\n\\u001f\u{e9}/\"".as_bytes());
+    Ok(())
 }
 
 // The sample of RFC 8785, section 3.2.3.

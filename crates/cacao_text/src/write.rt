@@ -1,13 +1,13 @@
 // From a tree to its canonical text.
 ghost use Rattle.std.specs.Prelude.{◌≡◌, ◌<◌, IfOk, OnOk, All, flat_map, length};
-ghost use Rattle.serde_json.specs.Data.{array, object};
-ghost use Rattle.cacao_json.specs.Tree.{data_of, items_data, members_data};
+ghost use Rattle.serde_json.specs.Data.{object, string};
+ghost use Rattle.cacao_json.specs.Tree.{data_of};
 ghost use Rattle.cacao_text.specs.Canon.{canon, book_text, unsigned_of};
-ghost use Rattle.cacao_text.specs.Arranged.{value_tokens, sorted_tokens, Adds, pairs_in, pair_tokens, place_tokens};
+ghost use Rattle.cacao_text.specs.Arranged.{value_tokens, sorted_tokens, Adds, items_data, pairs_data, pair_tokens, place_tokens};
 
 use crate::bytes::Bytes2;
 use crate::order::{is_in_order, places};
-use cacao_json::{Items, Pair, Pairs, Tree};
+use cacao_json::{Pair, Tree};
 use json::Writer;
 use std::alloc::{AllocError, Global};
 
@@ -29,17 +29,26 @@ pub fn canonical_book(alloc: Global, tree: &Tree) -> Result<Bytes2, AllocError>
     Ok(Bytes2::from_vec(writer.into_inner()))
 }
 
+/// The canonical text of the string, as one that stands in a tree.
+pub fn canonical_string(alloc: Global, text: &str) -> Result<Bytes2, AllocError>
+    ensures { IfOk result (λ canonical. canonical ≡ canon (string text.now)) }
+{
+    let mut writer = Writer::new(Vec::new(alloc));
+    writer.string(text)?;
+    Ok(Bytes2::from_vec(writer.into_inner()))
+}
+
 fn write_book(alloc: Global, writer: &mut Writer, tree: &Tree) -> Result<(), AllocError>
     ensures { OnOk result (Adds writer.old writer.new (value_tokens (unsigned_of (data_of tree.now)))) }
 {
     match tree {
-        Tree::Members(pairs) => write_unsigned(alloc, writer, pairs),
+        Tree::Members(pairs) => write_unsigned(alloc, writer, pairs.as_slice()),
         _ => write_tree(alloc, writer, tree),
     }
 }
 
-fn write_unsigned(alloc: Global, writer: &mut Writer, pairs: &Pairs) -> Result<(), AllocError>
-    ensures { OnOk result (Adds writer.old writer.new (value_tokens (unsigned_of (object (members_data pairs.now))))) }
+fn write_unsigned(alloc: Global, writer: &mut Writer, pairs: &[Pair]) -> Result<(), AllocError>
+    ensures { OnOk result (Adds writer.old writer.new (value_tokens (unsigned_of (object (pairs_data pairs.now))))) }
 {
     writer.begin_object()?;
     let order = places(alloc, pairs, true)?;
@@ -56,25 +65,25 @@ fn write_tree(alloc: Global, writer: &mut Writer, tree: &Tree) -> Result<(), All
         Tree::Flag(flag) => writer.boolean(*flag),
         Tree::Whole(n) => writer.i64(*n),
         Tree::Text(text) => writer.string(text.as_str()),
-        Tree::List(items) => write_items(alloc, writer, items),
-        Tree::Members(pairs) => write_pairs(alloc, writer, pairs),
+        Tree::List(items) => write_items(alloc, writer, items.as_slice()),
+        Tree::Members(pairs) => write_pairs(alloc, writer, pairs.as_slice()),
     }
 }
 
 #[cycle(write)]
-fn write_items(alloc: Global, writer: &mut Writer, items: &Items) -> Result<(), AllocError>
-    ensures { OnOk result (Adds writer.old writer.new (value_tokens (array (items_data items.now)))) }
+fn write_items(alloc: Global, writer: &mut Writer, items: &[Tree]) -> Result<(), AllocError>
+    ensures { OnOk result (Adds writer.old writer.new (value_tokens (items_data items.now))) }
 {
     writer.begin_array()?;
-    for tree in &items.items {
+    for tree in items {
         write_tree(alloc, writer, tree)?;
     }
     writer.end_array()
 }
 
 #[cycle(write)]
-fn write_pairs(alloc: Global, writer: &mut Writer, pairs: &Pairs) -> Result<(), AllocError>
-    ensures { OnOk result (Adds writer.old writer.new (value_tokens (object (members_data pairs.now)))) }
+fn write_pairs(alloc: Global, writer: &mut Writer, pairs: &[Pair]) -> Result<(), AllocError>
+    ensures { OnOk result (Adds writer.old writer.new (value_tokens (object (pairs_data pairs.now)))) }
 {
     writer.begin_object()?;
     write_members(alloc, writer, pairs)?;
@@ -83,8 +92,8 @@ fn write_pairs(alloc: Global, writer: &mut Writer, pairs: &Pairs) -> Result<(), 
 
 /// The members in the order of their names' units. Most stand in it.
 #[cycle(write)]
-fn write_members(alloc: Global, writer: &mut Writer, pairs: &Pairs) -> Result<(), AllocError>
-    ensures { OnOk result (Adds writer.old writer.new (sorted_tokens (members_data pairs.now))) }
+fn write_members(alloc: Global, writer: &mut Writer, pairs: &[Pair]) -> Result<(), AllocError>
+    ensures { OnOk result (Adds writer.old writer.new (sorted_tokens (pairs_data pairs.now))) }
 {
     if is_in_order(pairs) {
         return write_all(alloc, writer, pairs);
@@ -95,10 +104,10 @@ fn write_members(alloc: Global, writer: &mut Writer, pairs: &Pairs) -> Result<()
 
 /// The members as they stand.
 #[cycle(write)]
-fn write_all(alloc: Global, writer: &mut Writer, pairs: &Pairs) -> Result<(), AllocError>
-    ensures { OnOk result (Adds writer.old writer.new (flat_map pair_tokens (pairs_in pairs.now))) }
+fn write_all(alloc: Global, writer: &mut Writer, pairs: &[Pair]) -> Result<(), AllocError>
+    ensures { OnOk result (Adds writer.old writer.new (flat_map pair_tokens pairs.now)) }
 {
-    for pair in &pairs.pairs {
+    for pair in pairs {
         write_pair(alloc, writer, pair)?;
     }
     Ok(())
@@ -109,14 +118,14 @@ fn write_all(alloc: Global, writer: &mut Writer, pairs: &Pairs) -> Result<(), Al
 fn write_places(
     alloc: Global,
     writer: &mut Writer,
-    pairs: &Pairs,
+    pairs: &[Pair],
     order: &[usize],
 ) -> Result<(), AllocError>
-    requires { All (λ i. i < length (pairs_in pairs.now)) order.now }
-    ensures { OnOk result (Adds writer.old writer.new (flat_map (place_tokens (pairs_in pairs.now)) order.now)) }
+    requires { All (λ i. i < length pairs.now) order.now }
+    ensures { OnOk result (Adds writer.old writer.new (flat_map (place_tokens pairs.now) order.now)) }
 {
     for place in order {
-        write_pair(alloc, writer, &pairs.pairs[*place])?;
+        write_pair(alloc, writer, &pairs[*place])?;
     }
     Ok(())
 }

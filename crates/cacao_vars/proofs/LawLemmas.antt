@@ -25,7 +25,7 @@ last_write-push : (writes : List Write) (write : Write) (scope : ℕ) (name : Li
     → last_write (writes ++ write ∷ []) scope name ≡ cond ((write.scope == scope) && bytes_eq write.name name) (Some write) (last_write writes scope name)
 last_write-push writes write scope name = ap (find (λ (w : Write). (w.scope == scope) && bytes_eq w.name name)) (reverse-append writes (write ∷ []))
 
-value_at : (scopes : List Scope) (writes : List Write) (scope at : ℕ) (name : List ℕ) → home scopes scope name ≡ Some at
+pub value_at : (scopes : List Scope) (writes : List Write) (scope at : ℕ) (name : List ℕ) → home scopes scope name ≡ Some at
     → value scopes writes scope name ≡ written_or_declared (last_write writes at name) (declaration scopes at name)
 value_at scopes writes scope at name e =
     ap (option_and_then (λ h. written_or_declared (last_write writes h name) (declaration scopes h name))) e

@@ -3,3 +3,5 @@ pub mod ReferenceLemmas
 pub mod FirstLemmas
 pub mod OrderLemmas
 pub mod LawLemmas
+pub mod SearchLemmas
+pub mod OpenLemmas

@@ -1,5 +1,5 @@
 -- Scopes, what was written in them, and the value of a name.
-use Rattle.std.specs.Prelude.{◌≡◌, ℕ, zero, suc, ◌<◌, ◌==◌, ◌&&◌, IsTrue, List, [], ◌∷◌, ◌++◌, reverse, find, Option, Some, None, is_some, IfSome, IsSomeAnd, slice_get, option_and_then}
+use Rattle.std.specs.Prelude.{◌≡◌, ℕ, zero, suc, ◌<◌, ◌==◌, ◌&&◌, IsTrue, List, [], ◌∷◌, ◌++◌, reverse, length, find, Option, Some, None, is_some, IfSome, IsSomeAnd, slice_get, option_and_then}
 use Rattle.std.specs.Option.{option_map_or}
 use Rattle.std.specs.Str.{bytes_eq}
 use Rattle.cacao_vars.specs.declared.declarations.Var.{Var}
@@ -36,6 +36,10 @@ declaration scopes scope name = option_and_then (λ s. declared s.vars name) (sl
 abbrev pub home : List Scope → ℕ → List ℕ → Option ℕ
 home scopes scope name = find (λ s. is_some (declaration scopes s name)) (along scopes scope)
 
+-- the declaration of a name in its home
+abbrev pub home_declaration : List Scope → ℕ → List ℕ → Option Var
+home_declaration scopes scope name = option_and_then (λ h. declaration scopes h name) (home scopes scope name)
+
 -- the last write to a name in a scope
 abbrev pub last_write : List Write → ℕ → List ℕ → Option Write
 last_write writes scope name = find (λ write. (write.scope == scope) && bytes_eq write.name name) (reverse writes)
@@ -70,3 +74,16 @@ WritesOneValue = (scopes : List Scope) (writes : List Write) (at : ℕ) (name wo
     → let after : List Write = writes ++ (record { scope = at; name = name; worth = worth }) ∷ [] in
     (home scopes scope other ≡ Some at → other ≡ name → value scopes after scope other ≡ Some worth)
     × ((home scopes scope other ≡ Some at → other ≡ name → ⊥) → value scopes after scope other ≡ value scopes writes scope other)
+
+-- A scope that is opened leaves what each name has in the others. A name has in it what the scope declares of it, else what it has in the scope
+-- around it; nothing was written to it before.
+pub record OpensOneScope (scopes : List Scope) (writes : List Write) (parent : Option ℕ) (vars : List Var) : Type 0 where
+  pub others : (scope : ℕ) (name : List ℕ) → scope < length scopes → value (scopes ++ (record { parent = parent; vars = vars }) ∷ []) writes scope name ≡ value scopes writes scope name
+  pub own : (name : List ℕ) (var : Var) → last_write writes (length scopes) name ≡ None → declared vars name ≡ Some var
+      → value (scopes ++ (record { parent = parent; vars = vars }) ∷ []) writes (length scopes) name ≡ var.worth
+  pub around : (name : List ℕ) → declared vars name ≡ None
+      → value (scopes ++ (record { parent = parent; vars = vars }) ∷ []) writes (length scopes) name ≡ option_and_then (λ p. value scopes writes p name) parent
+
+abbrev pub ScopesOpen : Type 0
+ScopesOpen = (scopes : List Scope) (writes : List Write) (parent : Option ℕ) (vars : List Var) → HasParentsBefore scopes → IfSome parent (λ p. p < length scopes)
+    → OpensOneScope scopes writes parent vars

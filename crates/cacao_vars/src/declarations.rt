@@ -1,5 +1,5 @@
 //! Declarations of variables.
-ghost use Rattle.std.specs.Prelude.{◌≡◌, ◌↔◌, [], IsTrue, is_some, IfOk, OnOk, OnErr, None, insert, ◌≤◌, length};
+ghost use Rattle.std.specs.Prelude.{◌≡◌, ◌↔◌, [], IsTrue, IsSome, Ok, false, is_some, IfOk, OnOk, OnErr, None, insert, ◌≤◌, length};
 ghost use Rattle.std.specs.Option.{option_copied};
 
 use crate::kinds::Kind;
@@ -78,10 +78,11 @@ impl Vars {
     }
 
     /// Adds a declaration in its place and answers true. Where its name is declared it changes nothing and
-    /// answers false.
+    /// answers false, and takes no memory.
     pub fn insert(&mut self, var: Var) -> Result<bool, AllocError>
         ensures ok { OnOk result (self.new ≡ inserted self.old var) }
         ensures added { IfOk result (λ added. IsTrue added ↔ (declared self.old var.name ≡ None)) }
+        ensures kept { IsSome (declared self.old var.name) → result ≡ Ok false }
         ensures err { OnErr result (self.new ≡ self.old) }
     {
         if self.declares(&var.name) {
@@ -103,7 +104,7 @@ impl Vars {
     pub fn find(&self, name: &Name) -> Option<&Var>
         ensures { option_copied result ≡ declared self.now name.now }
     {
-        self.items.iter().find(|var| var.name == *name)
+        places::find_in(self.items.as_slice(), name)
     }
 }
 

@@ -1,8 +1,8 @@
 //! References to variables in texts.
-ghost use Rattle.std.specs.Prelude.{◌≡◌, ◌+◌, ◌<◌, ◌≤◌, ◌++◌, None, Some, ℕ, ◌↔◌, IsTrue, IfNone, IfSome, codes, MatchOption, slice_index, true, false, length, take, drop};
+ghost use Rattle.std.specs.Prelude.{◌≡◌, ◌≢◌, List, ◌+◌, ◌<◌, ◌≤◌, ◌++◌, None, Some, ℕ, ◌↔◌, IsTrue, IfNone, IfSome, codes, MatchOption, slice_index, true, false, length, take, drop};
 ghost use Rattle.std.specs.List.{list_all};
 ghost use Rattle.cacao_vars.specs.Names.{IsName, is_name_character};
-ghost use Rattle.cacao_vars.specs.References.{BeginsWithReference, HasReferenceAt, HasNoReference, StandsAt, IsFirstReference, IsExactFront, first_reference};
+ghost use Rattle.cacao_vars.specs.References.{reference_text, BeginsWithReference, HasReferenceAt, HasNoReference, StandsAt, IsFirstReference, IsExactFront, first_reference};
 
 use crate::variable_names::{is_name, is_name_byte};
 
@@ -95,4 +95,17 @@ pub fn find_reference(text: &str) -> Option<Reference<'_>>
         name: &text[place..place + len],
         rest: &text[place + len + 6..],
     })
+}
+
+/// The name, where the text is exactly one reference; None where it is not. It takes no memory.
+pub fn whole_reference(text: &str) -> Option<&str>
+    ensures { MatchOption result ((name : List ℕ) → IsName name → text.now ≢ reference_text name)
+        (λ name. IsName name.now × (text.now ≡ reference_text name.now)) }
+{
+    let name = text.strip_suffix(":value")?;
+    if is_name(name.as_bytes()) {
+        Some(name)
+    } else {
+        None
+    }
 }

@@ -72,7 +72,7 @@ impl Model for Scopes {
 mod lookups;
 
 impl Scopes {
-    ghost use Rattle.cacao_vars.specs.Scopes.{HasParentsBefore, home, declaration, value, IsConstant, with_write, with_scope};
+    ghost use Rattle.cacao_vars.specs.Scopes.{HasParentsBefore, home, declaration, home_declaration, value, IsConstant, with_write, with_scope};
 
     /// No scopes and no writes. It takes no memory.
     pub fn new(alloc: Global) -> Scopes
@@ -124,6 +124,16 @@ impl Scopes {
             Some(write) => Some(&write.worth),
             None => lookups::declaration_in(scopes, home, name)?.worth.as_ref(),
         }
+    }
+
+    /// The declaration of a name in its home; None where it has none. It takes no memory.
+    pub fn declared(&self, scope: u32, name: &Name) -> Option<&Var>
+        requires { scope < length self.now.scopes }
+        ensures { option_copied result ≡ home_declaration self.now.scopes scope name.now }
+    {
+        let scopes = self.scopes.as_slice();
+        let home = lookups::home_of(scopes, scope, name)?;
+        lookups::declaration_in(scopes, home, name)
     }
 
     /// Writes a text to a name in its home. A refusal changes nothing.

@@ -1,5 +1,4 @@
 pub mod Choices
-pub mod Decimals
 pub mod TextParts
 pub mod Ipv4Lemmas
 pub mod Ipv6Lemmas

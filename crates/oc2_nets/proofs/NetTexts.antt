@@ -2,10 +2,11 @@
 use Rattle.std.proofs.Common.{◌≡◌, ◌<◌, ◌^◌, ℕ, List, [], ◌∷◌, Some, None, length, eqb, option_map, refl, sym, ap, ◌∙◌, subst, arith}
 use Rattle.std.specs.List.{join_with_byte}
 use Rattle.std.proofs.lemmas.List.Splits.{length-slice_split}
-use Rattle.oc2_nets.specs.Texts.{parts, number}
+use Rattle.oc2_nets.specs.Texts.{parts}
+use Rattle.decimals.specs.Numbers.{number}
 use Rattle.oc2_nets.specs.Nets.{split_width}
-use Rattle.oc2_nets.proofs.Decimals.{number_sound}
-use Rattle.oc2_nets.proofs.Choices.{none_if}
+use Rattle.decimals.proofs.Decimals.{number_sound}
+use Rattle.decimals.proofs.Choices.{none_if}
 use Rattle.oc2_nets.proofs.TextParts.{Lacks, joined_parts, parts_one}
 use Rattle.oc2_nets.proofs.Ipv4Lemmas.{decimal_lacks}
 

@@ -9,7 +9,8 @@ use Rattle.oc2_nets.specs.declared.packets.Address.{Address}
 use Rattle.oc2_nets.specs.declared.packets.Address.TheVariants.{V4, V6}
 use Rattle.oc2_nets.specs.Bits.{cleared}
 use Rattle.oc2_nets.specs.NetFacts.{min_is_width, cleared_is_cleared}
-use Rattle.oc2_nets.specs.Texts.{◌>>=◌, slash, colon, parts, number}
+use Rattle.oc2_nets.specs.Texts.{◌>>=◌, slash, colon, parts}
+use Rattle.decimals.specs.Numbers.{number}
 use Rattle.oc2_nets.specs.Ipv4.{address4}
 use Rattle.oc2_nets.specs.Ipv6.{address6}
 

@@ -5,7 +5,8 @@ use Rattle.oc2_nets.specs.declared.packets.Protocol.TheVariants.{Icmp, Tcp, Udp,
 use Rattle.oc2_nets.specs.declared.packets.Address.{Address}
 use Rattle.oc2_nets.specs.declared.packets.Address.TheVariants.{V4, V6}
 use Rattle.oc2_nets.specs.declared.packets.Packet.{Packet}
-use Rattle.oc2_nets.specs.Texts.{◌>>=◌, space, parts, number}
+use Rattle.oc2_nets.specs.Texts.{◌>>=◌, space, parts}
+use Rattle.decimals.specs.Numbers.{number}
 use Rattle.oc2_nets.specs.Ipv4.{address4}
 use Rattle.oc2_nets.specs.Ipv6.{address6}
 

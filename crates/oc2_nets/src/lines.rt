@@ -5,7 +5,8 @@ ghost use Rattle.oc2_nets.specs.Packets.{outward_of, protocol_of, port_of, addre
 ghost use Rattle.oc2_nets.specs.Words.{seven_words};
 
 use crate::packets::{Address, Packet, Protocol};
-use crate::texts::{cut, read_address4, read_address6, read_number};
+use crate::texts::{cut, read_address4, read_address6};
+use decimals::read_number;
 
 /// The greatest moment of a line, in milliseconds.
 const MOST_MOMENT: u64 = 9_000_000_000_000_000;
@@ -44,7 +45,7 @@ fn read_port(protocol: Protocol, text: &str) -> Option<u16>
     if protocol == Protocol::Icmp && text == "-" {
         return Some(0);
     }
-    let port = read_number(text, 65_535)?;
+    let port = read_number(text.as_bytes(), 65_535)?;
     Some(port as u16)
 }
 
@@ -120,7 +121,7 @@ fn read_words(line: &str) -> Option<Words<'_>>
 fn read_fields(words: Words<'_>) -> Option<(u64, Packet)>
     ensures { result ≡ packet_at (seven_words words.entry) }
 {
-    let moment = read_number(words.moment, MOST_MOMENT)?;
+    let moment = read_number(words.moment.as_bytes(), MOST_MOMENT)?;
     let outward = read_outward(words.direction)?;
     let protocol = read_protocol(words.protocol)?;
     let from_port = read_port(protocol, words.source_port)?;

@@ -7,7 +7,8 @@ ghost use Rattle.oc2_nets.specs.Nets.{split_width, net4_of, net6_of, net4_text, 
 use crate::ipv4_nets::Net4;
 use crate::ipv6_nets::Net6;
 use crate::net_texts::NetText;
-use crate::texts::{cut, read_address4, read_address6, read_number};
+use crate::texts::{cut, read_address4, read_address6};
+use decimals::read_number;
 use std::alloc::{AllocError, Global};
 use std::net::Ipv4Addr;
 
@@ -19,7 +20,7 @@ fn split_width(text: &str, most: u8) -> Option<(&str, u8)>
     let Some((address, width)) = cut(text, '/') else {
         return Some((text, most));
     };
-    let width = read_number(width, most as u64)?;
+    let width = read_number(width.as_bytes(), most as u64)?;
     Some((address, width as u8))
 }
 

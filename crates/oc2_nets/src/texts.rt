@@ -1,30 +1,10 @@
-// Texts in parts, and numbers in decimal.
-ghost use Rattle.std.specs.Prelude.{◌≡◌, ◌<◌, ◌∷◌, [], ◌==◌, MatchOption, IfSome, ◌≤◌, IsTrue, ◌↔◌};
-ghost use Rattle.oc2_nets.specs.Texts.{parts, number, MayBegin};
+// Texts in parts, and addresses.
+ghost use Rattle.std.specs.Prelude.{◌≡◌, ◌<◌, ◌∷◌, [], ◌==◌, MatchOption};
+ghost use Rattle.oc2_nets.specs.Texts.{parts};
 ghost use Rattle.oc2_nets.specs.Ipv4.{address4};
 ghost use Rattle.oc2_nets.specs.Ipv6.{address6};
 
 use std::net::{Ipv4Addr, Ipv6Addr};
-
-fn may_begin(bytes: &[u8]) -> bool
-    ensures { IsTrue result ↔ MayBegin bytes.now }
-{
-    !bytes.is_empty() && bytes[0] != b'+' && (bytes[0] != b'0' || bytes.len() == 1)
-}
-
-/// The number of at most `most` that a text is in decimal, with neither a sign nor a leading zero.
-pub fn read_number(text: &str, most: u64) -> Option<u64>
-    ensures value { result ≡ number most text.now }
-    ensures fits { IfSome result (λ n. n ≤ most) }
-{
-    if !may_begin(text.as_bytes()) {
-        return None;
-    }
-    match text.parse::<u64>() {
-        Ok(value) => (value <= most).then_some(value),
-        Err(_) => None,
-    }
-}
 
 /// What stands before the first separator, and what stands behind it.
 pub fn cut(text: &str, separator: char) -> Option<(&str, &str)>

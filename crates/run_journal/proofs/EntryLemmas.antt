@@ -1,11 +1,11 @@
 -- One entry more in the layout of a list.
-use Rattle.std.proofs.Common.{◌≡◌, inl, inr, ⊎_elim, ℕ, ◌+◌, ◌/◌, ◌%◌, ◌≤◌, ◌<◌, List, [], ◌∷◌, ◌++◌, length, refl, sym, ◌∙◌, ap, subst, arith, append_assoc, length-append, All}
-use Rattle.std.proofs.lemmas.List.{append-nil}
+use Rattle.std.proofs.Common.{◌≡◌, inl, inr, ⊎_elim, ℕ, zero, suc, take, get_or, ◌+◌, ◌/◌, ◌%◌, ◌≤◌, ◌<◌, List, [], ◌∷◌, ◌++◌, length, refl, sym, ◌∙◌, ap, subst, arith, append_assoc, length-append, All, IsTrue}
+use Rattle.std.proofs.lemmas.List.{append-nil, take_more}
 use Rattle.std.proofs.lemmas.List.Elements.{All-nil, All-push}
 use Rattle.cacao_site.specs.View.{DiskView}
 use Rattle.cacao_site.specs.DiskCalls.{IsLeft, EachBeat, AllLeft}
-use Rattle.cacao_site.proofs.Beats.{each-weaken}
-use Rattle.run_journal.specs.Layout.{header, length_field, entries, front, IsClosed, HasOpened, IsClosedOrOpened, HasLayout, BeforeOrAfter, block_for, length_of, Entries, IsShort, most_entry}
+use Rattle.cacao_site.proofs.Beats.{each-weaken, each-now}
+use Rattle.run_journal.specs.Layout.{header, length_field, entries, front, IsClosed, HasOpened, IsClosedOrOpened, HasLayout, IsWithin, BeforeOrAfter, block_for, length_of, Entries, IsShort, most_entry}
 
 pub entries-push : (items : List (List ℕ)) (item : List ℕ) → entries (items ++ item ∷ []) ≡ entries items ++ 1 ∷ (length_field (length item) ++ item)
 unfolding entries
@@ -40,25 +40,39 @@ opened_is items item image has =
           ∙ ap (λ (l : List ℕ). l ++ 0 ∷ has.0) (sym (front-push items item));
     }
 
-pub opened_layout : (items : List (List ℕ)) (item image : List ℕ) → All IsShort items → IsShort item → HasOpened (front items) (block_for item) image → HasLayout (items ++ item ∷ []) image
-opened_layout items item image short fits has = record { short = All-push IsShort items item short fits; closed = opened_is items item image has }
+pub opened_layout : (items : List (List ℕ)) (item image : List ℕ) → All IsShort items → IsShort item → IsWithin image → HasOpened (front items) (block_for item) image → HasLayout (items ++ item ∷ []) image
+opened_layout items item image short fits within has = record { short = All-push IsShort items item short fits; closed = opened_is items item image has; within = within }
+
+each-both : {a b : DiskView} {file : ℕ} {P Q : List ℕ → Type 0} → EachBeat file a b P → EachBeat file a b Q → EachBeat file a b (λ image. P image × Q image)
+each-both p q = record {
+  goes_on = p.goes_on;
+  each = λ told beat image from until left. (p.each told beat image from until left, q.each told beat image from until left);
+}
 
 -- what holds of the blocks holds of the lists, where the file and the block are told by equations
 module _ (a b : DiskView) (file inside_file gate : ℕ) (items : List (List ℕ)) (item block : List ℕ) (file_is : inside_file ≡ file) (size : length (front items) ≡ gate) (block_is : block ≡ block_for item) (short : All IsShort items) (fits : IsShort item) (ready : AllLeft file a (HasLayout items)) where
   closed : AllLeft inside_file a (IsClosed (front items))
   closed told image left = (ready told image (subst (λ f. IsLeft a f a.beat image) file_is left)).closed
 
-  pub append_beats : ((start : List ℕ) → length start ≡ gate → AllLeft inside_file a (IsClosed start) → EachBeat inside_file a b (IsClosedOrOpened start block)) → EachBeat file a b (BeforeOrAfter items item)
-  append_beats beats =
+  within : AllLeft inside_file a IsWithin
+  within told image left = (ready told image (subst (λ f. IsLeft a f a.beat image) file_is left)).within
+
+  pub append_beats : ((start : List ℕ) → length start ≡ gate → AllLeft inside_file a (IsClosed start) → EachBeat inside_file a b (IsClosedOrOpened start block))
+      → (AllLeft inside_file a IsWithin → EachBeat inside_file a b IsWithin) → EachBeat file a b (BeforeOrAfter items item)
+  append_beats beats stays_within =
       let inside : EachBeat inside_file a b (IsClosedOrOpened (front items) block) = beats (front items) size closed in
       let for_item : EachBeat inside_file a b (IsClosedOrOpened (front items) (block_for item)) = subst (λ (l : List ℕ). EachBeat inside_file a b (IsClosedOrOpened (front items) l)) block_is inside in
-      each-weaken (subst (λ f. EachBeat f a b (IsClosedOrOpened (front items) (block_for item))) file_is for_item)
-      (λ told image. ⊎_elim (λ shut. inl (record { short = short; closed = shut })) (λ has. inr (opened_layout items item image short fits has)))
+      let both : EachBeat inside_file a b (λ image. IsClosedOrOpened (front items) (block_for item) image × IsWithin image) = each-both for_item (stays_within within) in
+      each-weaken (subst (λ f. EachBeat f a b (λ image. IsClosedOrOpened (front items) (block_for item) image × IsWithin image)) file_is both)
+      (λ told image has. ⊎_elim (λ shut. inl (record { short = short; closed = shut; within = has.1 })) (λ open_gate. inr (opened_layout items item image short fits has.1 open_gate)) has.0)
 
-  pub append_durable : ((start : List ℕ) → length start ≡ gate → AllLeft inside_file a (IsClosed start) → AllLeft inside_file b (HasOpened start block)) → AllLeft file b (HasLayout (items ++ item ∷ []))
-  append_durable has told image left =
+  pub append_durable : ((start : List ℕ) → length start ≡ gate → AllLeft inside_file a (IsClosed start) → AllLeft inside_file b (HasOpened start block))
+      → (AllLeft inside_file a IsWithin → EachBeat inside_file a b IsWithin) → AllLeft file b (HasLayout (items ++ item ∷ []))
+  append_durable has stays_within told image left =
       let left_inside : IsLeft b inside_file b.beat image = subst (λ f. IsLeft b f b.beat image) (sym file_is) left in
-      opened_layout items item image short fits (subst (λ (l : List ℕ). HasOpened (front items) l image) block_is (has (front items) size closed told image left_inside))
+      let beats : EachBeat inside_file a b IsWithin = stays_within within in
+      let short_image : IsWithin image = each-now beats (subst IsTrue beats.goes_on.told told) image left_inside in
+      opened_layout items item image short fits short_image (subst (λ (l : List ℕ). HasOpened (front items) l image) block_is (has (front items) size closed told image left_inside))
 
 -- four bytes and the length that they say
 pub field_of : (a b c d : ℕ) → a < 256 → b < 256 → c < 256 → d < 256 → length_field (length_of a b c d) ≡ a ∷ b ∷ c ∷ d ∷ []
@@ -83,3 +97,26 @@ entries_more bytes items rest item after so_far short is = record {
       ∙ sym (append_assoc (entries items) (1 ∷ (length_field (length item) ++ item)) after)
       ∙ ap (λ (l : List ℕ). l ++ after) (sym (entries-push items item));
 }
+
+-- ---- places
+
+-- one entry more of a list
+pub length-front-next : (items : List (List ℕ)) (i place size : ℕ) (item : List ℕ) → i < length items → item ≡ get_or items i item → size ≡ length item → place ≡ length (front (take i items))
+    → place + (5 + size) ≡ length (front (take (i + 1) items))
+length-front-next items i place size item lt is long so_far =
+    let next : length (front (take (i + 1) items)) ≡ length (front (take i items)) + (5 + length (get_or items i item)) =
+    ap (λ (l : List (List ℕ)). length (front l)) (take_more items i item lt) ∙ length-front-push (take i items) (get_or items i item) in
+    let same : length (get_or items i item) ≡ length item = ap length (sym is) in
+    omega arith
+
+-- a front of a list takes no more bytes
+entries-le : (i : ℕ) (items : List (List ℕ)) → length (entries (take i items)) ≤ length (entries items)
+unfolding entries
+entries-le zero items = omega arith
+entries-le (suc i) [] = omega arith
+entries-le (suc i) (x ∷ items) =
+    omega (arith, entries-le i items, length-append (1 ∷ (length_field (length x) ++ x)) (entries (take i items)), length-append (1 ∷ (length_field (length x) ++ x)) (entries items))
+
+pub front-le : (i : ℕ) (items : List (List ℕ)) → length (front (take i items)) ≤ length (front items)
+unfolding front
+front-le i items = omega (arith, entries-le i items, length-append header (entries (take i items)), length-append header (entries items))

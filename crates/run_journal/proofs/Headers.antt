@@ -10,7 +10,7 @@ use Rattle.run_journal.specs.Layout.{header, length_field, entries, front, Entri
 -- the header and a closed gate
 pub blank_layout : (image : List ℕ) → image ≡ header ++ 0 ∷ [] → HasLayout [] image
 unfolding front entries
-blank_layout image is = record { short = All-nil IsShort; closed = record { gate = 0; rest = []; shut = omega arith; is = is } }
+blank_layout image is = record { short = All-nil IsShort; closed = record { gate = 0; rest = []; shut = omega arith; is = is }; within = omega (arith, ap length is) }
 
 -- while it is written, where the file and the list are told by equations
 module _ (a b : DiskView) (file inside_file : ℕ) (items : List (List ℕ)) (file_is : inside_file ≡ file) (blank : items ≡ []) (short : AllLeft file a (λ image. length image ≤ 9)) where

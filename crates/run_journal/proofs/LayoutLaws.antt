@@ -6,7 +6,7 @@ use Rattle.run_journal.specs.Layout.{header, entries, front, length_field, IsBro
 use Rattle.run_journal.proofs.Unique.{NoEntry, no_entry_closed, field_inverse, same_back, unique}
 
 -- what stands behind the header
-behind_header : (xs ys : List (List ℕ)) (r s : List ℕ) → front xs ++ r ≡ front ys ++ s → entries xs ++ r ≡ entries ys ++ s
+pub behind_header : (xs ys : List (List ℕ)) (r s : List ℕ) → front xs ++ r ≡ front ys ++ s → entries xs ++ r ≡ entries ys ++ s
 unfolding front
 behind_header xs ys r s e = same_back header header (entries xs ++ r) (entries ys ++ s) refl (sym (append_assoc header (entries xs) r) ∙ e ∙ append_assoc header (entries ys) s)
 
@@ -19,9 +19,9 @@ pub one_list : OneList
 one_list image xs ys (inl p) (inl q) = p.1 ∙ sym q.1
 one_list image xs ys (inl p) (inr q) = absurd (omega (arith, p.0, q.0))
 one_list image xs ys (inr p) (inl q) = absurd (omega (arith, p.0, q.0))
-one_list image xs ys (inr p) (inr q) = same_items image xs ys p.2 q.2
+one_list image xs ys (inr p) (inr q) = same_items image xs ys p.1 q.1
 
-no_entry_broken : (rest : List ℕ) → IsBroken rest → NoEntry rest
+pub no_entry_broken : (rest : List ℕ) → IsBroken rest → NoEntry rest
 no_entry_broken rest broken x after short e =
     let whole : IsBroken ((1 ∷ length_field (length x)) ++ x ++ after) = subst IsBroken e broken in
     let size = field_inverse (length x) short in
@@ -53,8 +53,8 @@ header_at image items place lt layout =
 
 pub no_list_where_damaged : NoListWhereDamaged
 no_list_where_damaged image place items (inl big) (inl low) = omega (arith, big.0, low.0)
-no_list_where_damaged image place items (inl big) (inr high) = omega (arith, big.0, high.1)
+no_list_where_damaged image place items (inl big) (inr high) = omega (arith, big.0, high.1.within)
 no_list_where_damaged image place items (inr (inl differs)) (inl low) = omega (arith, differs.0, low.0)
-no_list_where_damaged image place items (inr (inl differs)) (inr high) = differs.4 (header_at image items place differs.2 high.2)
+no_list_where_damaged image place items (inr (inl differs)) (inr high) = differs.4 (header_at image items place differs.2 high.1)
 no_list_where_damaged image place items (inr (inr breaks)) (inl low) = omega (arith, breaks.0, low.0)
-no_list_where_damaged image place items (inr (inr breaks)) (inr high) = not_broken image place items breaks.2 high.2
+no_list_where_damaged image place items (inr (inr breaks)) (inr high) = not_broken image place items breaks.2 high.1

@@ -4,3 +4,4 @@ pub mod Headers
 pub mod LayoutLaws
 pub mod Tears
 pub mod Unique
+pub mod PlaceLaws

@@ -5,8 +5,8 @@ use Rattle.std.proofs.lemmas.Bool.{cases_eq}
 use Rattle.cacao_site.specs.DiskCalls.{Torn, Written}
 use Rattle.cacao_site.specs.View.{DiskView}
 use Rattle.cacao_site.specs.DiskCalls.{IsLeft, IsDurable, EachBeat, AllLeft, TornSince}
-use Rattle.cacao_site.proofs.Beats.{each-weaken, each-more}
-use Rattle.run_journal.specs.Layout.{IsClosed, HasOpened, IsClosedOrOpened}
+use Rattle.cacao_site.proofs.Beats.{each-weaken, each-more, each-trans, each-now}
+use Rattle.run_journal.specs.Layout.{IsClosed, HasOpened, IsClosedOrOpened, IsWithin, most_image}
 
 pub same_list : (xs ys : List ℕ) → length xs ≡ length ys → ((k : ℕ) → k < length xs → get_or xs k 0 ≡ get_or ys k 0) → xs ≡ ys
 same_list [] [] e h = refl
@@ -133,6 +133,14 @@ opened start block old new at where_ s written =
     let at_gate : get_or new (length start) 0 ≡ 1 = ap (λ (n : ℕ). get_or new n 0) (omega (arith, where_)) ∙ written.there 0 (omega arith) in
     let same : left.0 ≡ 1 = at_gate in
     (s.rest, left.1 ∙ ap (λ (x : ℕ). start ++ x ∷ (block ++ s.rest)) same)
+
+-- a write within the bound leaves each image within it
+pub within_torn : {a b : DiskView} {file at size : ℕ} → at + size ≤ most_image → AllLeft file a IsWithin → TornSince file at size a b → EachBeat file a b IsWithin
+within_torn fits all torn = each-weaken torn (λ told image from. let low : length from.0 ≤ most_image = all told from.0 from.1 in omega (arith, low, from.2.no_longer))
+
+-- and so does a further one
+pub within_both : {a b c : DiskView} {file at size : ℕ} → at + size ≤ most_image → EachBeat file a b IsWithin → TornSince file at size b c → EachBeat file a c IsWithin
+within_both fits first torn = each-trans first (within_torn fits (λ told. each-now first (subst IsTrue first.goes_on.told told)) torn)
 
 -- both, one after the other
 pub first_beats : {a b : DiskView} {file gate : ℕ} (start block : List ℕ) → length start ≡ gate → AllLeft file a (IsClosed start) → TornSince file (gate + 1) (length block) a b → EachBeat file a b (IsClosedOrOpened start block)

@@ -47,17 +47,25 @@ IsClosedOrOpened start block image = IsClosed start image ⊎ HasOpened start bl
 abbrev pub IsShort : List ℕ → Type 0
 IsShort item = length item ≤ most_entry
 
--- the header, the entries and a closed gate
+-- the image is no longer than a file may be
+abbrev pub IsWithin : List ℕ → Type 0
+IsWithin image = length image ≤ most_image
+
+-- the header, the entries and a closed gate, in an image that is not too long
 pub record HasLayout (items : List (List ℕ)) (image : List ℕ) : Type 0 where
   pub short : All IsShort items
   pub closed : IsClosed (front items) image
+  pub within : IsWithin image
 
 -- an image of at most 9 bytes stands for the empty list, and a longer one by its layout
 abbrev pub Stands : List ℕ → List (List ℕ) → Type 0
-Stands image items = ((length image ≤ 9) × (items ≡ [])) ⊎ ((9 < length image) × (length image ≤ most_image) × HasLayout items image)
+Stands image items = ((length image ≤ 9) × (items ≡ [])) ⊎ ((9 < length image) × HasLayout items image)
 
 abbrev pub BeforeOrAfter : List (List ℕ) → List ℕ → List ℕ → Type 0
 BeforeOrAfter items item image = HasLayout items image ⊎ HasLayout (items ++ item ∷ []) image
+
+abbrev pub StandsBeforeOrAfter : List (List ℕ) → List ℕ → List ℕ → Type 0
+StandsBeforeOrAfter items item image = Stands image items ⊎ Stands image (items ++ item ∷ [])
 
 -- what is written behind the gate: the length, the entry and a closed gate
 abbrev pub block_for : List ℕ → List ℕ

@@ -3,16 +3,14 @@ ghost use Rattle.std.specs.Prelude.{◌≡◌, ◌≢◌, ◌⊎◌, ◌↔◌, 
 ghost use Rattle.cacao_site.specs.Counts.{Rose};
 ghost use Rattle.cacao_site.specs.DiskCalls.{StaysAt, SameRest, EachBeat, AllLeft};
 ghost use Rattle.run_journal.specs.JournalView.{JournalView};
-ghost use Rattle.run_journal.specs.Layout.{HasLayout, BeforeOrAfter, front, block_for, length_field};
+ghost use Rattle.run_journal.specs.Layout.{HasLayout, Stands, BeforeOrAfter, StandsBeforeOrAfter, front, block_for, length_field};
 
 use crate::error::JournalError;
 use crate::journal::Journal;
+use crate::layout::MOST_IMAGE;
 use crate::room::push_in_room;
 use crate::store::add_block;
 use cacao_site::{Bytes, Disk};
-
-/// The most bytes that a file may have up to its closed gate.
-const MOST: u64 = 67_108_864;
 
 impl Journal {
     /// Adds an entry at the end. At Ok it is durable.
@@ -28,9 +26,14 @@ impl Journal {
         // At each beat every image has the list before, or that list and the item.
         ensures each_beat { self.old.broken ≡ false
             → EachBeat self.old.file (D.view disk.old).disk (D.view disk.new).disk (BeforeOrAfter self.old.items item) }
+        ensures each_stands { self.old.broken ≡ false
+            → EachBeat self.old.file (D.view disk.old).disk (D.view disk.new).disk (StandsBeforeOrAfter self.old.items item) }
         ensures ok { OnOk result (self.new ≡ record self.old { items = self.old.items ++ item ∷ []; spare = 0 }) }
         ensures durable { OnOk result
             (AllLeft self.old.file (D.view disk.new).disk (HasLayout (self.old.items ++ item ∷ []))) }
+
+        ensures stands { OnOk result
+            (AllLeft self.old.file (D.view disk.new).disk (λ image. Stands image (self.old.items ++ item ∷ []))) }
 
         ensures others { (other : ℕ) → other ≢ self.old.file → StaysAt (D.view disk.old).disk (D.view disk.new).disk other }
         ensures rest { SameRest (D.view disk.old) (D.view disk.new) }
@@ -53,7 +56,7 @@ impl Journal {
         }
         let size = item.len() as u64;
         let length = self.gate + 6 + size;
-        if length > MOST {
+        if length > MOST_IMAGE {
             return Err(JournalError::Full { length });
         }
         fill_block(&mut self.block, item.as_slice());

@@ -1,5 +1,5 @@
 // The entries of one file.
-ghost use Rattle.std.specs.Prelude.{◌≡◌, ◌<◌, ◌≤◌, [], length, All, false, true, OnOk, OnErr, IsErrOf, Err, slice_index_or};
+ghost use Rattle.std.specs.Prelude.{◌≡◌, ◌<◌, ◌≤◌, [], length, take, All, false, true, OnOk, OnErr, IsErrOf, Err, slice_index_or};
 ghost use Rattle.run_journal.specs.Layout.{front, IsShort};
 ghost use Rattle.run_journal.specs.JournalView.{JournalView};
 
@@ -35,6 +35,19 @@ impl Model for Journal {
     ghost view = { journal_view };
 
     ghost invariant = { IsKept };
+}
+
+/// How many bytes the header and these entries take.
+#[tactic(auto, unfolding(crate::specs::Layout::front, crate::specs::Layout::entries))]
+fn place_in(items: &[Bytes]) -> u64
+    requires { length (front items.now) < 67_108_864 }
+    ensures { result ≡ length (front items.now) }
+{
+    let mut place = 8;
+    for item in items {
+        place += 5 + item.len() as u64;
+    }
+    place
 }
 
 impl Journal {
@@ -99,6 +112,14 @@ impl Journal {
         self.items[n as usize].as_slice()
     }
 
+    /// The place of the gate of an entry, in bytes from the start of the file; behind the last entry, that of the closed gate.
+    pub fn place(&self, n: u32) -> u64
+        requires { n ≤ length self.now.items }
+        ensures { result ≡ length (front (take n self.now.items)) }
+    {
+        place_in(&self.items[..n as usize])
+    }
+
     /// How many entries there are.
     pub fn count(&self) -> u32
         ensures { result ≡ length self.now.items }
@@ -106,10 +127,18 @@ impl Journal {
         self.items.len() as u32
     }
 
-    /// Whether the header stands, so that entries can be appended.
+    /// Whether the header stands, so that entries can be appended. Where it does not, there are no entries.
     pub fn is_prepared(&self) -> bool
-        ensures { result ≡ self.now.prepared }
+        ensures prepared { result ≡ self.now.prepared }
+        ensures blank { self.now.prepared ≡ false → self.now.items ≡ [] }
     {
         self.prepared
+    }
+
+    /// Whether a call of this value answered `Disk`, so that the file is to be opened again.
+    pub fn is_broken(&self) -> bool
+        ensures { result ≡ self.now.broken }
+    {
+        self.broken
     }
 }

@@ -6,6 +6,7 @@ mod blocks;
 pub mod error;
 pub mod journal;
 pub mod laws;
+mod layout;
 mod opening;
 mod prepare;
 mod reader;

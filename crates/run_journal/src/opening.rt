@@ -8,12 +8,10 @@ ghost use Rattle.run_journal.specs.Layout.{Stands, IsDamagedAt};
 use crate::blocks::read_image;
 use crate::error::JournalError;
 use crate::journal::Journal;
+use crate::layout::MOST_IMAGE;
 use crate::reader::read_list;
 use cacao_site::Disk;
 use std::alloc::Global;
-
-/// The most bytes of an image that stands for a list.
-const MOST: u64 = 67_108_864;
 
 impl Journal {
     /// Syncs the file, and then reads it block after block. It writes nothing.
@@ -50,8 +48,8 @@ impl Journal {
         let Ok(size) = disk.length(file) else {
             return Err(JournalError::Disk);
         };
-        if size > MOST {
-            return Err(JournalError::Damaged { place: MOST });
+        if size > MOST_IMAGE {
+            return Err(JournalError::Damaged { place: MOST_IMAGE });
         }
         let image = match read_image(alloc, disk, file, size) {
             Ok(image) => image,

@@ -7,11 +7,9 @@ ghost use Rattle.run_journal.specs.Layout.{HasLayout, Stands};
 
 use crate::error::JournalError;
 use crate::journal::Journal;
+use crate::layout::BLANK;
 use crate::store::write_and_sync;
 use cacao_site::Disk;
-
-/// The header and a closed gate.
-static BLANK: [u8; 9] = [67, 65, 67, 65, 79, 74, 49, 10, 0];
 
 impl Journal {
     /// Writes the header with a closed gate and syncs, where it is to be written; else does nothing.
@@ -19,12 +17,12 @@ impl Journal {
     /// It is to be written where the file had at most 9 bytes when it was opened and this value has not prepared it
     /// since. Takes no memory.
     pub fn prepare<D: Disk>(&mut self, disk: &mut D) -> Result<(), JournalError>
-        requires stands { self.old.broken ≡ false → AllLeft self.old.file (D.view disk.old).disk (λ image. Stands image self.old.items) }
-        requires short { self.old.broken ≡ false → self.old.prepared ≡ false
+        requires { self.old.broken ≡ false → self.old.prepared ≡ false
             → AllLeft self.old.file (D.view disk.old).disk (λ image. length image ≤ 9) }
 
-        // At each beat every image stands for the value's list.
+        // At each beat every image stands for the value's list, as it did before.
         ensures each_beat { self.old.broken ≡ false
+            → AllLeft self.old.file (D.view disk.old).disk (λ image. Stands image self.old.items)
             → EachBeat self.old.file (D.view disk.old).disk (D.view disk.new).disk (λ image. Stands image self.old.items) }
         ensures written { OnOk result (self.old.prepared ≡ false
             → AllLeft self.old.file (D.view disk.new).disk (HasLayout self.old.items)) }

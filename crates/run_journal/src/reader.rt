@@ -3,14 +3,9 @@ ghost use Rattle.std.specs.Prelude.{◌≡◌, ◌≢◌, ◌≤◌, ◌<◌, �
 ghost use Rattle.run_journal.specs.Layout.{Entries, HasLayout, IsBroken, IsDamagedAt, front, header, length_of, length_field, most_entry};
 
 use crate::error::JournalError;
+use crate::layout::{HEADER, MOST_ENTRY};
 use cacao_site::Bytes;
 use std::alloc::{AllocError, Global};
-
-/// The most bytes of an entry.
-const MOST_ENTRY: usize = 17_829_888;
-
-/// The eight bytes `CACAOJ1` and a line feed.
-static HEADER: [u8; 8] = [67, 65, 67, 65, 79, 74, 49, 10];
 
 /// The entries of an image, and the place of its closed gate.
 #[derive(Drop)]

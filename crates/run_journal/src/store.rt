@@ -2,7 +2,7 @@
 ghost use Rattle.std.specs.Prelude.{◌≡◌, ◌≢◌, ◌+◌, ◌≤◌, ℕ, List, length, IsTrue, OnOk, OnErr};
 ghost use Rattle.cacao_site.specs.Counts.{Rose};
 ghost use Rattle.cacao_site.specs.DiskCalls.{GoesOn, StaysAt, SameRest, Written, IsDurable, EachBeat, AllLeft, TornSince};
-ghost use Rattle.run_journal.specs.Layout.{IsClosed, HasOpened, IsClosedOrOpened};
+ghost use Rattle.run_journal.specs.Layout.{IsClosed, HasOpened, IsClosedOrOpened, IsWithin};
 
 use cacao_site::{Disk, Failed};
 
@@ -33,6 +33,7 @@ pub fn add_block<D: Disk>(disk: &mut D, file: u8, gate: u64, block: &[u8]) -> Re
         → EachBeat file (D.view disk.old).disk (D.view disk.new).disk (IsClosedOrOpened start block.now) }
     ensures opened { OnOk result ((start : List ℕ) → length start ≡ gate → AllLeft file (D.view disk.old).disk (IsClosed start)
         → AllLeft file (D.view disk.new).disk (HasOpened start block.now)) }
+    ensures within { AllLeft file (D.view disk.old).disk IsWithin → EachBeat file (D.view disk.old).disk (D.view disk.new).disk IsWithin }
     ensures goes_on { GoesOn (D.view disk.old).disk (D.view disk.new).disk }
     ensures others { (other : ℕ) → other ≢ file → StaysAt (D.view disk.old).disk (D.view disk.new).disk other }
     ensures rest { SameRest (D.view disk.old) (D.view disk.new) }

@@ -10,7 +10,7 @@ use Rattle.std.proofs.lemmas.List.{take_at, drop_at, take-append-drop, length-ap
 use Rattle.std.proofs.lemmas.List.Concat.{flat_map-cons}
 use Rattle.std.proofs.lemmas.Nat.{be_bytes_2, be_bytes_4, be_bytes_8, from_be_bytes-to_be_bytes_2, from_be_bytes-to_be_bytes_4, from_be_bytes-to_be_bytes_8}
 use Rattle.run_records.specs.Layout.{string}
-use Rattle.run_records.specs.Ranges.{most_text, most_status_text, IsShort}
+use Rattle.run_records.specs.Ranges.{most_text, IsShort}
 use Rattle.run_records.specs.Fields.{number_at, small_at, string_at, text_at, strings_at}
 use Rattle.run_records.proofs.Takes.{IsBytes, IsBytes-drop, IsBytes-take, IsBytes-rest, Takes, Takes-then}
 
@@ -102,18 +102,18 @@ string_again most text rest small fits =
     ap (number_at w32) (append_assoc (to_be_bytes w32 (length text)) text rest) ∙ number_again w32 (2 ^ 32) wide32 (length text) (text ++ rest) (omega arith) in
     rw (read, le-leb (length text) most fits, long, take_at text rest (length text) refl, drop_at text rest (length text) refl) refl
 
-pub text_takes : (bytes : List ℕ) (x : List ℕ × List ℕ) → IsBytes bytes → text_at bytes ≡ Some x → Takes bytes (string x.0) x.1 × (length x.0 ≤ most_status_text) × IsUtf8 x.0
+pub text_takes : (most : ℕ) (bytes : List ℕ) (x : List ℕ × List ℕ) → IsBytes bytes → text_at most bytes ≡ Some x → Takes bytes (string x.0) x.1 × (length x.0 ≤ most) × IsUtf8 x.0
 unfolding text_at
-text_takes bytes x fits e =
-    option_and_then_some _ (string_at most_status_text bytes) x e λ text read e₁.
-    let t = string_takes most_status_text bytes text fits read in
+text_takes most bytes x fits e =
+    option_and_then_some _ (string_at most bytes) x e λ text read e₁.
+    let t = string_takes most bytes text fits read in
     let g = cond_some (is_utf8 text.0) text x e₁ in
-    subst (λ (p : List ℕ × List ℕ). Takes bytes (string p.0) p.1 × (length p.0 ≤ most_status_text) × IsUtf8 p.0) g.1 (t.0, t.1, IsUtf8-from_is_utf8 text.0 g.0)
+    subst (λ (p : List ℕ × List ℕ). Takes bytes (string p.0) p.1 × (length p.0 ≤ most) × IsUtf8 p.0) g.1 (t.0, t.1, IsUtf8-from_is_utf8 text.0 g.0)
 
-pub text_again : (text rest : List ℕ) → length text ≤ most_status_text → IsUtf8 text → text_at (string text ++ rest) ≡ Some (text, rest)
+pub text_again : (most : ℕ) (text rest : List ℕ) → most < 2 ^ 32 → length text ≤ most → IsUtf8 text → text_at most (string text ++ rest) ≡ Some (text, rest)
 unfolding text_at
-text_again text rest fits utf8 =
-    rw (string_again most_status_text text rest (omega arith) fits, is_utf8-from_IsUtf8 text utf8) refl
+text_again most text rest small fits utf8 =
+    rw (string_again most text rest small fits, is_utf8-from_IsUtf8 text utf8) refl
 
 -- ---- lists of texts
 

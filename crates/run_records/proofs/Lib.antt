@@ -3,3 +3,4 @@ pub mod Takes
 pub mod FieldLemmas
 pub mod RecordLemmas
 pub mod ReadLemmas
+pub mod EntryLemmas

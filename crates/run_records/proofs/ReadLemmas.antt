@@ -5,7 +5,7 @@ use Rattle.std.specs.Int.{w32, w64, to_be_bytes}
 use Rattle.std.proofs.lemmas.Bool.{eqb-true, leb-true, le-leb}
 use Rattle.std.proofs.lemmas.Option.{none-some, option_and_then_some}
 use Rattle.run_records.specs.declared.record.Record.{Record}
-use Rattle.run_records.specs.declared.record.Record.TheVariants.{Begin, Walk, Send, Reply, Expire}
+use Rattle.run_records.specs.declared.record.Record.TheVariants.{Begin, Walk, Send, Reply, Expire, Upgrade, Ask, Told}
 use Rattle.run_records.specs.declared.act.Act.{Act}
 use Rattle.run_records.specs.Layout.{string, layout, act_layout}
 use Rattle.run_records.specs.Ranges.{most_text, last_moment, InRange, ActInRange}
@@ -13,7 +13,7 @@ use Rattle.run_records.specs.Fields.{number_at, string_at}
 use Rattle.run_records.specs.Reading.{at_end, record_of, act_at, act_of}
 use Rattle.run_records.proofs.Takes.{IsBytes, IsBytes-rest, Takes-then}
 use Rattle.run_records.proofs.FieldLemmas.{wide32, wide64, number_takes, number_again, string_takes, string_again}
-use Rattle.run_records.proofs.RecordLemmas.{end_some, whole, five, begin_takes, walk_takes, send_takes, reply_takes, expire_takes, begin_again, walk_again, send_again, reply_again, expire_again}
+use Rattle.run_records.proofs.RecordLemmas.{end_some, whole, five, begin_takes, walk_takes, send_takes, reply_takes, expire_takes, upgrade_takes, ask_takes, told_takes, begin_again, walk_again, send_again, reply_again, expire_again, upgrade_again, ask_again, told_again}
 
 -- which way a test went
 chosen : {A : Type 0} (b : Bool) (x y : Option A) (z : A) (P : Type 0) → cond b x y ≡ Some z → (b ≡ true → x ≡ Some z → P) → (y ≡ Some z → P) → P
@@ -33,7 +33,10 @@ record_takes (tag ∷ bytes) r fits e =
     chosen (eqb tag 2) _ _ r Done e₁ (λ t e₂. tagged tag 2 bytes r t (walk_takes bytes r rest e₂)) λ e₂.
     chosen (eqb tag 3) _ _ r Done e₂ (λ t e₃. tagged tag 3 bytes r t (send_takes bytes r rest e₃)) λ e₃.
     chosen (eqb tag 4) _ _ r Done e₃ (λ t e₄. tagged tag 4 bytes r t (reply_takes bytes r rest e₄)) λ e₄.
-    chosen (eqb tag 5) _ _ r Done e₄ (λ t e₅. tagged tag 5 bytes r t (expire_takes bytes r rest e₅)) λ e₅. absurd (none-some r e₅)
+    chosen (eqb tag 5) _ _ r Done e₄ (λ t e₅. tagged tag 5 bytes r t (expire_takes bytes r rest e₅)) λ e₅.
+    chosen (eqb tag 6) _ _ r Done e₅ (λ t e₆. tagged tag 6 bytes r t (upgrade_takes bytes r rest e₆)) λ e₆.
+    chosen (eqb tag 7) _ _ r Done e₆ (λ t e₇. tagged tag 7 bytes r t (ask_takes bytes r rest e₇)) λ e₇.
+    chosen (eqb tag 8) _ _ r Done e₇ (λ t e₈. tagged tag 8 bytes r t (told_takes bytes r rest e₈)) λ e₈. absurd (none-some r e₈)
 
 pub record_again : (r : Record) → InRange r → record_of (layout r) ≡ Some r
 unfolding record_of layout
@@ -42,6 +45,11 @@ record_again (Walk task moment) h = walk_again task moment h.0 h.1
 record_again (Send task issue agent moment bytes) h = send_again task issue agent moment bytes h
 record_again (Reply issue moment status rule text) h = reply_again issue moment status rule text h
 record_again (Expire issue moment) h = expire_again issue moment h.0 h.1
+record_again (Upgrade version moment) h =
+    let same : version ≡ 2 = h.0 in
+    ap (λ v. record_of (6 ∷ v ∷ to_be_bytes w64 moment)) same ∙ upgrade_again moment h.1 ∙ ap (λ v. Some (Upgrade v moment)) (sym same)
+record_again (Ask task issue moment text) h = ask_again task issue moment text h
+record_again (Told issue moment status text) h = told_again issue moment status text h
 
 pub act_takes : (bytes : List ℕ) (a : Act) → IsBytes bytes → act_of bytes ≡ Some a → ActInRange a × (bytes ≡ act_layout a)
 unfolding act_of act_at act_layout

@@ -1,17 +1,17 @@
 -- A record that is read has that layout, and from its layout a record is read again.
-use Rattle.std.proofs.Common.{◌≡◌, ℕ, ◌^◌, ◌<◌, eqb, List, [], ◌∷◌, ◌++◌, length, Some, refl, sym, ap, subst, ◌∙◌, append_assoc, append-nil, arith}
+use Rattle.std.proofs.Common.{◌≡◌, ℕ, ◌^◌, ◌<◌, eqb, Bool, true, false, cond, Option, None, List, [], ◌∷◌, ◌++◌, length, Some, refl, sym, ap, subst, ◌∙◌, append_assoc, append-nil, arith}
 use Rattle.std.specs.Int.{w16, w32, w64, to_be_bytes}
 use Rattle.std.specs.List.{flat_map}
 use Rattle.std.proofs.lemmas.Bool.{eqb-true}
 use Rattle.std.proofs.lemmas.List.{nil_from_length}
-use Rattle.std.proofs.lemmas.Option.{option_and_then_some, cond_some}
+use Rattle.std.proofs.lemmas.Option.{none-some, option_and_then_some, cond_some}
 use Rattle.run_records.specs.declared.record.Record.{Record}
-use Rattle.run_records.specs.declared.record.Record.TheVariants.{Begin, Walk, Send, Reply, Expire}
+use Rattle.run_records.specs.declared.record.Record.TheVariants.{Begin, Walk, Send, Reply, Expire, Upgrade, Ask, Told}
 use Rattle.run_records.specs.Layout.{string, strings, layout}
-use Rattle.run_records.specs.Ranges.{most_text, InRange, BeginsInRange, SendsInRange, RepliesInRange}
-use Rattle.run_records.specs.Fields.{number_at, small_at, string_at, text_at, strings_at}
-use Rattle.run_records.specs.Reading.{at_end, begin_at, walk_at, send_at, reply_at, expire_at}
-use Rattle.run_records.proofs.Takes.{IsBytes, Takes, Takes-then}
+use Rattle.run_records.specs.Ranges.{most_text, most_status_text, InRange, BeginsInRange, SendsInRange, RepliesInRange, AsksInRange, TellsInRange}
+use Rattle.run_records.specs.Fields.{◌>>=◌, number_at, small_at, string_at, text_at, strings_at}
+use Rattle.run_records.specs.Reading.{at_end, begin_at, walk_at, send_at, reply_at, expire_at, upgrade_at, ask_at, told_at}
+use Rattle.run_records.proofs.Takes.{IsBytes, IsBytes-rest, Takes, Takes-then}
 use Rattle.run_records.proofs.FieldLemmas.{wide16, wide32, wide64, number_takes, number_again, small_takes, small_again, string_takes, string_again, text_takes, text_again, strings_take, strings_again}
 
 pub end_some : {A : Type 0} (rest : List ℕ) (value x : A) → at_end rest value ≡ Some x → (rest ≡ []) × (value ≡ x)
@@ -28,6 +28,11 @@ two a b = ap (λ x. a ++ x) (sym (append-nil b))
 
 four : (a b c d : List ℕ) → ((a ++ b) ++ c) ++ d ≡ a ++ (b ++ (c ++ (d ++ [])))
 four a b c d = append_assoc (a ++ b) c d ∙ append_assoc a b (c ++ d) ∙ ap (λ x. a ++ (b ++ (c ++ x))) (sym (append-nil d))
+
+-- a test that was kept
+when : {A : Type 0} (b : Bool) (o : Option A) (r : A) → cond b o None ≡ Some r → (b ≡ true) × (o ≡ Some r)
+when true o r e = (refl, e)
+when false o r e = absurd (none-some r e)
 
 pub five : (a b c d e : List ℕ) → (((a ++ b) ++ c) ++ d) ++ e ≡ a ++ (b ++ (c ++ (d ++ (e ++ []))))
 five a b c d e = append_assoc ((a ++ b) ++ c) d e ∙ four a b c (d ++ e) ∙ ap (λ x. a ++ (b ++ (c ++ x))) (append_assoc d e [])
@@ -110,13 +115,13 @@ reply_takes bytes r fits e =
     option_and_then_some _ (number_at w64 issue.1) r e₁ λ moment is_moment e₂.
     option_and_then_some _ (number_at w16 moment.1) r e₂ λ status is_status e₃.
     option_and_then_some _ (number_at w32 status.1) r e₃ λ rule is_rule e₄.
-    option_and_then_some _ (text_at rule.1) r e₄ λ text is_text e₅.
+    option_and_then_some _ (text_at most_status_text rule.1) r e₄ λ text is_text e₅.
     let done = end_some text.1 (Reply issue.0 moment.0 status.0 rule.0 text.0) r e₅ in
     let t0 = number_takes w32 (2 ^ 32) wide32 bytes issue fits is_issue in
     let t1 = number_takes w64 (2 ^ 64) wide64 issue.1 moment t0.0.rest_fits is_moment in
     let t2 = number_takes w16 (2 ^ 16) wide16 moment.1 status t1.0.rest_fits is_status in
     let t3 = number_takes w32 (2 ^ 32) wide32 status.1 rule t2.0.rest_fits is_rule in
-    let t4 = text_takes rule.1 text t3.0.rest_fits is_text in
+    let t4 = text_takes most_status_text rule.1 text t3.0.rest_fits is_text in
     let first = Takes-then bytes (to_be_bytes w32 issue.0) issue.1 (to_be_bytes w64 moment.0) moment.1 t0.0 t1.0 in
     let second = Takes-then bytes _ moment.1 (to_be_bytes w16 status.0) status.1 first t2.0 in
     let third = Takes-then bytes _ status.1 (to_be_bytes w32 rule.0) rule.1 second t3.0 in
@@ -141,6 +146,64 @@ expire_takes bytes r fits e =
     let t1 = number_takes w64 (2 ^ 64) wide64 issue.1 moment t0.0.rest_fits is_moment in
     let all = Takes-then bytes (to_be_bytes w32 issue.0) issue.1 (to_be_bytes w64 moment.0) moment.1 t0.0 t1.0 in
     subst (λ x. InRange x × (5 ∷ bytes ≡ layout x)) done.1 ((t0.1, t1.1), ap (λ b. 5 ∷ b) (whole bytes _ moment.1 all done.0))
+
+pub upgrade_takes : (bytes : List ℕ) (r : Record) → IsBytes bytes → upgrade_at bytes ≡ Some r → InRange r × (6 ∷ bytes ≡ layout r)
+unfolding upgrade_at layout
+upgrade_takes [] r fits e = absurd (none-some r e)
+upgrade_takes (version ∷ bytes) r fits e =
+    let asked = when (eqb version 2) (number_at w64 bytes >>= λ moment. at_end moment.1 (Upgrade version moment.0)) r e in
+    option_and_then_some _ (number_at w64 bytes) r asked.1 λ moment is_moment e₁.
+    let done = end_some moment.1 (Upgrade version moment.0) r e₁ in
+    let t0 = number_takes w64 (2 ^ 64) wide64 bytes moment (IsBytes-rest version bytes fits) is_moment in
+    subst (λ x. InRange x × (6 ∷ version ∷ bytes ≡ layout x)) done.1 ((eqb-true version 2 asked.0, t0.1), ap (λ b. 6 ∷ version ∷ b) (whole bytes _ moment.1 t0.0 done.0))
+
+pub ask_takes : (bytes : List ℕ) (r : Record) → IsBytes bytes → ask_at bytes ≡ Some r → InRange r × (7 ∷ bytes ≡ layout r)
+unfolding ask_at layout
+ask_takes bytes r fits e =
+    option_and_then_some _ (number_at w32 bytes) r e λ task is_task e₁.
+    option_and_then_some _ (number_at w32 task.1) r e₁ λ issue is_issue e₂.
+    option_and_then_some _ (number_at w64 issue.1) r e₂ λ moment is_moment e₃.
+    option_and_then_some _ (text_at most_text moment.1) r e₃ λ text is_text e₄.
+    let done = end_some text.1 (Ask task.0 issue.0 moment.0 text.0) r e₄ in
+    let t0 = number_takes w32 (2 ^ 32) wide32 bytes task fits is_task in
+    let t1 = number_takes w32 (2 ^ 32) wide32 task.1 issue t0.0.rest_fits is_issue in
+    let t2 = number_takes w64 (2 ^ 64) wide64 issue.1 moment t1.0.rest_fits is_moment in
+    let t3 = text_takes most_text moment.1 text t2.0.rest_fits is_text in
+    let first = Takes-then bytes (to_be_bytes w32 task.0) task.1 (to_be_bytes w32 issue.0) issue.1 t0.0 t1.0 in
+    let second = Takes-then bytes _ issue.1 (to_be_bytes w64 moment.0) moment.1 first t2.0 in
+    let all = Takes-then bytes _ moment.1 (string text.0) text.1 second t3.0 in
+    let range : InRange (Ask task.0 issue.0 moment.0 text.0) = record {
+      task_fits = t0.1;
+      issue_fits = t1.1;
+      moment_fits = t2.1;
+      short_text = t3.1;
+      text_is_utf8 = t3.2;
+    } in
+    subst (λ x. InRange x × (7 ∷ bytes ≡ layout x)) done.1 (range, ap (λ b. 7 ∷ b) (whole bytes _ text.1 all done.0))
+
+pub told_takes : (bytes : List ℕ) (r : Record) → IsBytes bytes → told_at bytes ≡ Some r → InRange r × (8 ∷ bytes ≡ layout r)
+unfolding told_at layout
+told_takes bytes r fits e =
+    option_and_then_some _ (number_at w32 bytes) r e λ issue is_issue e₁.
+    option_and_then_some _ (number_at w64 issue.1) r e₁ λ moment is_moment e₂.
+    option_and_then_some _ (number_at w16 moment.1) r e₂ λ status is_status e₃.
+    option_and_then_some _ (text_at most_status_text status.1) r e₃ λ text is_text e₄.
+    let done = end_some text.1 (Told issue.0 moment.0 status.0 text.0) r e₄ in
+    let t0 = number_takes w32 (2 ^ 32) wide32 bytes issue fits is_issue in
+    let t1 = number_takes w64 (2 ^ 64) wide64 issue.1 moment t0.0.rest_fits is_moment in
+    let t2 = number_takes w16 (2 ^ 16) wide16 moment.1 status t1.0.rest_fits is_status in
+    let t3 = text_takes most_status_text status.1 text t2.0.rest_fits is_text in
+    let first = Takes-then bytes (to_be_bytes w32 issue.0) issue.1 (to_be_bytes w64 moment.0) moment.1 t0.0 t1.0 in
+    let second = Takes-then bytes _ moment.1 (to_be_bytes w16 status.0) status.1 first t2.0 in
+    let all = Takes-then bytes _ status.1 (string text.0) text.1 second t3.0 in
+    let range : InRange (Told issue.0 moment.0 status.0 text.0) = record {
+      issue_fits = t0.1;
+      moment_fits = t1.1;
+      status_fits = t2.1;
+      short_text = t3.1;
+      text_is_utf8 = t3.2;
+    } in
+    subst (λ x. InRange x × (8 ∷ bytes ≡ layout x)) done.1 (range, ap (λ b. 8 ∷ b) (whole bytes _ text.1 all done.0))
 
 -- ---- what is read again
 
@@ -189,5 +252,33 @@ reply_again issue moment status rule text h =
       number_again w64 (2 ^ 64) wide64 moment _ h.moment_fits,
       number_again w16 (2 ^ 16) wide16 status _ h.status_fits,
       number_again w32 (2 ^ 32) wide32 rule _ h.rule_fits,
-      text_again text [] h.short_text h.text_is_utf8,
+      text_again most_status_text text [] (omega arith) h.short_text h.text_is_utf8,
+    ) refl
+
+pub upgrade_again : (moment : ℕ) → moment < 2 ^ 64 → upgrade_at (2 ∷ to_be_bytes w64 moment) ≡ Some (Upgrade 2 moment)
+unfolding upgrade_at
+upgrade_again moment lm =
+    ap (λ b. upgrade_at (2 ∷ b)) (sym (append-nil (to_be_bytes w64 moment)))
+    ∙ rw (number_again w64 (2 ^ 64) wide64 moment [] lm) refl
+
+pub ask_again : (task issue moment : ℕ) (text : List ℕ) → AsksInRange task issue moment text → ask_at (to_be_bytes w32 task ++ to_be_bytes w32 issue ++ to_be_bytes w64 moment ++ string text) ≡ Some (Ask task issue moment text)
+unfolding ask_at
+ask_again task issue moment text h =
+    ap ask_at (four (to_be_bytes w32 task) (to_be_bytes w32 issue) (to_be_bytes w64 moment) (string text))
+    ∙ rw (
+      number_again w32 (2 ^ 32) wide32 task _ h.task_fits,
+      number_again w32 (2 ^ 32) wide32 issue _ h.issue_fits,
+      number_again w64 (2 ^ 64) wide64 moment _ h.moment_fits,
+      text_again most_text text [] (omega arith) h.short_text h.text_is_utf8,
+    ) refl
+
+pub told_again : (issue moment status : ℕ) (text : List ℕ) → TellsInRange issue moment status text → told_at (to_be_bytes w32 issue ++ to_be_bytes w64 moment ++ to_be_bytes w16 status ++ string text) ≡ Some (Told issue moment status text)
+unfolding told_at
+told_again issue moment status text h =
+    ap told_at (four (to_be_bytes w32 issue) (to_be_bytes w64 moment) (to_be_bytes w16 status) (string text))
+    ∙ rw (
+      number_again w32 (2 ^ 32) wide32 issue _ h.issue_fits,
+      number_again w64 (2 ^ 64) wide64 moment _ h.moment_fits,
+      number_again w16 (2 ^ 16) wide16 status _ h.status_fits,
+      text_again most_status_text text [] (omega arith) h.short_text h.text_is_utf8,
     ) refl

@@ -3,7 +3,7 @@ use Rattle.std.specs.Prelude.{ℕ, zero, suc, List, [], ◌∷◌, length, take,
 use Rattle.std.specs.Int.{Width, w32, byte_len, from_be_bytes}
 use Rattle.std.specs.Str.{is_utf8}
 use Rattle.std.specs.Borrow.{Bor}
-use Rattle.run_records.specs.Ranges.{most_text, most_status_text}
+use Rattle.run_records.specs.Ranges.{most_text}
 
 infixl 10 ◌>>=◌
 abbrev pub ◌>>=◌ : {A B : Type 0} → Option A → (A → Option B) → Option B
@@ -26,10 +26,10 @@ string_at most bytes = do
   n ← number_at w32 bytes
   if nat_le n.0 most && nat_le n.0 (length n.1) then Some (take n.0 n.1, drop n.0 n.1) else None
 
--- the same of a status text
-unfoldable pub text_at : List ℕ → Option (List ℕ × List ℕ)
-text_at bytes = do
-  text ← string_at most_status_text bytes
+-- the same of a text in UTF-8
+unfoldable pub text_at : ℕ → List ℕ → Option (List ℕ × List ℕ)
+text_at most bytes = do
+  text ← string_at most bytes
   if is_utf8 text.0 then Some text else None
 
 -- so many texts, one behind the other

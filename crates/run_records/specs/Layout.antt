@@ -3,7 +3,7 @@ use Rattle.std.specs.Prelude.{ℕ, List, [], ◌∷◌, ◌++◌, length}
 use Rattle.std.specs.List.{flat_map}
 use Rattle.std.specs.Int.{w16, w32, w64, to_be_bytes}
 use Rattle.run_records.specs.declared.record.Record.{Record}
-use Rattle.run_records.specs.declared.record.Record.TheVariants.{Begin, Walk, Send, Reply, Expire}
+use Rattle.run_records.specs.declared.record.Record.TheVariants.{Begin, Walk, Send, Reply, Expire, Upgrade, Ask, Told}
 use Rattle.run_records.specs.declared.act.Act.{Act}
 
 -- numbers in that many bytes
@@ -24,7 +24,7 @@ string bytes = four_bytes (length bytes) ++ bytes
 abbrev pub strings : List (List ℕ) → List ℕ
 strings texts = length texts ∷ flat_map string texts
 
--- A record is its tag and its fields, and nothing more. The tags 6 to 8 are kept for records to come.
+-- A record is its tag and its fields, and nothing more.
 unfoldable pub layout : Record → List ℕ
 layout (Begin run moment books bind) =
     1 ∷ (eight_bytes run ++ eight_bytes moment ++ strings books ++ string bind)
@@ -34,6 +34,11 @@ layout (Send task issue agent moment bytes) =
 layout (Reply issue moment status rule text) =
     4 ∷ (four_bytes issue ++ eight_bytes moment ++ two_bytes status ++ four_bytes rule ++ string text)
 layout (Expire issue moment) = 5 ∷ (four_bytes issue ++ eight_bytes moment)
+layout (Upgrade version moment) = 6 ∷ (version ∷ eight_bytes moment)
+layout (Ask task issue moment bytes) =
+    7 ∷ (four_bytes task ++ four_bytes issue ++ eight_bytes moment ++ string bytes)
+layout (Told issue moment status text) =
+    8 ∷ (four_bytes issue ++ eight_bytes moment ++ two_bytes status ++ string text)
 
 -- an act has the tag 16
 unfoldable pub act_layout : Act → List ℕ

@@ -3,3 +3,4 @@ pub mod Ranges
 pub mod Fields
 pub mod Reading
 pub mod Laws
+pub mod Lists

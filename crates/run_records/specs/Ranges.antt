@@ -1,8 +1,8 @@
 -- The ranges of the fields of records and acts.
-use Rattle.std.specs.Prelude.{ℕ, ◌<◌, ◌≤◌, ◌^◌, List, length, IsUtf8}
+use Rattle.std.specs.Prelude.{◌≡◌, ℕ, ◌<◌, ◌≤◌, ◌^◌, List, length, IsUtf8}
 use Rattle.std.specs.List.{AllByRecursion}
 use Rattle.run_records.specs.declared.record.Record.{Record}
-use Rattle.run_records.specs.declared.record.Record.TheVariants.{Begin, Walk, Send, Reply, Expire}
+use Rattle.run_records.specs.declared.record.Record.TheVariants.{Begin, Walk, Send, Reply, Expire, Upgrade, Ask, Told}
 use Rattle.run_records.specs.declared.act.Act.{Act}
 
 -- the most bytes of a canonical text, a command or a reply
@@ -45,13 +45,30 @@ pub record RepliesInRange (issue moment status rule : ℕ) (text : List ℕ) : T
   pub short_text : length text ≤ most_status_text
   pub text_is_utf8 : IsUtf8 text
 
--- the fields of a record lie in their ranges
+pub record AsksInRange (task issue moment : ℕ) (text : List ℕ) : Type 0 where
+  pub task_fits : task < 2 ^ 32
+  pub issue_fits : issue < 2 ^ 32
+  pub moment_fits : moment < 2 ^ 64
+  pub short_text : IsShort text
+  pub text_is_utf8 : IsUtf8 text
+
+pub record TellsInRange (issue moment status : ℕ) (text : List ℕ) : Type 0 where
+  pub issue_fits : issue < 2 ^ 32
+  pub moment_fits : moment < 2 ^ 64
+  pub status_fits : status < 2 ^ 16
+  pub short_text : length text ≤ most_status_text
+  pub text_is_utf8 : IsUtf8 text
+
+-- the fields of a record lie in their ranges; the one version is 2
 abbrev pub InRange : Record → Type 0
 InRange (Begin run moment books bind) = BeginsInRange run moment books bind
 InRange (Walk task moment) = (task < 2 ^ 32) × (moment < 2 ^ 64)
 InRange (Send task issue agent moment bytes) = SendsInRange task issue agent moment bytes
 InRange (Reply issue moment status rule text) = RepliesInRange issue moment status rule text
 InRange (Expire issue moment) = (issue < 2 ^ 32) × (moment < 2 ^ 64)
+InRange (Upgrade version moment) = (version ≡ 2) × (moment < 2 ^ 64)
+InRange (Ask task issue moment bytes) = AsksInRange task issue moment bytes
+InRange (Told issue moment status text) = TellsInRange issue moment status text
 
 -- the fields of an act lie in their ranges
 pub record ActInRange (a : Act) : Type 0 where

@@ -12,7 +12,7 @@ use std::str;
 pub const MOST_TEXT: u32 = 1_048_576;
 
 /// The most bytes of a status text.
-const MOST_STATUS_TEXT: u32 = 4_096;
+pub const MOST_STATUS_TEXT: u32 = 4_096;
 
 #[tactic(auto, unfolding(crate::specs::Fields::number_at))]
 pub fn u16_at(bytes: &[u8]) -> Option<(u16, &[u8])>
@@ -80,12 +80,12 @@ fn is_utf8(bytes: &[u8]) -> bool
     str::from_utf8(bytes).is_ok()
 }
 
-/// A status text.
+/// A length of at most `most`, and so many bytes in UTF-8.
 #[tactic(auto, unfolding(crate::specs::Fields::text_at))]
-pub fn text_at(bytes: &[u8]) -> Option<(&[u8], &[u8])>
-    ensures { option_map (λ x. (x.0.now, x.1.now)) result ≡ text_at bytes.now }
+pub fn text_at(most: u32, bytes: &[u8]) -> Option<(&[u8], &[u8])>
+    ensures { option_map (λ x. (x.0.now, x.1.now)) result ≡ text_at most bytes.now }
 {
-    let (text, rest) = string_at(MOST_STATUS_TEXT, bytes)?;
+    let (text, rest) = string_at(most, bytes)?;
     if is_utf8(text) {
         Some((text, rest))
     } else {

@@ -4,11 +4,13 @@ ghost use Rattle.run_records.specs.declared.record.Record.{Record};
 ghost use Rattle.run_records.specs.declared.act.Act.{Act};
 ghost use Rattle.run_records.specs.Layout.{layout, act_layout};
 ghost use Rattle.run_records.specs.Ranges.{InRange, ActInRange};
-ghost use Rattle.run_records.specs.Reading.{begin_at, walk_at, send_at, reply_at, expire_at, record_of, act_at, act_of, sent, replied, acted};
+ghost use Rattle.run_records.specs.Reading.{begin_at, walk_at, send_at, reply_at, expire_at, upgrade_at, ask_at, told_at, record_of, act_at, act_of, sent, replied, asked, told, acted};
 
 use crate::act::Act;
 use crate::bytes_list::BytesList;
-use crate::fields::{MOST_TEXT, small_at, string_at, strings_at, text_at, u16_at, u32_at, u64_at};
+use crate::fields::{
+    MOST_STATUS_TEXT, MOST_TEXT, small_at, string_at, strings_at, text_at, u16_at, u32_at, u64_at,
+};
 use crate::record::Record;
 use cacao_site::Bytes;
 use std::alloc::{AllocError, Global};
@@ -94,7 +96,7 @@ fn replied_fields(bytes: &[u8]) -> Option<(u32, u64, u16, u32, &[u8])>
     let (moment, rest) = u64_at(rest)?;
     let (status, rest) = u16_at(rest)?;
     let (rule, rest) = u32_at(rest)?;
-    let (text, rest) = text_at(rest)?;
+    let (text, rest) = text_at(MOST_STATUS_TEXT, rest)?;
     if rest.is_empty() {
         Some((issue, moment, status, rule, text))
     } else {
@@ -126,6 +128,76 @@ fn read_expire(bytes: &[u8]) -> Option<Record>
     rest.is_empty().then_some(Record::Expire { issue, moment })
 }
 
+#[tactic(auto, unfolding(crate::specs::Reading::upgrade_at))]
+fn read_upgrade(bytes: &[u8]) -> Option<Record>
+    ensures { result ≡ upgrade_at bytes.now }
+{
+    let [2, rest @ ..] = bytes else {
+        return None;
+    };
+    let (moment, rest) = u64_at(rest)?;
+    rest.is_empty()
+        .then_some(Record::Upgrade { version: 2, moment })
+}
+
+#[tactic(auto, unfolding(crate::specs::Reading::ask_at))]
+fn asked_fields(bytes: &[u8]) -> Option<(u32, u32, u64, &[u8])>
+    ensures { option_map asked result ≡ ask_at bytes.now }
+{
+    let (task, rest) = u32_at(bytes)?;
+    let (issue, rest) = u32_at(rest)?;
+    let (moment, rest) = u64_at(rest)?;
+    let (text, rest) = text_at(MOST_TEXT, rest)?;
+    if rest.is_empty() {
+        Some((task, issue, moment, text))
+    } else {
+        None
+    }
+}
+
+fn read_ask(alloc: Global, bytes: &[u8]) -> Result<Option<Record>, AllocError>
+    ensures { IfOk result (λ found. found ≡ ask_at bytes.now) }
+{
+    let Some((task, issue, moment, text)) = asked_fields(bytes) else {
+        return Ok(None);
+    };
+    Ok(Some(Record::Ask {
+        task,
+        issue,
+        moment,
+        bytes: Bytes::from_slice(alloc, text)?,
+    }))
+}
+
+#[tactic(auto, unfolding(crate::specs::Reading::told_at))]
+fn told_fields(bytes: &[u8]) -> Option<(u32, u64, u16, &[u8])>
+    ensures { option_map told result ≡ told_at bytes.now }
+{
+    let (issue, rest) = u32_at(bytes)?;
+    let (moment, rest) = u64_at(rest)?;
+    let (status, rest) = u16_at(rest)?;
+    let (text, rest) = text_at(MOST_STATUS_TEXT, rest)?;
+    if rest.is_empty() {
+        Some((issue, moment, status, text))
+    } else {
+        None
+    }
+}
+
+fn read_told(alloc: Global, bytes: &[u8]) -> Result<Option<Record>, AllocError>
+    ensures { IfOk result (λ found. found ≡ told_at bytes.now) }
+{
+    let Some((issue, moment, status, text)) = told_fields(bytes) else {
+        return Ok(None);
+    };
+    Ok(Some(Record::Told {
+        issue,
+        moment,
+        status,
+        text: Bytes::from_slice(alloc, text)?,
+    }))
+}
+
 #[tactic(auto, unfolding(crate::specs::Reading::act_at))]
 fn act_fields(bytes: &[u8]) -> Option<(u64, u32, u64, &[u8], &[u8])>
     ensures { option_map acted result ≡ act_at bytes.now }
@@ -155,6 +227,9 @@ fn record_in(alloc: Global, bytes: &[u8]) -> Result<Option<Record>, AllocError>
         [3, rest @ ..] => read_send(alloc, rest),
         [4, rest @ ..] => read_reply(alloc, rest),
         [5, rest @ ..] => Ok(read_expire(rest)),
+        [6, rest @ ..] => Ok(read_upgrade(rest)),
+        [7, rest @ ..] => read_ask(alloc, rest),
+        [8, rest @ ..] => read_told(alloc, rest),
         _ => Ok(None),
     }
 }

@@ -38,4 +38,23 @@ pub enum Record {
         issue: u32,
         moment: u64,
     },
+    /// The run goes on by the rules of this version, which is 2: with operators.
+    Upgrade {
+        version: u8,
+        moment: u64,
+    },
+    /// A task asked an operator by a text in UTF-8, as a new issue.
+    Ask {
+        task: u32,
+        issue: u32,
+        moment: u64,
+        bytes: Bytes,
+    },
+    /// An operator told how an issue ended, with a status and a status text.
+    Told {
+        issue: u32,
+        moment: u64,
+        status: u16,
+        text: Bytes,
+    },
 }

@@ -28,6 +28,16 @@ const EXPIRE: [u8; 13] = [
     0x05, 0xff, 0xff, 0xff, 0xff, 0xff, 0xff, 0xff, 0xff, 0xff, 0xff, 0xff, 0xff,
 ];
 
+const ASK: [u8; 24] = [
+    0x07, 0x00, 0x00, 0x00, 0x01, 0x00, 0x00, 0x00, 0x02, 0x00, 0x00, 0x00, 0x00, 0x00, 0x00, 0x00,
+    0x03, 0x00, 0x00, 0x00, 0x03, 0xc3, 0xa9, 0x3f,
+];
+
+const TOLD: [u8; 23] = [
+    0x08, 0x00, 0x00, 0x00, 0x02, 0x00, 0x00, 0x00, 0x00, 0x00, 0x00, 0x00, 0x04, 0x00, 0xc8, 0x00,
+    0x00, 0x00, 0x04, 0x64, 0x6f, 0x6e, 0x65,
+];
+
 const ACT: [u8; 32] = [
     0x10, 0x00, 0x1f, 0xff, 0xff, 0xff, 0xff, 0xff, 0xff, 0x00, 0x00, 0x00, 0x09, 0x00, 0x1f, 0xf9,
     0x73, 0xca, 0xfa, 0x80, 0x00, 0x00, 0x00, 0x00, 0x01, 0x43, 0x00, 0x00, 0x00, 0x02, 0x52, 0x45,
@@ -125,6 +135,54 @@ fn a_send_and_a_reply(rt: HostRuntime) -> Result<(), Fail> {
 }
 
 #[test]
+fn an_upgrade(rt: HostRuntime) -> Result<(), Fail> {
+    let bytes = [0x06, 0x02, 0, 0, 0, 0, 0, 0, 0, 0x05];
+    assert!(rt;
+        matches!(
+            again(&rt, rt.alloc(), &bytes)?,
+            Record::Upgrade {
+                version: 2,
+                moment: 5
+            }
+        )
+    );
+    Ok(())
+}
+
+#[test]
+fn a_question_and_what_was_told(rt: HostRuntime) -> Result<(), Fail> {
+    match again(&rt, rt.alloc(), &ASK)? {
+        Record::Ask {
+            task,
+            issue,
+            moment,
+            bytes,
+        } => {
+            assert_eq!(rt; task, 1);
+            assert_eq!(rt; issue, 2);
+            assert_eq!(rt; moment, 3);
+            assert_eq!(rt; bytes.as_slice(), "é?".as_bytes());
+        }
+        _ => panic!(rt; "no Ask"),
+    }
+    match again(&rt, rt.alloc(), &TOLD)? {
+        Record::Told {
+            issue,
+            moment,
+            status,
+            text,
+        } => {
+            assert_eq!(rt; issue, 2);
+            assert_eq!(rt; moment, 4);
+            assert_eq!(rt; status, 200);
+            assert_eq!(rt; text.as_slice(), b"done".as_slice());
+        }
+        _ => panic!(rt; "no Told"),
+    }
+    Ok(())
+}
+
+#[test]
 fn an_act(rt: HostRuntime) -> Result<(), Fail> {
     let act = read_act(rt.alloc(), &ACT)?.ok_or("not read")?;
     assert_eq!(rt; act.run, 9_007_199_254_740_991);
@@ -139,7 +197,7 @@ fn an_act(rt: HostRuntime) -> Result<(), Fail> {
 
 #[test]
 fn bytes_that_are_no_record(rt: HostRuntime) -> Result<(), Fail> {
-    let outside: [&[u8]; 17] = [
+    let outside: [&[u8]; 20] = [
         &[],
         &[0x02],
         &[0x02, 0, 0, 0, 0x01, 0, 0, 0, 0, 0, 0, 0x0b],
@@ -148,6 +206,11 @@ fn bytes_that_are_no_record(rt: HostRuntime) -> Result<(), Fail> {
         &[0x06, 0, 0, 0, 0x01, 0, 0, 0, 0, 0, 0, 0x0b, 0xc2],
         &[0x07, 0, 0, 0, 0x01, 0, 0, 0, 0, 0, 0, 0x0b, 0xc2],
         &[0x08, 0, 0, 0, 0x01, 0, 0, 0, 0, 0, 0, 0x0b, 0xc2],
+        &[0x06, 0x01, 0, 0, 0, 0, 0, 0, 0, 0x05],
+        &[0x06, 0x02, 0, 0, 0, 0, 0, 0, 0, 0x05, 0],
+        &[
+            0x07, 0, 0, 0, 0x01, 0, 0, 0, 0x02, 0, 0, 0, 0, 0, 0, 0, 0x03, 0, 0, 0, 0x01, 0xff,
+        ],
         &[0x10, 0, 0, 0, 0x01, 0, 0, 0, 0, 0, 0, 0x0b, 0xc2],
         &[
             0x01, 0, 0, 0, 0, 0, 0, 0, 0x07, 0, 0, 0, 0, 0, 0, 0, 0x05, 0, 0, 0, 0, 0,

@@ -3,7 +3,7 @@ ghost use Rattle.std.specs.Prelude.{◌≡◌, ◌++◌, ◌∷◌, ◌<◌, ◌
 ghost use Rattle.run_records.specs.declared.record.Record.TheVariants as kind;
 ghost use Rattle.std.specs.List.{AllByRecursion};
 ghost use Rattle.run_records.specs.Layout.{four_bytes, eight_bytes, string, strings, layout, act_layout};
-ghost use Rattle.run_records.specs.Ranges.{InRange, ActInRange, BeginsInRange, SendsInRange, RepliesInRange, IsShort};
+ghost use Rattle.run_records.specs.Ranges.{InRange, ActInRange, BeginsInRange, SendsInRange, RepliesInRange, AsksInRange, TellsInRange, IsShort};
 ghost use Rattle.run_records.specs.Reading.{record_of, act_of};
 
 use crate::act::Act;
@@ -99,6 +99,56 @@ fn put_reply(
     Ok(())
 }
 
+#[tactic(auto, unfolding(crate::specs::Layout::layout))]
+fn put_upgrade(out: &mut Vec<u8>, version: u8, moment: u64) -> Result<(), AllocError>
+    ensures { OnOk result (out.new.items ≡ out.old.items ++ layout (kind.Upgrade version moment)) }
+{
+    out.push(6)?;
+    out.push(version)?;
+    out.extend_from_slice(&moment.to_be_bytes())?;
+    Ok(())
+}
+
+#[tactic(auto, unfolding(crate::specs::Layout::layout))]
+fn put_ask(
+    out: &mut Vec<u8>,
+    task: u32,
+    issue: u32,
+    moment: u64,
+    bytes: &Bytes,
+) -> Result<(), AllocError>
+    requires { AsksInRange task issue moment bytes.now }
+    ensures { OnOk result (out.new.items
+        ≡ out.old.items ++ layout (kind.Ask task issue moment bytes.now)) }
+{
+    out.push(7)?;
+    out.extend_from_slice(&task.to_be_bytes())?;
+    out.extend_from_slice(&issue.to_be_bytes())?;
+    out.extend_from_slice(&moment.to_be_bytes())?;
+    put_string(out, bytes.as_slice())?;
+    Ok(())
+}
+
+#[tactic(auto, unfolding(crate::specs::Layout::layout))]
+fn put_told(
+    out: &mut Vec<u8>,
+    issue: u32,
+    moment: u64,
+    status: u16,
+    text: &Bytes,
+) -> Result<(), AllocError>
+    requires { TellsInRange issue moment status text.now }
+    ensures { OnOk result (out.new.items
+        ≡ out.old.items ++ layout (kind.Told issue moment status text.now)) }
+{
+    out.push(8)?;
+    out.extend_from_slice(&issue.to_be_bytes())?;
+    out.extend_from_slice(&moment.to_be_bytes())?;
+    out.extend_from_slice(&status.to_be_bytes())?;
+    put_string(out, text.as_slice())?;
+    Ok(())
+}
+
 /// Adds a tag, a number and a moment.
 fn put_moment(out: &mut Vec<u8>, tag: u8, number: u32, moment: u64) -> Result<(), AllocError>
     ensures { OnOk result (out.new.items
@@ -138,6 +188,19 @@ fn put_record(out: &mut Vec<u8>, item: &Record) -> Result<(), AllocError>
             text,
         } => put_reply(out, *issue, *moment, *status, *rule, text),
         Record::Expire { issue, moment } => put_moment(out, 5, *issue, *moment),
+        Record::Upgrade { version, moment } => put_upgrade(out, *version, *moment),
+        Record::Ask {
+            task,
+            issue,
+            moment,
+            bytes,
+        } => put_ask(out, *task, *issue, *moment, bytes),
+        Record::Told {
+            issue,
+            moment,
+            status,
+            text,
+        } => put_told(out, *issue, *moment, *status, text),
     }
 }
 

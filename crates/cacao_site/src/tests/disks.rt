@@ -3,6 +3,7 @@ ghost use Rattle.std.specs.Prelude.{◌≤◌};
 use super::lines::plan;
 use crate::{Disk, Failed, FileSite, MemorySite, Site};
 use std::alloc::{AllocError, Global};
+use std::rt::Files;
 use std::{fs, io};
 
 /// Why a test ends early.
@@ -122,7 +123,7 @@ fn calls_and_room_are_shared_by_the_disk_and_the_lines(rt: HostRuntime) -> Resul
 #[test]
 fn a_file_site_keeps_real_files(rt: HostRuntime) -> io::Result<()> {
     let alloc = rt.alloc();
-    let mut site = FileSite::new(&rt);
+    let mut site = FileSite::new(&rt, rt.alloc());
     let blank = site.length(16);
     let unread = front(&mut site, alloc, 16);
     let unsynced = site.sync(16);
@@ -140,5 +141,45 @@ fn a_file_site_keeps_real_files(rt: HostRuntime) -> io::Result<()> {
     let folder = site.write(15, 0, b"a");
     fs::remove_dir(&rt, "agent-15.journal")?;
     assert!(rt; folder == Err(Failed));
+    Ok(())
+}
+
+#[test]
+fn a_file_site_keeps_each_file_under_its_name(rt: HostRuntime) -> io::Result<()> {
+    let alloc = rt.alloc();
+    let mut site = FileSite::new(&rt, alloc);
+    for (file, name) in [
+        (0, "engine.journal"),
+        (1, "agent-01.journal"),
+        (2, "agent-02.journal"),
+        (3, "agent-03.journal"),
+        (4, "agent-04.journal"),
+        (5, "agent-05.journal"),
+        (6, "agent-06.journal"),
+        (7, "agent-07.journal"),
+        (8, "agent-08.journal"),
+        (9, "agent-09.journal"),
+        (10, "agent-10.journal"),
+        (11, "agent-11.journal"),
+        (12, "agent-12.journal"),
+        (13, "agent-13.journal"),
+        (14, "agent-14.journal"),
+        (15, "agent-15.journal"),
+        (16, "agent-16.journal"),
+    ] {
+        assert!(rt; file <= 16);
+        let lengthened = site.write(file, 3, b"").is_ok() && site.length(file) == Ok(3);
+        let written = site.write(file, 5, b"abc").is_ok() && site.sync(file).is_ok();
+        let size = rt.metadata(name).map(|metadata| metadata.len());
+        let mut back = [9u8; 4];
+        let count = site.read(file, 6, &mut back);
+        fs::remove_file(&rt, name)?;
+        assert!(rt;
+            lengthened && written && size.is_ok_and(|size| size == 8),
+            "file {file}"
+        );
+        assert!(rt; count == Ok(2) && back == [b'b', b'c', 9, 9], "file {file}");
+        assert!(rt; site.length(file) == Ok(0));
+    }
     Ok(())
 }

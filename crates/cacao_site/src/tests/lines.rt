@@ -49,6 +49,6 @@ fn a_memory_site_says_lines_by_its_plan(rt: HostRuntime) -> Result<(), AllocErro
 
 #[test]
 fn a_file_site_says_on_standard_output(rt: HostRuntime) {
-    let mut site = FileSite::new(&rt);
+    let mut site = FileSite::new(&rt, rt.alloc());
     assert!(rt; site.say(b"a line of a site\n").is_ok());
 }

@@ -44,3 +44,18 @@ fn a_file_shelf_reads_real_files(rt: HostRuntime) -> io::Result<()> {
     assert!(rt; behind_a_file.err() == Some(ShelfError::Failed));
     Ok(())
 }
+
+#[test]
+fn a_file_shelf_reads_a_file_of_9000_bytes(rt: HostRuntime) -> io::Result<()> {
+    let alloc = rt.alloc();
+    let name = "cacao_site-test-long-file";
+    let bytes = [b'x'; 9000];
+    fs::write(&rt, name, bytes.as_slice())?;
+    let mut shelf = FileShelf::new(&rt);
+    let read = shelf.read(alloc, name, 9_000);
+    let refused = shelf.read(alloc, name, 8_999);
+    fs::remove_file(&rt, name)?;
+    assert!(rt; read.is_ok_and(|read| read.as_slice() == bytes.as_slice()));
+    assert!(rt; refused.err() == Some(ShelfError::TooLarge));
+    Ok(())
+}

@@ -1,18 +1,90 @@
--- The refusal that is said is the one that `refuse` was given.
-use Rattle.std.proofs.Common.{inl, inr, refl, sym, rules}
-use Rattle.cacao_cli.specs.declared.refusal.Refusal.TheVariants.{NotUnderstood}
+-- Each clause holds of a call that went as `Ended` says.
+use Rattle.std.proofs.Common.{ℕ, map, string_bytes}
+use Rattle.cacao_site.specs.View.{SiteView}
+use Rattle.cacao_cli.specs.Asked.{asked}
+use Rattle.cacao_cli.specs.Command.{end_of}
+use Rattle.cacao_cli.specs.Ended.{Ended}
+use Rattle.cacao_cli.specs.Files.{ShelfCall}
+use Rattle.cacao_cli.proofs.CountLemmas.{failed-ended, steady-ended, unsaid-ended, said-ended, memory-ended}
+use Rattle.cacao_cli.proofs.ExactLemmas.{exact-ended}
+use Rattle.cacao_cli.proofs.LeaveLemmas.{leaves-ended, few-ended}
+use Rattle.cacao_cli.proofs.StatusLemmas.{done-ended, words-ended, missing-ended, unreadable-ended, past-ended}
 use Rattle.cacao_cli.proofs.program.top.Goals as goal
 
-pub returns-in_default-clause-lines : goal.returns-in_default-clause-lines
-returns-in_default-clause-lines g c = inr (inl (record {
-  refusal = NotUnderstood;
-  refuses = inl (sym c.in_default.ensures, refl);
-  tells = c.refuse.ensures.tells;
-}))
+pub returns-clause-exactly : goal.returns-clause-exactly
+returns-clause-exactly g c =
+    let shelf : ShelfCall = record { told = g.L.Shelf.told c.args.shelf.now; before = g.L.Shelf.faults c.args.shelf.now; after = g.L.Shelf.faults c.perform-end.new.shelf; reads_before = g.L.Shelf.reads c.args.shelf.now; reads_after = g.L.Shelf.reads c.perform-end.new.shelf } in
+    exact-ended (asked (map string_bytes c.args.words.now)) shelf (g.S.Disk.view c.args.site.now) (g.S.Disk.view c.finish.new.site) c.finish.result
+    (record { last = end_of c.perform-end.result; between = g.S.Disk.view c.perform-end.new.site; performed = c.perform-end.ensures.performed; tells = c.finish.ensures })
 
-pub returns-in-Err-Refused-clause-lines : goal.returns-in-Err-Refused-clause-lines
-returns-in-Err-Refused-clause-lines g c = inr (inl (record {
-  refusal = c.in-Err-Refused.refusal;
-  refuses = inr (search rules);
-  tells = c.refuse-in-Err-Refused.ensures.tells;
-}))
+pub returns-clause-done : goal.returns-clause-done
+returns-clause-done g c =
+    let shelf : ShelfCall = record { told = g.L.Shelf.told c.args.shelf.now; before = g.L.Shelf.faults c.args.shelf.now; after = g.L.Shelf.faults c.perform-end.new.shelf; reads_before = g.L.Shelf.reads c.args.shelf.now; reads_after = g.L.Shelf.reads c.perform-end.new.shelf } in
+    done-ended (asked (map string_bytes c.args.words.now)) shelf (g.S.Disk.view c.args.site.now) (g.S.Disk.view c.finish.new.site) c.finish.result
+    (record { last = end_of c.perform-end.result; between = g.S.Disk.view c.perform-end.new.site; performed = c.perform-end.ensures.performed; tells = c.finish.ensures })
+
+pub returns-clause-not_understood : goal.returns-clause-not_understood
+returns-clause-not_understood g c =
+    let shelf : ShelfCall = record { told = g.L.Shelf.told c.args.shelf.now; before = g.L.Shelf.faults c.args.shelf.now; after = g.L.Shelf.faults c.perform-end.new.shelf; reads_before = g.L.Shelf.reads c.args.shelf.now; reads_after = g.L.Shelf.reads c.perform-end.new.shelf } in
+    words-ended (asked (map string_bytes c.args.words.now)) shelf (g.S.Disk.view c.args.site.now) (g.S.Disk.view c.finish.new.site) c.finish.result
+    (record { last = end_of c.perform-end.result; between = g.S.Disk.view c.perform-end.new.site; performed = c.perform-end.ensures.performed; tells = c.finish.ensures })
+
+pub returns-clause-shelf_failed : goal.returns-clause-shelf_failed
+returns-clause-shelf_failed g c =
+    let shelf : ShelfCall = record { told = g.L.Shelf.told c.args.shelf.now; before = g.L.Shelf.faults c.args.shelf.now; after = g.L.Shelf.faults c.perform-end.new.shelf; reads_before = g.L.Shelf.reads c.args.shelf.now; reads_after = g.L.Shelf.reads c.perform-end.new.shelf } in
+    failed-ended (asked (map string_bytes c.args.words.now)) shelf (g.S.Disk.view c.args.site.now) (g.S.Disk.view c.finish.new.site) c.finish.result
+    (record { last = end_of c.perform-end.result; between = g.S.Disk.view c.perform-end.new.site; performed = c.perform-end.ensures.performed; tells = c.finish.ensures })
+
+pub returns-clause-shelf_steady : goal.returns-clause-shelf_steady
+returns-clause-shelf_steady g c =
+    let shelf : ShelfCall = record { told = g.L.Shelf.told c.args.shelf.now; before = g.L.Shelf.faults c.args.shelf.now; after = g.L.Shelf.faults c.perform-end.new.shelf; reads_before = g.L.Shelf.reads c.args.shelf.now; reads_after = g.L.Shelf.reads c.perform-end.new.shelf } in
+    steady-ended (asked (map string_bytes c.args.words.now)) shelf (g.S.Disk.view c.args.site.now) (g.S.Disk.view c.finish.new.site) c.finish.result
+    (record { last = end_of c.perform-end.result; between = g.S.Disk.view c.perform-end.new.site; performed = c.perform-end.ensures.performed; tells = c.finish.ensures })
+
+pub returns-clause-missing : goal.returns-clause-missing
+returns-clause-missing g c =
+    let shelf : ShelfCall = record { told = g.L.Shelf.told c.args.shelf.now; before = g.L.Shelf.faults c.args.shelf.now; after = g.L.Shelf.faults c.perform-end.new.shelf; reads_before = g.L.Shelf.reads c.args.shelf.now; reads_after = g.L.Shelf.reads c.perform-end.new.shelf } in
+    missing-ended (asked (map string_bytes c.args.words.now)) shelf (g.S.Disk.view c.args.site.now) (g.S.Disk.view c.finish.new.site) c.finish.result
+    (record { last = end_of c.perform-end.result; between = g.S.Disk.view c.perform-end.new.site; performed = c.perform-end.ensures.performed; tells = c.finish.ensures })
+
+pub returns-clause-unreadable : goal.returns-clause-unreadable
+returns-clause-unreadable g c =
+    let shelf : ShelfCall = record { told = g.L.Shelf.told c.args.shelf.now; before = g.L.Shelf.faults c.args.shelf.now; after = g.L.Shelf.faults c.perform-end.new.shelf; reads_before = g.L.Shelf.reads c.args.shelf.now; reads_after = g.L.Shelf.reads c.perform-end.new.shelf } in
+    unreadable-ended (asked (map string_bytes c.args.words.now)) shelf (g.S.Disk.view c.args.site.now) (g.S.Disk.view c.finish.new.site) c.finish.result
+    (record { last = end_of c.perform-end.result; between = g.S.Disk.view c.perform-end.new.site; performed = c.perform-end.ensures.performed; tells = c.finish.ensures })
+
+pub returns-clause-unsaid : goal.returns-clause-unsaid
+returns-clause-unsaid g c =
+    let shelf : ShelfCall = record { told = g.L.Shelf.told c.args.shelf.now; before = g.L.Shelf.faults c.args.shelf.now; after = g.L.Shelf.faults c.perform-end.new.shelf; reads_before = g.L.Shelf.reads c.args.shelf.now; reads_after = g.L.Shelf.reads c.perform-end.new.shelf } in
+    unsaid-ended (asked (map string_bytes c.args.words.now)) shelf (g.S.Disk.view c.args.site.now) (g.S.Disk.view c.finish.new.site) c.finish.result
+    (record { last = end_of c.perform-end.result; between = g.S.Disk.view c.perform-end.new.site; performed = c.perform-end.ensures.performed; tells = c.finish.ensures })
+
+pub returns-clause-said : goal.returns-clause-said
+returns-clause-said g c =
+    let shelf : ShelfCall = record { told = g.L.Shelf.told c.args.shelf.now; before = g.L.Shelf.faults c.args.shelf.now; after = g.L.Shelf.faults c.perform-end.new.shelf; reads_before = g.L.Shelf.reads c.args.shelf.now; reads_after = g.L.Shelf.reads c.perform-end.new.shelf } in
+    said-ended (asked (map string_bytes c.args.words.now)) shelf (g.S.Disk.view c.args.site.now) (g.S.Disk.view c.finish.new.site) c.finish.result
+    (record { last = end_of c.perform-end.result; between = g.S.Disk.view c.perform-end.new.site; performed = c.perform-end.ensures.performed; tells = c.finish.ensures })
+
+pub returns-clause-no_memory : goal.returns-clause-no_memory
+returns-clause-no_memory g c =
+    let shelf : ShelfCall = record { told = g.L.Shelf.told c.args.shelf.now; before = g.L.Shelf.faults c.args.shelf.now; after = g.L.Shelf.faults c.perform-end.new.shelf; reads_before = g.L.Shelf.reads c.args.shelf.now; reads_after = g.L.Shelf.reads c.perform-end.new.shelf } in
+    memory-ended (asked (map string_bytes c.args.words.now)) shelf (g.S.Disk.view c.args.site.now) (g.S.Disk.view c.finish.new.site) c.finish.result
+    (record { last = end_of c.perform-end.result; between = g.S.Disk.view c.perform-end.new.site; performed = c.perform-end.ensures.performed; tells = c.finish.ensures })
+
+pub returns-clause-past_limit : goal.returns-clause-past_limit
+returns-clause-past_limit g c =
+    let shelf : ShelfCall = record { told = g.L.Shelf.told c.args.shelf.now; before = g.L.Shelf.faults c.args.shelf.now; after = g.L.Shelf.faults c.perform-end.new.shelf; reads_before = g.L.Shelf.reads c.args.shelf.now; reads_after = g.L.Shelf.reads c.perform-end.new.shelf } in
+    past-ended (asked (map string_bytes c.args.words.now)) shelf (g.S.Disk.view c.args.site.now) (g.S.Disk.view c.finish.new.site) c.finish.result
+    (record { last = end_of c.perform-end.result; between = g.S.Disk.view c.perform-end.new.site; performed = c.perform-end.ensures.performed; tells = c.finish.ensures })
+
+pub returns-clause-leaves : goal.returns-clause-leaves
+returns-clause-leaves g c =
+    let shelf : ShelfCall = record { told = g.L.Shelf.told c.args.shelf.now; before = g.L.Shelf.faults c.args.shelf.now; after = g.L.Shelf.faults c.perform-end.new.shelf; reads_before = g.L.Shelf.reads c.args.shelf.now; reads_after = g.L.Shelf.reads c.perform-end.new.shelf } in
+    leaves-ended (asked (map string_bytes c.args.words.now)) shelf (g.S.Disk.view c.args.site.now) (g.S.Disk.view c.finish.new.site) c.finish.result
+    (record { last = end_of c.perform-end.result; between = g.S.Disk.view c.perform-end.new.site; performed = c.perform-end.ensures.performed; tells = c.finish.ensures })
+
+pub returns-clause-reads : goal.returns-clause-reads
+returns-clause-reads g c =
+    let shelf : ShelfCall = record { told = g.L.Shelf.told c.args.shelf.now; before = g.L.Shelf.faults c.args.shelf.now; after = g.L.Shelf.faults c.perform-end.new.shelf; reads_before = g.L.Shelf.reads c.args.shelf.now; reads_after = g.L.Shelf.reads c.perform-end.new.shelf } in
+    few-ended (asked (map string_bytes c.args.words.now)) shelf (g.S.Disk.view c.args.site.now) (g.S.Disk.view c.finish.new.site) c.finish.result
+    (record { last = end_of c.perform-end.result; between = g.S.Disk.view c.perform-end.new.site; performed = c.perform-end.ensures.performed; tells = c.finish.ensures })

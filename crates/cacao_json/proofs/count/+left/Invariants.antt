@@ -3,8 +3,8 @@ use Rattle.serde_json.specs.View.{items_view, members_view}
 use Rattle.cacao_json.specs.Counts.{members_of_items, members_of_pairs}
 use Rattle.cacao_json.proofs.count.+left.Given as goal
 
-abbrev pub invariant-left_of_items-loop-value : goal.invariant-left_of_items-loop-value
-invariant-left_of_items-loop-value l = l.left - members_of_items (items_view (drop l.value-index l.value-items)) ≡ l.count - members_of_items (items_view l.value-items)
+abbrev pub invariant-left_after_items-loop-value : goal.invariant-left_after_items-loop-value
+invariant-left_after_items-loop-value l = l.left - members_of_items (items_view (drop l.value-index l.value-items)) ≡ l.count - members_of_items (items_view l.value-items)
 
-abbrev pub invariant-left_of_pairs-loop-value : goal.invariant-left_of_pairs-loop-value
-invariant-left_of_pairs-loop-value l = l.left - members_of_pairs (members_view l.value-iterator) ≡ l.count - members_of_pairs (members_view l.pairs.entries)
+abbrev pub invariant-left_after_pairs-loop-value : goal.invariant-left_after_pairs-loop-value
+invariant-left_after_pairs-loop-value l = l.left - members_of_pairs (members_view l.value-iterator) ≡ l.count - members_of_pairs (members_view l.pairs.entries)

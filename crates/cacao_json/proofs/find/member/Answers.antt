@@ -1,31 +1,27 @@
-use Rattle.std.proofs.Common.{◌≡◌, [], drop, sym, ap, ◌∙◌, Some, arith}
-use Rattle.std.proofs.lemmas.Grind.{common_steps}
-use Rattle.std.specs.Str.{bytes_eq}
+use Rattle.std.proofs.Common.{◌≡◌, ◌+◌, Some, refl, sym, ap, ◌∙◌, arith}
 use Rattle.serde_json.specs.Find.{get, get_member}
-use Rattle.cacao_json.specs.Tree.{data_of}
-use Rattle.cacao_json.proofs.Trees.{data_of-Members, members_data_out, pair_data_out}
-use Rattle.cacao_json.proofs.Finds.{found_in, found_here, found_later}
+use Rattle.cacao_json.specs.Tree.{data_of, pairs_data}
+use Rattle.cacao_json.specs.Size.{size, members_size}
+use Rattle.cacao_json.proofs.Trees.{pair_within}
+use Rattle.cacao_json.proofs.Places.{found_there, not_found}
 use Rattle.cacao_json.proofs.find.member.Goals as goal
 
-pub returns-then-eq : goal.returns-then-eq
-returns-then-eq c =
+pub returns-in-Ok-clause-value : goal.returns-in-Ok-clause-value
+returns-in-Ok-clause-value c =
+    let ps = c.as_slice-pairs.result.now in
     let name = c.args.name.now in
-    let p = c.pair-item.result in
-    let ps = c.deref-pair-items.result.now in
-    let here = found_here name ps c.loop-pair.pair-index p c.eq.result c.loop-pair-test.true c.pair-item.is c.if-eq.true (c.eq.ensures ∙ ap (bytes_eq name) (c.as_str.ensures ∙ ap (λ m. m.0) (sym (pair_data_out p)))) in
-    ap (λ m. Some m.1) (sym (pair_data_out p)) ∙ sym here ∙ c.loop-pair.invariant ∙ ap (found_in name) c.deref-pair-items.ensures.value ∙ ap (get_member name) (sym (members_data_out c.in-Members.pairs)) ∙ ap (get name) (sym (data_of-Members c.in-Members.pairs)) ∙ ap (λ t. get name (data_of t)) (sym c.in-Members.is)
+    ap (λ p. Some (data_of p.tree)) (sym c.index-pairs-place.is) ∙ sym (found_there ps ps refl name c.in-Ok.place c.index-pairs-place.result c.index-pairs-place.is c.in-Ok.ensures)
+    ∙ ap (get_member name) c.as_slice-pairs.ensures.value ∙ ap (λ t. get name (data_of t)) (sym c.in-Members.is)
 
-pub loop-pair-preserved : goal.loop-pair-preserved
-loop-pair-preserved c =
-    let name = c.args.name.now in
-    let p = c.pair-item.result in
-    let ps = c.deref-pair-items.result.now in
-    sym (found_later name ps c.loop-pair.pair-index p c.eq.result c.loop-pair-test.true c.pair-item.is c.if-eq.false (c.eq.ensures ∙ ap (bytes_eq name) (c.as_str.ensures ∙ ap (λ m. m.0) (sym (pair_data_out p)))))
-    ∙ c.loop-pair.invariant
+pub returns-in-Ok-clause-smaller : goal.returns-in-Ok-clause-smaller
+returns-in-Ok-clause-smaller c =
+    let ps = c.as_slice-pairs.result.now in
+    let whole : size (data_of c.args.tree.now) ≡ 1 + members_size (pairs_data ps) = ap (λ t. size (data_of t)) c.in-Members.is ∙ ap (λ ms. 1 + members_size ms) (sym c.as_slice-pairs.ensures.value) in
+    let same = ap (λ p. size (data_of p.tree)) c.index-pairs-place.is in
+    omega (arith, whole, same, pair_within ps c.in-Ok.place c.index-pairs-place.result c.in-Ok.ensures.0 c.index-pairs-place.is)
 
-pub returns : goal.returns
-returns c =
+pub returns-in-Err-clause-value : goal.returns-in-Err-clause-value
+returns-in-Err-clause-value c =
+    let ps = c.as_slice-pairs.result.now in
     let name = c.args.name.now in
-    let ps = c.deref-pair-items.result.now in
-    let done : drop c.loop-pair.pair-index ps ≡ [] = grind (arith, common_steps) in
-    ap (found_in name) (sym done) ∙ c.loop-pair.invariant ∙ ap (found_in name) c.deref-pair-items.ensures.value ∙ ap (get_member name) (sym (members_data_out c.in-Members.pairs)) ∙ ap (get name) (sym (data_of-Members c.in-Members.pairs)) ∙ ap (λ t. get name (data_of t)) (sym c.in-Members.is)
+    sym (not_found ps ps refl name c.in-Err.field-0 c.in-Err.ensures) ∙ ap (get_member name) c.as_slice-pairs.ensures.value ∙ ap (λ t. get name (data_of t)) (sym c.in-Members.is)

@@ -4,4 +4,4 @@ use Rattle.cacao_text.proofs.Rising.{AreRising, names}
 use Rattle.cacao_text.proofs.order.is_in_order.Given as goal
 
 abbrev pub invariant-loop-pair : goal.invariant-loop-pair
-invariant-loop-pair l = IsUtf8 l.before × (AreRising l.before (names (drop l.pair-index l.pair-items)) → AreInOrder (names l.pair-items))
+invariant-loop-pair l = IsUtf8 l.before × (AreRising l.before (names (drop l.pair-index l.pairs)) → AreInOrder (names l.pairs))

@@ -15,7 +15,11 @@ pub returns-clause-layout : goal.returns-clause-layout
 returns-clause-layout c =
     let split = list_split c.args.image.now c.in_ok-split.split.items.items c.in_ok-split.split.rest.now c.in_default.ensures.same c.in_ok-split.ensures.entries in
     let closed = c.in_ok-split.ensures.closed c.if-split.false in
-    record { short = c.in_ok-split.ensures.entries.short; closed = record { gate = closed.0; rest = closed.1; shut = closed.3; is = split ∙ ap (λ (l : List ℕ). front c.in_ok-split.split.items.items ++ l) closed.2 } }
+    record {
+      short = c.in_ok-split.ensures.entries.short;
+      closed = record { gate = closed.0; rest = closed.1; shut = closed.3; is = split ∙ ap (λ (l : List ℕ). front c.in_ok-split.split.items.items ++ l) closed.2 };
+      within = c.requires.high;
+    }
 
 pub returns-clause-gate : goal.returns-clause-gate
 returns-clause-gate c =

@@ -1,6 +1,7 @@
 -- After the first write, torn or whole, and after the second.
+use Rattle.std.proofs.Common.{arith}
 use Rattle.cacao_site.proofs.Beats.{stays-trans}
-use Rattle.run_journal.proofs.Tears.{first_beats, both_beats, both_opened, FirstWrite}
+use Rattle.run_journal.proofs.Tears.{first_beats, both_beats, both_opened, FirstWrite, within_torn, within_both}
 use Rattle.run_journal.proofs.store.add_block.Goals as goal
 use Rattle.run_journal.proofs.store.add_block.Goals.{In_ok-write_and_sync}
 
@@ -39,3 +40,14 @@ returns-clause-opened g c start size closed =
 pub returns-clause-others : goal.returns-clause-others
 returns-clause-others g c other ne =
     stays-trans c.write_and_sync.ensures.torn.goes_on c.write_and_sync-2.ensures.torn.goes_on (c.write_and_sync.ensures.others other ne) (c.write_and_sync-2.ensures.others other ne)
+
+pub returns-in_err-write_and_sync-clause-within : goal.returns-in_err-write_and_sync-clause-within
+returns-in_err-write_and_sync-clause-within g c = λ all. within_torn (omega (arith, c.requires.fits)) all c.write_and_sync.ensures.torn
+
+pub returns-in_err-write_and_sync-2-clause-within : goal.returns-in_err-write_and_sync-2-clause-within
+returns-in_err-write_and_sync-2-clause-within g c = λ all.
+    within_both (omega (arith, c.requires.fits)) (within_torn (omega (arith, c.requires.fits)) all c.write_and_sync.ensures.torn) c.write_and_sync-2.ensures.torn
+
+pub returns-clause-within : goal.returns-clause-within
+returns-clause-within g c = λ all.
+    within_both (omega (arith, c.requires.fits)) (within_torn (omega (arith, c.requires.fits)) all c.write_and_sync.ensures.torn) c.write_and_sync-2.ensures.torn

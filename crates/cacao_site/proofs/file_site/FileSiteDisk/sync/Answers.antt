@@ -1,5 +1,8 @@
--- The call is one of a disk that tells nothing.
+-- The call is one on this file.
 use Rattle.cacao_site.proofs.file_site.FileSiteDisk.sync.Goals as goal
 
-pub returns-clause-call : goal.returns-clause-call
-returns-clause-call g c = rw (← c.try_sync-done.ensures.beat, ← c.try_sync-done.ensures.faults) (c.pass.ensures.call c.args.file 0)
+pub returns-in-Ok-clause-call : goal.returns-in-Ok-clause-call
+returns-in-Ok-clause-call g c = rw (← c.try_sync.ensures.beat, ← c.try_sync.ensures.faults) (c.succeed.ensures.call c.args.file 0)
+
+pub returns-in-Err-clause-call : goal.returns-in-Err-clause-call
+returns-in-Err-clause-call g c = rw (← c.try_sync.ensures.beat, ← c.try_sync.ensures.faults) (c.fail.ensures.call c.args.file 0)

@@ -8,8 +8,8 @@ use Rattle.run_journal.proofs.journal.Journal.open_on.Goals as goal
 pub returns-in_default-clause-others : goal.returns-in_default-clause-others
 returns-in_default-clause-others g c = others-trans c.sync.ensures.call c.length.ensures.call
 
-pub returns-then-size-gt-MOST-clause-others : goal.returns-then-size-gt-MOST-clause-others
-returns-then-size-gt-MOST-clause-others g c = others-trans c.sync.ensures.call c.length.ensures.call
+pub returns-then-size-gt-MOST_IMAGE-clause-others : goal.returns-then-size-gt-MOST_IMAGE-clause-others
+returns-then-size-gt-MOST_IMAGE-clause-others g c = others-trans c.sync.ensures.call c.length.ensures.call
 
 pub returns-in-Err-clause-others : goal.returns-in-Err-clause-others
 returns-in-Err-clause-others g c = λ other ne.

@@ -1,0 +1,292 @@
+-- The status that the files call for, and its cause in words.
+use Rattle.std.proofs.Common.{◌≡◌, ◌⊎◌, inl, inr, ◌∙◌, refl, sym, ap, subst, arith, ℕ, ◌≤◌, ◌<◌, nat_le, Bool, true, false, List, [], ◌∷◌, length, Option, Some, None, Result, Ok, Err}
+use Rattle.std.specs.Prelude.{IsSomeAnd, if◌then◌else◌}
+use Rattle.serde_json.specs.Data.{Data}
+use Rattle.cacao_json.specs.Reading.{tree}
+use Rattle.cacao_cli.specs.Words.{Text}
+use Rattle.cacao_cli.specs.Ends.{End, most, status_of, no_such_file, past, not_readable}
+use Rattle.cacao_cli.specs.Files.{File, Files, Content, NamedText, whole, too_long, named, text_in, item_then, content_in, reading}
+use Rattle.cacao_cli.specs.Work.{Work, ends, or_end, tree_of, trees_of}
+use Rattle.cacao_cli.specs.Exact.{IsOneOf, ComesExactly}
+use Rattle.cacao_cli.specs.Causes.{IsWithin, AllWithin, First, IsMissing, IsTooLong, Trees, SomeTreeless}
+use Rattle.cacao_cli.specs.declared.limit.Limit.{Limit}
+use Rattle.cacao_cli.specs.declared.reason.Reason.{Reason}
+use Rattle.cacao_cli.proofs.ExactLemmas.{work_status}
+use Rattle.cacao_cli.proofs.ReadLemmas.{Read}
+use Rattle.cacao_cli.proofs.TreeLemmas.{TreeCase, has_tree, treeless, tree_case}
+
+-- ---- what the files hold
+
+-- each file is there within its limit, and this is its text
+abbrev pub Texts : Files → List File → List NamedText → Type 0
+Texts files [] [] = Unit {0}
+Texts files [] (text ∷ texts) = ⊥
+Texts files (file ∷ more) [] = ⊥
+Texts files (file ∷ more) (text ∷ texts) = (IsWithin files file × (files file.name ≡ Some text.bytes)) × Texts files more texts
+
+data ReadingCase (files : Files) (list : List File) : Type 0 where
+  all_within : (texts : List NamedText) → Texts files list texts → reading files list ≡ Ok texts → ReadingCase files list
+  one_missing : (name : Text) → IsMissing files list → reading files list ≡ Err (no_such_file name) → ReadingCase files list
+  one_long : (limit : Limit) → IsTooLong files list → reading files list ≡ Err (past limit) → ReadingCase files list
+
+le-true : (n m : ℕ) → true ≡ nat_le n m → n ≤ m
+le-true n m e = grind arith
+
+le-false : (n m : ℕ) → false ≡ nat_le n m → m < n
+le-false n m e = grind arith
+
+reading_case : (files : Files) (list : List File) → ReadingCase files list
+reading_case files [] = all_within [] tt refl
+reading_case files (file ∷ more) = go (files file.name) refl (reading_case files more)
+  where
+    go : (o : Option Text) → o ≡ files file.name → ReadingCase files more → ReadingCase files (file ∷ more)
+    go None is rest = one_missing file.name (inl (sym is)) (ap (λ (o : Option Text). item_then (text_in file (content_in file.limit o)) (reading files more)) (sym is))
+    go (Some bytes) is rest = by (nat_le (length bytes) (most file.limit)) refl rest
+      where
+        at : (b : Bool) → b ≡ nat_le (length bytes) (most file.limit) → reading files (file ∷ more) ≡ item_then (text_in file (if b then whole bytes else too_long)) (reading files more)
+        at b le = ap (λ (o : Option Text). item_then (text_in file (content_in file.limit o)) (reading files more)) (sym is) ∙ ap (λ (b : Bool). item_then (text_in file (if b then whole bytes else too_long)) (reading files more)) (sym le)
+
+        by : (b : Bool) → b ≡ nat_le (length bytes) (most file.limit) → ReadingCase files more → ReadingCase files (file ∷ more)
+        by false le rest = one_long file.limit (inl (subst (λ (o : Option Text). IsSomeAnd o (λ c. most file.limit < length c)) is (le-false (length bytes) (most file.limit) le))) (at false le)
+        by true le (all_within texts t e) = all_within (named file.name bytes ∷ texts) ((within, sym is), t) (at true le ∙ ap (item_then (Ok (named file.name bytes))) e)
+          where
+            within : IsWithin files file
+            within = subst (λ (o : Option Text). IsSomeAnd o (λ c. length c ≤ most file.limit)) is (le-true (length bytes) (most file.limit) le)
+        by true le (one_missing name m e) = one_missing name (inr (within, m)) (at true le ∙ ap (item_then (Ok (named file.name bytes))) e)
+          where
+            within : IsWithin files file
+            within = subst (λ (o : Option Text). IsSomeAnd o (λ c. length c ≤ most file.limit)) is (le-true (length bytes) (most file.limit) le)
+        by true le (one_long limit m e) = one_long limit (inr (within, m)) (at true le ∙ ap (item_then (Ok (named file.name bytes))) e)
+          where
+            within : IsWithin files file
+            within = subst (λ (o : Option Text). IsSomeAnd o (λ c. length c ≤ most file.limit)) is (le-true (length bytes) (most file.limit) le)
+
+-- ---- their trees
+
+abbrev pub Roots : List NamedText → List Data → Type 0
+Roots [] [] = Unit {0}
+Roots [] (root ∷ roots) = ⊥
+Roots (text ∷ texts) [] = ⊥
+Roots (text ∷ texts) (root ∷ roots) = (tree text.bytes ≡ Some root) × Roots texts roots
+
+abbrev pub Treeless : List NamedText → Type 0
+Treeless [] = ⊥
+Treeless (text ∷ texts) = (tree text.bytes ≡ None) ⊎ Treeless texts
+
+pub data TreesCase (texts : List NamedText) : Type 0 where
+  all_trees : (roots : List Data) → Roots texts roots → trees_of texts ≡ Ok roots → TreesCase texts
+  one_treeless : (name : Text) (reason : Reason) → Treeless texts → trees_of texts ≡ Err (not_readable name reason) → TreesCase texts
+
+pub trees_case : (texts : List NamedText) → TreesCase texts
+trees_case [] = all_trees [] tt refl
+trees_case (text ∷ texts) = go (tree_case text.name text.bytes) (trees_case texts)
+  where
+    go : TreeCase text.name text.bytes → TreesCase texts → TreesCase (text ∷ texts)
+    go (treeless reason none is) rest = one_treeless text.name reason (inl none) (ap (λ (r : Result Data End). item_then r (trees_of texts)) is)
+    go (has_tree root has is) (all_trees roots r e) = all_trees (root ∷ roots) (has, r) (ap (λ (r : Result Data End). item_then r (trees_of texts)) is ∙ ap (item_then (Ok root)) e)
+    go (has_tree root has is) (one_treeless name reason t e) = one_treeless name reason (inr t) (ap (λ (r : Result Data End). item_then r (trees_of texts)) is ∙ ap (item_then (Ok root)) e)
+
+trees-roots : (files : Files) (list : List File) (texts : List NamedText) (roots : List Data) → Texts files list texts → Roots texts roots → Trees files list roots
+trees-roots files [] [] [] t r = tt
+trees-roots files [] [] (root ∷ roots) t r = absurd r
+trees-roots files [] (text ∷ texts) roots t r = absurd t
+trees-roots files (file ∷ more) [] roots t r = absurd t
+trees-roots files (file ∷ more) (text ∷ texts) [] t r = absurd r
+trees-roots files (file ∷ more) (text ∷ texts) (root ∷ roots) t r = ((t.0.0, subst (λ (o : Option Text). IsSomeAnd o (λ bytes. tree bytes ≡ Some root)) (sym t.0.1) r.0), trees-roots files more texts roots t.1 r.1)
+
+treeless-some : (files : Files) (list : List File) (texts : List NamedText) → Texts files list texts → Treeless texts → SomeTreeless files list
+treeless-some files [] [] t r = absurd r
+treeless-some files [] (text ∷ texts) t r = absurd t
+treeless-some files (file ∷ more) [] t r = absurd t
+treeless-some files (file ∷ more) (text ∷ texts) t (inl none) = inl (subst (λ (o : Option Text). IsSomeAnd o (λ bytes. tree bytes ≡ None)) (sym t.0.1) none)
+treeless-some files (file ∷ more) (text ∷ texts) t (inr r) = inr (treeless-some files more texts t.1 r)
+
+texts-within : (files : Files) (list : List File) (texts : List NamedText) → Texts files list texts → AllWithin files list
+texts-within files [] [] t = tt
+texts-within files [] (text ∷ texts) t = absurd t
+texts-within files (file ∷ more) [] t = absurd t
+texts-within files (file ∷ more) (text ∷ texts) t = (t.0.0, texts-within files more texts t.1)
+
+-- ---- the status of a command that reads trees and then does its work with them
+
+abbrev pub tree_work : Files → List File → (List Data → Work) → Work
+tree_work files list does = or_end (reading files list) (λ texts. or_end (trees_of texts) does)
+
+pub data TreeWork (files : Files) (list : List File) (does : List Data → Work) : Type 0 where
+  is_missing : IsMissing files list → work_status (tree_work files list does) ≡ 4 → TreeWork files list does
+  is_too_long : IsTooLong files list → work_status (tree_work files list does) ≡ 11 → TreeWork files list does
+  is_treeless : AllWithin files list → SomeTreeless files list → work_status (tree_work files list does) ≡ 5 → TreeWork files list does
+  is_read : (roots : List Data) → Trees files list roots → work_status (tree_work files list does) ≡ work_status (does roots) → TreeWork files list does
+
+pub tree_work_case : (files : Files) (list : List File) (does : List Data → Work) → TreeWork files list does
+tree_work_case files list does = go (reading_case files list)
+  where
+    at : (r : Read) → reading files list ≡ r → work_status (tree_work files list does) ≡ work_status (or_end r (λ texts. or_end (trees_of texts) does))
+    at r e = ap (λ (r : Read). work_status (or_end r (λ texts. or_end (trees_of texts) does))) e
+
+    go : ReadingCase files list → TreeWork files list does
+    go (one_missing name m e) = is_missing m (at (Err (no_such_file name)) e)
+    go (one_long limit m e) = is_too_long m (at (Err (past limit)) e)
+    go (all_within texts t e) = by (trees_case texts)
+      where
+        by : TreesCase texts → TreeWork files list does
+        by (all_trees roots r f) = is_read roots (trees-roots files list texts roots t r) (at (Ok texts) e ∙ ap (λ (r : Result (List Data) End). work_status (or_end r does)) f)
+        by (one_treeless name reason r f) = is_treeless (texts-within files list texts t) (treeless-some files list texts t r) (at (Ok texts) e ∙ ap (λ (r : Result (List Data) End). work_status (or_end r does)) f)
+
+-- ---- the causes exclude one another
+
+some-both : (o : Option Text) (P Q : Text → Type 0) → ((bytes : Text) → P bytes → Q bytes → ⊥) → IsSomeAnd o P → IsSomeAnd o Q → ⊥
+some-both None P Q h p q = p
+some-both (Some bytes) P Q h p q = h bytes p q
+
+some-none : (o : Option Text) (P : Text → Type 0) → o ≡ None → IsSomeAnd o P → ⊥
+some-none None P e p = p
+some-none (Some bytes) P e p = cc
+
+missing-within : (files : Files) (file : File) → files file.name ≡ None → IsWithin files file → ⊥
+missing-within files file none within = some-none (files file.name) (λ bytes. length bytes ≤ most file.limit) none within
+
+long-within : (files : Files) (file : File) → IsSomeAnd (files file.name) (λ bytes. most file.limit < length bytes) → IsWithin files file → ⊥
+long-within files file long within = some-both (files file.name) (λ bytes. most file.limit < length bytes) (λ bytes. length bytes ≤ most file.limit) (λ bytes p q. omega (arith, p, q)) long within
+
+first-within : (files : Files) (P : File → Type 0) (list : List File) → ((file : File) → P file → IsWithin files file → ⊥) → First files P list → AllWithin files list → ⊥
+first-within files P [] h f a = f
+first-within files P (file ∷ more) h (inl p) a = h file p a.0
+first-within files P (file ∷ more) h (inr f) a = first-within files P more h f.1 a.1
+
+first-both : (files : Files) (P Q : File → Type 0) (list : List File) → ((file : File) → P file → Q file → ⊥) → ((file : File) → P file → IsWithin files file → ⊥) → ((file : File) → Q file → IsWithin files file → ⊥)
+    → First files P list → First files Q list → ⊥
+first-both files P Q [] both p q f g = f
+first-both files P Q (file ∷ more) both p q (inl f) (inl g) = both file f g
+first-both files P Q (file ∷ more) both p q (inl f) (inr g) = p file f g.0
+first-both files P Q (file ∷ more) both p q (inr f) (inl g) = q file g f.0
+first-both files P Q (file ∷ more) both p q (inr f) (inr g) = first-both files P Q more both p q f.1 g.1
+
+missing-long : (files : Files) (list : List File) → IsMissing files list → IsTooLong files list → ⊥
+missing-long files list = first-both files (λ file. files file.name ≡ None) (λ file. IsSomeAnd (files file.name) (λ bytes. most file.limit < length bytes)) list
+    (λ file none long. some-none (files file.name) (λ bytes. most file.limit < length bytes) none long) (missing-within files) (long-within files)
+
+pub trees-within : (files : Files) (list : List File) (roots : List Data) → Trees files list roots → AllWithin files list
+trees-within files [] [] t = tt
+trees-within files [] (root ∷ roots) t = absurd t
+trees-within files (file ∷ more) [] t = absurd t
+trees-within files (file ∷ more) (root ∷ roots) t = (t.0.0, trees-within files more roots t.1)
+
+trees-treeless : (files : Files) (list : List File) (roots : List Data) → Trees files list roots → SomeTreeless files list → ⊥
+trees-treeless files [] [] t s = s
+trees-treeless files [] (root ∷ roots) t s = t
+trees-treeless files (file ∷ more) [] t s = t
+trees-treeless files (file ∷ more) (root ∷ roots) t (inl none) = some-both (files file.name) (λ bytes. tree bytes ≡ Some root) (λ bytes. tree bytes ≡ None) (λ bytes p q. cc) t.0.1 none
+trees-treeless files (file ∷ more) (root ∷ roots) t (inr s) = trees-treeless files more roots t.1 s
+
+some-same : (o : Option Text) (a b : Data) → IsSomeAnd o (λ bytes. tree bytes ≡ Some a) → IsSomeAnd o (λ bytes. tree bytes ≡ Some b) → a ≡ b
+some-same None a b p q = absurd p
+some-same (Some bytes) a b p q = cc
+
+pub trees-same : (files : Files) (list : List File) (roots others : List Data) → Trees files list roots → Trees files list others → roots ≡ others
+trees-same files [] [] [] s t = refl
+trees-same files [] [] (b ∷ others) s t = absurd t
+trees-same files [] (a ∷ roots) others s t = absurd s
+trees-same files (file ∷ more) [] others s t = absurd s
+trees-same files (file ∷ more) (a ∷ roots) [] s t = absurd t
+trees-same files (file ∷ more) (a ∷ roots) (b ∷ others) s t = ap (λ (x : Data). x ∷ roots) (some-same (files file.name) a b s.0.1 t.0.1) ∙ ap (λ (xs : List Data). b ∷ xs) (trees-same files more roots others s.1 t.1)
+
+-- ---- both ways
+
+-- the work with the trees ends with 0 or 1
+abbrev pub EndsByTrees : (List Data → Work) → Type 0
+EndsByTrees does = (roots : List Data) → IsOneOf (work_status (does roots)) (0 ∷ 1 ∷ [])
+
+module _ (files : Files) (list : List File) (does : List Data → Work) (ends_so : EndsByTrees does) where
+  abbrev status : ℕ
+  status = work_status (tree_work files list does)
+
+  not-of-trees : (n : ℕ) (roots : List Data) → 1 < n → n ≡ work_status (does roots) → ⊥
+  not-of-trees n roots lt e = go (ends_so roots)
+    where
+      go : IsOneOf (work_status (does roots)) (0 ∷ 1 ∷ []) → ⊥
+      go (inl is) = omega (arith, lt, e, is)
+      go (inr (inl is)) = omega (arith, lt, e, is)
+      go (inr (inr h)) = h
+
+  pub missing-only : work_status (tree_work files list does) ≡ 4 → IsMissing files list
+  missing-only e = go (tree_work_case files list does)
+    where
+      go : TreeWork files list does → IsMissing files list
+      go (is_missing m is) = m
+      go (is_too_long m is) = absurd (omega (arith, e, is))
+      go (is_treeless a s is) = absurd (omega (arith, e, is))
+      go (is_read roots t is) = absurd (not-of-trees 4 roots (omega arith) (sym e ∙ is))
+
+  pub missing-always : IsMissing files list → work_status (tree_work files list does) ≡ 4
+  missing-always m = go (tree_work_case files list does)
+    where
+      go : TreeWork files list does → work_status (tree_work files list does) ≡ 4
+      go (is_missing _ is) = is
+      go (is_too_long l is) = absurd (missing-long files list m l)
+      go (is_treeless a s is) = absurd (first-within files (λ file. files file.name ≡ None) list (missing-within files) m a)
+      go (is_read roots t is) = absurd (first-within files (λ file. files file.name ≡ None) list (missing-within files) m (trees-within files list roots t))
+
+  pub long-only : work_status (tree_work files list does) ≡ 11 → IsTooLong files list
+  long-only e = go (tree_work_case files list does)
+    where
+      go : TreeWork files list does → IsTooLong files list
+      go (is_missing m is) = absurd (omega (arith, e, is))
+      go (is_too_long m is) = m
+      go (is_treeless a s is) = absurd (omega (arith, e, is))
+      go (is_read roots t is) = absurd (not-of-trees 11 roots (omega arith) (sym e ∙ is))
+
+  pub long-always : IsTooLong files list → work_status (tree_work files list does) ≡ 11
+  long-always l = go (tree_work_case files list does)
+    where
+      go : TreeWork files list does → work_status (tree_work files list does) ≡ 11
+      go (is_missing m is) = absurd (missing-long files list m l)
+      go (is_too_long _ is) = is
+      go (is_treeless a s is) = absurd (first-within files (λ file. IsSomeAnd (files file.name) (λ bytes. most file.limit < length bytes)) list (long-within files) l a)
+      go (is_read roots t is) = absurd (first-within files (λ file. IsSomeAnd (files file.name) (λ bytes. most file.limit < length bytes)) list (long-within files) l (trees-within files list roots t))
+
+  pub treeless-only : work_status (tree_work files list does) ≡ 5 → AllWithin files list × SomeTreeless files list
+  treeless-only e = go (tree_work_case files list does)
+    where
+      go : TreeWork files list does → AllWithin files list × SomeTreeless files list
+      go (is_missing m is) = absurd (omega (arith, e, is))
+      go (is_too_long m is) = absurd (omega (arith, e, is))
+      go (is_treeless a s is) = (a, s)
+      go (is_read roots t is) = absurd (not-of-trees 5 roots (omega arith) (sym e ∙ is))
+
+  pub treeless-always : AllWithin files list × SomeTreeless files list → work_status (tree_work files list does) ≡ 5
+  treeless-always h = go (tree_work_case files list does)
+    where
+      go : TreeWork files list does → work_status (tree_work files list does) ≡ 5
+      go (is_missing m is) = absurd (first-within files (λ file. files file.name ≡ None) list (missing-within files) m h.0)
+      go (is_too_long l is) = absurd (first-within files (λ file. IsSomeAnd (files file.name) (λ bytes. most file.limit < length bytes)) list (long-within files) l h.0)
+      go (is_treeless a s is) = is
+      go (is_read roots t is) = absurd (trees-treeless files list roots t h.1)
+
+  -- a status of the work with the trees comes where all trees are there, and the work with them has it
+  pub trees-only : (n : ℕ) → n ≤ 1 → work_status (tree_work files list does) ≡ n → (roots : List Data) × Trees files list roots × (work_status (does roots) ≡ n)
+  trees-only n le e = go (tree_work_case files list does)
+    where
+      go : TreeWork files list does → (roots : List Data) × Trees files list roots × (work_status (does roots) ≡ n)
+      go (is_missing m is) = absurd (omega (arith, e, is, le))
+      go (is_too_long m is) = absurd (omega (arith, e, is, le))
+      go (is_treeless a s is) = absurd (omega (arith, e, is, le))
+      go (is_read roots t is) = (roots, t, sym is ∙ e)
+
+  pub trees-always : (roots : List Data) → Trees files list roots → work_status (tree_work files list does) ≡ work_status (does roots)
+  trees-always roots t = go (tree_work_case files list does)
+    where
+      go : TreeWork files list does → work_status (tree_work files list does) ≡ work_status (does roots)
+      go (is_missing m is) = absurd (first-within files (λ file. files file.name ≡ None) list (missing-within files) m (trees-within files list roots t))
+      go (is_too_long l is) = absurd (first-within files (λ file. IsSomeAnd (files file.name) (λ bytes. most file.limit < length bytes)) list (long-within files) l (trees-within files list roots t))
+      go (is_treeless a s is) = absurd (trees-treeless files list roots t s)
+      go (is_read others u is) = is ∙ ap (λ (rs : List Data). work_status (does rs)) (trees-same files list others roots u t)
+
+-- ---- a clause on one status
+
+pub comes : (status n : ℕ) (faults : List ℕ) (cause : Type 0) (answer : ℕ) → (status ≡ n → cause) → (cause → status ≡ n) → (IsOneOf n faults → ⊥) → IsOneOf answer (status ∷ faults) → ComesExactly n faults cause answer
+comes status n faults cause answer to from apart h = record { only = only h; always = λ c. subst (λ (s : ℕ). IsOneOf answer (s ∷ faults)) (from c) h }
+  where
+    only : IsOneOf answer (status ∷ faults) → answer ≡ n → cause
+    only (inl is) e = to (sym is ∙ e)
+    only (inr f) e = absurd (apart (subst (λ (m : ℕ). IsOneOf m faults) e f))

@@ -1,0 +1,63 @@
+-- A text has a tree, or a reason for which it has none.
+use Rattle.std.proofs.Common.{◌≡◌, ◌∙◌, refl, sym, ap, arith, ℕ, ◌<◌, ◌≤◌, nat_lt, Bool, true, false, Option, Some, None, Ok, Err, List}
+use Rattle.std.specs.Prelude.{◌==◌, ◌&&◌, is_none, if◌then◌else◌, option_and_then}
+use Rattle.std.proofs.lemmas.Bool.{ltb-true, true≢false}
+use Rattle.serde_json.specs.Data.{Data}
+use Rattle.cacao_json.specs.Counts.{colons, members, numbers, first_broken}
+use Rattle.cacao_json.specs.Reading.{reading, tree}
+use Rattle.cacao_json.specs.Refusals.{answer, if_read, if_whole}
+use Rattle.cacao_json.specs.declared.error.JsonError.TheVariants as json
+use Rattle.cacao_json.proofs.Readings.{members-reading, tree-from_reading}
+use Rattle.cacao_cli.specs.Words.{Text}
+use Rattle.cacao_cli.specs.Ends.{End, not_readable}
+use Rattle.cacao_cli.specs.Work.{tree_or_end}
+use Rattle.cacao_cli.specs.declared.reason.Reason.{Reason}
+use Rattle.cacao_cli.specs.declared.reason.Reason.TheVariants.{NotJson, RepeatedName, NotWhole}
+
+pub data TreeCase (name bytes : Text) : Type 0 where
+  has_tree : (root : Data) → tree bytes ≡ Some root → tree_or_end name (answer bytes) ≡ Ok root → TreeCase name bytes
+  treeless : (reason : Reason) → tree bytes ≡ None → tree_or_end name (answer bytes) ≡ Err (not_readable name reason) → TreeCase name bytes
+
+not_less : (n m : ℕ) → nat_lt n m ≡ false → m ≤ n
+not_less n m e = grind arith
+
+differs : (n m : ℕ) → m < n → (n == m) ≡ false
+differs n m lt = grind arith
+
+pub tree_case : (name bytes : Text) → TreeCase name bytes
+tree_case name bytes = by_reading (reading bytes) refl
+  where
+    by_first : (root : Data) → Some root ≡ reading bytes → nat_lt (members root) (colons bytes) ≡ false → (o : Option ℕ) → o ≡ first_broken (numbers root) → TreeCase name bytes
+    by_first root is few None first = has_tree root (tree-from_reading bytes root (sym is) same (sym first)) (ap (tree_or_end name) answers)
+      where
+        same : colons bytes ≡ members root
+        same = omega (arith, not_less (members root) (colons bytes) few, members-reading bytes root (sym is))
+
+        answers : answer bytes ≡ Ok root
+        answers = ap (if_read (colons bytes)) (sym is) ∙ ap (λ b. if b then Err (json.RepeatedName (colons bytes) (members root)) else if_whole root (first_broken (numbers root))) few ∙ ap (if_whole root) (sym first)
+    by_first root is few (Some index) first = treeless (NotWhole index) none (ap (tree_or_end name) answers)
+      where
+        answers : answer bytes ≡ Err (json.NotWhole index)
+        answers = ap (if_read (colons bytes)) (sym is) ∙ ap (λ b. if b then Err (json.RepeatedName (colons bytes) (members root)) else if_whole root (first_broken (numbers root))) few ∙ ap (if_whole root) (sym first)
+
+        broken : (b : Bool) → (if b && is_none (first_broken (numbers root)) then Some root else None) ≡ None
+        broken true = ap (λ o. if is_none o then Some root else None) (sym first)
+        broken false = refl
+
+        none : tree bytes ≡ None
+        none = ap (option_and_then (λ d. if (colons bytes == members d) && is_none (first_broken (numbers d)) then Some d else None)) (sym is) ∙ broken (colons bytes == members root)
+
+    by_count : (root : Data) → Some root ≡ reading bytes → (b : Bool) → b ≡ nat_lt (members root) (colons bytes) → TreeCase name bytes
+    by_count root is false few = by_first root is (sym few) (first_broken (numbers root)) refl
+    by_count root is true many = treeless (RepeatedName (colons bytes) (members root)) none (ap (tree_or_end name) answers)
+      where
+        answers : answer bytes ≡ Err (json.RepeatedName (colons bytes) (members root))
+        answers = ap (if_read (colons bytes)) (sym is) ∙ ap (λ b. if b then Err (json.RepeatedName (colons bytes) (members root)) else if_whole root (first_broken (numbers root))) (sym many)
+
+        none : tree bytes ≡ None
+        none = ap (option_and_then (λ d. if (colons bytes == members d) && is_none (first_broken (numbers d)) then Some d else None)) (sym is)
+            ∙ ap (λ b. if b && is_none (first_broken (numbers root)) then Some root else None) (differs (colons bytes) (members root) (ltb-true (members root) (colons bytes) (sym many)))
+
+    by_reading : (o : Option Data) → o ≡ reading bytes → TreeCase name bytes
+    by_reading None is = treeless NotJson (ap (option_and_then (λ d. if (colons bytes == members d) && is_none (first_broken (numbers d)) then Some d else None)) (sym is)) (ap (λ o. tree_or_end name (if_read (colons bytes) o)) (sym is))
+    by_reading (Some root) is = by_count root is (nat_lt (members root) (colons bytes)) refl

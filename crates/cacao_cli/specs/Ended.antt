@@ -1,0 +1,25 @@
+-- How a call of the program goes: what it reads, what it does, the lines that it says, and its status.
+use Rattle.std.specs.Prelude.{ℕ, List, Option, Result}
+use Rattle.cacao_site.specs.View.{SiteView}
+use Rattle.cacao_cli.specs.Asked.{Asked}
+use Rattle.cacao_cli.specs.Ends.{End}
+use Rattle.cacao_cli.specs.Files.{ShelfCall, NamedText, ReadsTo, files_of}
+use Rattle.cacao_cli.specs.Lines.{SaysWork, Tells}
+use Rattle.cacao_cli.specs.Work.{Work, ends, work}
+
+-- the work was done, from the one site to the other, all but the last line
+abbrev pub Performs : Work → SiteView → SiteView → End → Type 0
+Performs (ends lines end) old new last = SaysWork lines end old new last
+
+-- the files were read, and the work that they come to was done
+pub record Performed (asked : Option Asked) (shelf : ShelfCall) (old new : SiteView) (last : End) : Type 0 where
+  pub read : Result (List NamedText) End
+  pub reads : ReadsTo shelf (files_of asked) read
+  pub performs : Performs (work asked read) old new last
+
+-- and then the last line was said
+pub record Ended (asked : Option Asked) (shelf : ShelfCall) (old new : SiteView) (answer : ℕ) : Type 0 where
+  pub last : End
+  pub between : SiteView
+  pub performed : Performed asked shelf old between last
+  pub tells : Tells last between new answer

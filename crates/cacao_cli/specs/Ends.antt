@@ -1,0 +1,67 @@
+-- How a call of the program ends: its exit status, and its last line if it has one.
+use Rattle.std.specs.Prelude.{ℕ, Bool, true, false, ◌++◌, codes, decimal, Option, Some, None}
+use Rattle.cacao_cli.specs.Words.{Text}
+use Rattle.cacao_cli.specs.declared.limit.Limit.{Limit}
+use Rattle.cacao_cli.specs.declared.limit.Limit.TheVariants.{FileBytes, BookCount}
+use Rattle.cacao_cli.specs.declared.reason.Reason.{Reason}
+use Rattle.cacao_cli.specs.declared.reason.Reason.TheVariants.{NotJson, RepeatedName, NotWhole}
+
+abbrev pub limit_name : Limit → Text
+limit_name FileBytes = codes "file"
+limit_name BookCount = codes "books"
+
+-- the most that is taken
+abbrev pub most : Limit → ℕ
+most FileBytes = 1048576
+most BookCount = 16
+
+abbrev pub limit_text : Limit → Text
+limit_text limit = limit_name limit ++ (codes " " ++ decimal (most limit))
+
+-- why a file has no tree
+abbrev pub reason_text : Reason → Text
+reason_text NotJson = codes "not json"
+reason_text (RepeatedName colons members) = codes "repeated name " ++ (decimal colons ++ (codes " " ++ decimal members))
+reason_text (NotWhole index) = codes "not whole " ++ decimal index
+
+pub data End : Type 0 where
+  done : End  -- all was said before
+  not_understood : End
+  past : (limit : Limit) → End
+  shelf_failed : (name : Text) → End
+  no_such_file : (name : Text) → End
+  not_readable : (name : Text) (reason : Reason) → End
+  unsaid : End  -- a line could not be said
+  no_memory : End
+
+abbrev pub status_of : End → ℕ
+status_of done = 0
+status_of not_understood = 2
+status_of (past limit) = 11
+status_of (shelf_failed name) = 3
+status_of (no_such_file name) = 4
+status_of (not_readable name reason) = 5
+status_of unsaid = 9
+status_of no_memory = 10
+
+-- the last line without its line feed
+abbrev pub text_of : End → Option Text
+text_of done = None
+text_of not_understood = Some (codes "words not understood")
+text_of (past limit) = Some (codes "limit: " ++ limit_text limit)
+text_of (shelf_failed name) = Some (codes "shelf failed: " ++ name)
+text_of (no_such_file name) = Some (codes "no such file: " ++ name)
+text_of (not_readable name reason) = Some (codes "not readable: " ++ (name ++ (codes " " ++ reason_text reason)))
+text_of unsaid = None
+text_of no_memory = None
+
+-- Whether the end tells a fault of the outside. Its line wants no memory: it is made before the call that may fail.
+abbrev pub is_fault : End → Bool
+is_fault done = false
+is_fault not_understood = false
+is_fault (past limit) = false
+is_fault (shelf_failed name) = true
+is_fault (no_such_file name) = false
+is_fault (not_readable name reason) = false
+is_fault unsaid = true
+is_fault no_memory = false

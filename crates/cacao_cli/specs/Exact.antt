@@ -1,0 +1,43 @@
+-- Which status comes, where the outside tells what it holds.
+use Rattle.std.specs.Prelude.{◌≡◌, ◌⊎◌, ℕ, List, [], ◌∷◌, ◌++◌, Option, Some, None, IfSome}
+use Rattle.cacao_site.specs.View.{SiteView}
+use Rattle.cacao_cli.specs.Asked.{Asked, canonises}
+use Rattle.cacao_cli.specs.Ends.{status_of}
+use Rattle.cacao_cli.specs.Files.{File, Files, files_of, reading}
+use Rattle.cacao_cli.specs.Work.{Work, ends, work}
+
+abbrev pub IsOneOf : ℕ → List ℕ → Type 0
+IsOneOf n [] = ⊥
+IsOneOf n (m ∷ ms) = (n ≡ m) ⊎ IsOneOf n ms
+
+-- the status comes exactly where its cause holds, but that a fault of this list may stand in its place
+pub record ComesExactly (status : ℕ) (faults : List ℕ) (cause : Type 0) (answer : ℕ) : Type 0 where
+  pub only : answer ≡ status → cause
+  pub always : cause → IsOneOf answer (status ∷ faults)
+
+-- so of the files, where the shelf tells them; where none is read, so of any files
+abbrev pub IfFilesTold : List File → Option Files → (Files → Type 0) → Type 0
+IfFilesTold [] told P = (files : Files) → P files
+IfFilesTold (file ∷ more) told P = IfSome told P
+
+-- so of the files, where all is told that the command reads
+abbrev pub IfTold : Option Asked → Option Files → SiteView → (Files → Type 0) → Type 0
+IfTold None told old P = IfFilesTold [] told P
+IfTold (Some (canonises book)) told old P = IfFilesTold (files_of (Some (canonises book))) told P
+
+-- the faults that may stand in the place of a status that rests on the files alone
+abbrev pub file_faults : List File → List ℕ
+file_faults [] = 9 ∷ 10 ∷ []
+file_faults (file ∷ more) = 3 ∷ 9 ∷ 10 ∷ []
+
+-- the same of a status that rests on all that the command reads
+abbrev pub faults_of : Option Asked → List ℕ
+faults_of None = file_faults []
+faults_of (Some (canonises book)) = file_faults (files_of (Some (canonises book)))
+
+-- the status is that of the work's end, or one of the faults that may stand in its place
+abbrev pub Exact : Work → List ℕ → SiteView → SiteView → ℕ → Type 0
+Exact (ends lines end) faults old new answer = IsOneOf answer (status_of end ∷ faults)
+
+abbrev pub Answers : Option Asked → Option Files → SiteView → SiteView → ℕ → Type 0
+Answers asked told old new answer = IfTold asked told old (λ files. Exact (work asked (reading files (files_of asked))) (faults_of asked) old new answer)

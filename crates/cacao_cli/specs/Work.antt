@@ -1,0 +1,51 @@
+-- What a command does, once the words and the files that it reads are known. The tests stand in the order of the statuses.
+use Rattle.std.specs.Prelude.{◌≡◌, List, [], ◌∷◌, ◌++◌, map, Option, Some, None, Result, Ok, Err, if◌then◌else◌, codes}
+use Rattle.serde_json.specs.Data.{Data}
+use Rattle.cacao_json.specs.Refusals.{answer}
+use Rattle.cacao_json.specs.declared.error.JsonError.{JsonError}
+use Rattle.cacao_json.specs.declared.error.JsonError.TheVariants as json
+use Rattle.cacao_text.specs.Canon.{book_text}
+use Rattle.cacao_cli.specs.Words.{Text}
+use Rattle.cacao_cli.specs.Asked.{Asked, canonises}
+use Rattle.cacao_cli.specs.Ends.{End, done, not_understood, past, not_readable, no_memory}
+use Rattle.cacao_cli.specs.Files.{NamedText, item_then, has_too_many}
+use Rattle.cacao_cli.specs.declared.limit.Limit.TheVariants.{BookCount}
+use Rattle.cacao_cli.specs.declared.reason.Reason.TheVariants.{NotJson, RepeatedName, NotWhole}
+
+-- what is left to be done where nothing was refused before: to say these lines, and end so
+pub data Work : Type 0 where
+  ends : (lines : List Text) (end : End) → Work
+
+-- the tree, or the end that says why there is none
+abbrev pub tree_or_end : Text → Result Data JsonError → Result Data End
+tree_or_end name (Ok root) = Ok root
+tree_or_end name (Err json.NotJson) = Err (not_readable name NotJson)
+tree_or_end name (Err (json.RepeatedName colons members)) = Err (not_readable name (RepeatedName colons members))
+tree_or_end name (Err (json.NotWhole index)) = Err (not_readable name (NotWhole index))
+tree_or_end name (Err json.Memory) = Err no_memory
+
+abbrev pub tree_of : NamedText → Result Data End
+tree_of text = tree_or_end text.name (answer text.bytes)
+
+-- the trees of the texts, or the end for the first that has none
+abbrev pub trees_of : List NamedText → Result (List Data) End
+trees_of [] = Ok []
+trees_of (text ∷ texts) = item_then (tree_of text) (trees_of texts)
+
+-- the end, or the work that the value comes to
+abbrev pub or_end : {A : Type 0} → Result A End → (A → Work) → Work
+or_end (Err end) work = ends [] end
+or_end (Ok value) work = work value
+
+-- the line of `canon`
+abbrev pub canon_line : Data → Text
+canon_line root = book_text root ++ codes "\n"
+
+-- the work that the texts of its files come to
+abbrev pub work_on : Asked → List NamedText → Work
+work_on (canonises book) texts = or_end (trees_of texts) (λ roots. ends (map canon_line roots) done)
+
+-- the work that the words and what was read come to
+abbrev pub work : Option Asked → Result (List NamedText) End → Work
+work None read = ends [] not_understood
+work (Some asked) read = if has_too_many asked then ends [] (past BookCount) else or_end read (work_on asked)

@@ -1,0 +1,49 @@
+// What has a limit.
+use std::fmt;
+
+/// What has a limit.
+#[derive(Clone, Copy, Debug, PartialEq, Eq)]
+pub enum Limit {
+    /// The bytes of a file that is read.
+    FileBytes,
+    /// The playbooks of one call.
+    BookCount,
+}
+
+impl Limit {
+    ghost use Rattle.std.specs.Prelude.{◌≡◌};
+    ghost use Rattle.cacao_cli.specs.Ends.{limit_name, most};
+
+    /// The name that is said of it.
+    pub fn name(self) -> &'static str
+        ensures { result.now ≡ limit_name self }
+    {
+        match self {
+            Limit::FileBytes => "file",
+            Limit::BookCount => "books",
+        }
+    }
+
+    /// The most that is taken.
+    pub fn most(self) -> u32
+        ensures { result ≡ most self }
+    {
+        match self {
+            Limit::FileBytes => 1_048_576,
+            Limit::BookCount => 16,
+        }
+    }
+}
+
+impl fmt::Display for Limit {
+    ghost use Rattle.std.specs.Prelude.{Some};
+    ghost use Rattle.cacao_cli.specs.Ends.{limit_text};
+
+    ghost output = { λ limit. Some (limit_text limit) };
+
+    fn fmt<W: fmt::Write>(&self, f: &mut fmt::Formatter<W>) -> fmt::Result {
+        let name = self.name();
+        let most = self.most();
+        write!(f, "{name} {most}")
+    }
+}
