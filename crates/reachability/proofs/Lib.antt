@@ -1,0 +1,5 @@
+pub mod ClosureLemmas
+pub mod MarkLemmas
+pub mod RowLemmas
+pub mod BackLemmas
+pub mod WordLemmas

@@ -1,0 +1,5 @@
+pub mod Closure
+pub mod Tables
+pub mod Words
+pub mod Searching
+pub mod Reversing

@@ -1,0 +1,80 @@
+//! Small graphs whose answers are plain to see.
+ghost use Rattle.std.specs.Prelude.{◌≡◌, ◌<◌, IfOk, length};
+ghost use Rattle.reachability.specs.Tables.{IsWithin};
+
+use crate::{Bits, Places, reached, reached_past_guards, reversed};
+use std::alloc::{AllocError, Global};
+use std::test::Fail;
+
+fn row(alloc: Global, places: &[u32]) -> Result<Places, AllocError>
+    ensures { IfOk result (λ row. row ≡ places.now) }
+{
+    let mut row = Places::new(alloc);
+    row.append(places)?;
+    Ok(row)
+}
+
+#[test]
+fn a_set_over_130_places_keeps_the_first_and_the_last_bit_of_its_words(
+    rt: HostRuntime,
+) -> Result<(), Fail> {
+    let mut bits = Bits::unmarked(rt.alloc(), 130)?;
+    bits.mark(63);
+    bits.mark(64);
+    bits.mark(129);
+    for (place, wanted) in [
+        (0, false),
+        (62, false),
+        (63, true),
+        (64, true),
+        (65, false),
+        (127, false),
+        (128, false),
+        (129, true),
+        (130, false),
+        (4_000_000_000, false),
+    ] {
+        assert_eq!(rt; bits.has(place), wanted, "{place}");
+    }
+    assert!(rt; !Bits::new(rt.alloc()).has(0));
+    Ok(())
+}
+
+#[test]
+fn a_circle_is_reached_whole_and_nothing_outside_it(rt: HostRuntime) -> Result<(), Fail> {
+    let alloc = rt.alloc();
+    let mut table = Vec::new(alloc);
+    table.push(row(alloc, &[1])?)?;
+    table.push(row(alloc, &[2, 2])?)?;
+    table.push(row(alloc, &[0])?)?;
+    table.push(row(alloc, &[0])?)?;
+    let marks = reached(alloc, 4, &table, &[1])?;
+    for (place, wanted) in [(0, true), (1, true), (2, true), (3, false)] {
+        assert_eq!(rt; marks.has(place), wanted, "{place}");
+    }
+    let back = reversed(alloc, &table)?;
+    assert_eq!(rt; back[0].as_slice(), [2, 3].as_slice());
+    assert_eq!(rt; back[2].as_slice(), [1, 1].as_slice());
+    assert_eq!(rt; back[3].as_slice().len(), 0);
+    Ok(())
+}
+
+#[test]
+fn guarded_edges_leave_no_shut_place_and_enter_no_blocked_one(rt: HostRuntime) -> Result<(), Fail> {
+    let alloc = rt.alloc();
+    let mut free = Vec::new(alloc);
+    free.push(row(alloc, &[1])?)?;
+    let mut guarded = Vec::new(alloc);
+    guarded.push(row(alloc, &[])?)?;
+    guarded.push(row(alloc, &[2, 4])?)?;
+    guarded.push(row(alloc, &[3])?)?;
+    let mut shut = Bits::unmarked(alloc, 5)?;
+    shut.mark(2);
+    let mut blocked = Bits::unmarked(alloc, 5)?;
+    blocked.mark(4);
+    let marks = reached_past_guards(alloc, 5, &free, &guarded, &shut, &blocked, &[0])?;
+    for (place, wanted) in [(0, true), (1, true), (2, true), (3, false), (4, false)] {
+        assert_eq!(rt; marks.has(place), wanted, "{place}");
+    }
+    Ok(())
+}
