@@ -1,0 +1,7 @@
+pub mod PlaceLemmas
+pub mod ListLemmas
+pub mod ArgumentLemmas
+pub mod IdLemmas
+pub mod ShapeLemmas
+pub mod LimitLemmas
+pub mod Examples

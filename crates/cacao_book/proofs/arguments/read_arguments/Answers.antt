@@ -1,0 +1,12 @@
+use Rattle.std.proofs.Common.{sym, subst, arith, ◌∙◌, map}
+use Rattle.std.specs.Prelude.{All}
+use Rattle.cacao_json.specs.Tree.{data_of}
+use Rattle.cacao_book.specs.Members.{TextFits}
+use Rattle.cacao_book.specs.Shape.{IsArgument}
+use Rattle.cacao_book.proofs.ListLemmas.{fits_at}
+use Rattle.cacao_book.proofs.arguments.read_arguments.Goals as goal
+
+pub read_name-requires : goal.read_name-requires
+read_name-requires c =
+    fits_at data_of (TextFits IsArgument) c.items_at-item-items.result.now c.loop-item.item-index c.item-item.result c.loop-item-test.true c.item-item.is
+    (subst (All (TextFits IsArgument)) (sym c.items_at-item-items.ensures) c.requires)

@@ -1,0 +1,187 @@
+//! Variable dictionaries, and tables under identifiers.
+ghost use Rattle.std.specs.Prelude.{◌≡◌, ◌↔◌, ◌≤◌, IsTrue, All, IfOk, codes, length, map};
+ghost use Rattle.cacao_ids.specs.Ids.{IsId};
+ghost use Rattle.cacao_vars.specs.Names.{IsName};
+ghost use Rattle.cacao_json.specs.Tree.{data_of, pair_data};
+ghost use Rattle.cacao_book.specs.Members.{Has, MayHave, TextFits, IsShort};
+ghost use Rattle.cacao_book.specs.Shape.{IsDeclaration, IsDictionary, IsIdTable};
+ghost use Rattle.cacao_book.specs.Books.{maybe_text, var_of, vars_at};
+
+use crate::grammars::{is_id, is_name};
+use crate::lists::{members_at, pairs};
+use crate::members::{flag_at, is_short_text, may_have_flag, members_of, some_text, text_at};
+use cacao_json::{Pair, Tree, member, text_of};
+use cacao_vars::{Kind, Name, Var, Vars, Word};
+use std::alloc::{AllocError, Global};
+
+// How many bytes the name of a type may have, and how many a value; how many variables a dictionary may have.
+const MOST_TYPE: usize = 64;
+
+const MOST_VALUE: usize = 4_096;
+
+const MOST_VARIABLES: usize = 1_024;
+
+// Whether the type of a variable is there and is a text of 1 to 64 bytes.
+fn has_type_name(tree: &Tree) -> bool
+    ensures { IsTrue result ↔ Has (codes "type") (TextFits (λ text. (1 ≤ length text) × IsShort 64 text)) (data_of tree.now) }
+{
+    match text_at(tree, "type") {
+        Some(text) => 1 <= text.len() && text.len() <= MOST_TYPE,
+        None => false,
+    }
+}
+
+// Whether the value of a variable is absent or a text of at most 4,096 bytes.
+fn may_have_value(tree: &Tree) -> bool
+    ensures { IsTrue result ↔ MayHave (codes "value") (TextFits (IsShort 4096)) (data_of tree.now) }
+{
+    match member(tree, "value") {
+        Some(value) => is_short_text(value, MOST_VALUE),
+        None => true,
+    }
+}
+
+// Whether a value declares a variable.
+fn is_declaration(tree: &Tree) -> bool
+    ensures { IsTrue result ↔ IsDeclaration (data_of tree.now) }
+{
+    has_type_name(tree)
+        && may_have_value(tree)
+        && may_have_flag(tree, "constant")
+        && may_have_flag(tree, "external")
+}
+
+// Whether a member declares a variable by its name.
+fn declares(alloc: Global, pair: &Pair) -> Result<bool, AllocError>
+    ensures { IfOk result (λ fits. IsTrue fits ↔ (IsName (pair_data pair.now).0 × IsDeclaration (pair_data pair.now).1)) }
+{
+    let has_name = is_name(alloc, pair.name.as_str())?;
+    Ok(has_name && is_declaration(&pair.tree))
+}
+
+// Whether each member declares a variable.
+fn each_declares(alloc: Global, members: &[Pair]) -> Result<bool, AllocError>
+    ensures { IfOk result (λ fits. IsTrue fits ↔ All (λ m. IsName m.0 × IsDeclaration m.1) (map pair_data members.now)) }
+{
+    for pair in members {
+        if !declares(alloc, pair)? {
+            return Ok(false);
+        }
+    }
+    Ok(true)
+}
+
+// Whether a value is a variable dictionary.
+fn is_dictionary(alloc: Global, value: &Tree) -> Result<bool, AllocError>
+    ensures { IfOk result (λ fits. IsTrue fits ↔ IsDictionary (data_of value.now)) }
+{
+    let Some(members) = members_of(value) else {
+        return Ok(false);
+    };
+    let members = pairs(members);
+    if MOST_VARIABLES < members.len() {
+        return Ok(false);
+    }
+    let fits = each_declares(alloc, members)?;
+    Ok(fits)
+}
+
+/// Whether a member is absent or a variable dictionary.
+pub(crate) fn may_have_dictionary(
+    alloc: Global,
+    tree: &Tree,
+    name: &str,
+) -> Result<bool, AllocError>
+    ensures { IfOk result (λ fits. IsTrue fits ↔ MayHave name.now IsDictionary (data_of tree.now)) }
+{
+    let Some(value) = member(tree, name) else {
+        return Ok(true);
+    };
+    let fits = is_dictionary(alloc, value)?;
+    Ok(fits)
+}
+
+// Whether a member's name is an identifier.
+fn is_named_by_id(alloc: Global, pair: &Pair) -> Result<bool, AllocError>
+    ensures { IfOk result (λ fits. IsTrue fits ↔ IsId (pair_data pair.now).0) }
+{
+    let fits = is_id(alloc, pair.name.as_str())?;
+    Ok(fits)
+}
+
+// Whether each member's name is an identifier.
+fn are_named_by_ids(alloc: Global, members: &[Pair]) -> Result<bool, AllocError>
+    ensures { IfOk result (λ fits. IsTrue fits ↔ All (λ m. IsId m.0) (map pair_data members.now)) }
+{
+    for pair in members {
+        if !is_named_by_id(alloc, pair)? {
+            return Ok(false);
+        }
+    }
+    Ok(true)
+}
+
+// Whether a value is an object whose names are identifiers.
+fn is_id_table(alloc: Global, value: &Tree) -> Result<bool, AllocError>
+    ensures { IfOk result (λ fits. IsTrue fits ↔ IsIdTable (data_of value.now)) }
+{
+    let Some(members) = members_of(value) else {
+        return Ok(false);
+    };
+    let fits = are_named_by_ids(alloc, pairs(members))?;
+    Ok(fits)
+}
+
+/// Whether a member is absent or an object whose names are identifiers.
+pub(crate) fn may_have_id_table(alloc: Global, tree: &Tree, name: &str) -> Result<bool, AllocError>
+    ensures { IfOk result (λ fits. IsTrue fits ↔ MayHave name.now IsIdTable (data_of tree.now)) }
+{
+    let Some(value) = member(tree, name) else {
+        return Ok(true);
+    };
+    let fits = is_id_table(alloc, value)?;
+    Ok(fits)
+}
+
+// The text of a member as a value.
+fn read_word(alloc: Global, tree: &Tree, name: &str) -> Result<Option<Word>, AllocError>
+    ensures { IfOk result (λ word. word ≡ maybe_text name.now (data_of tree.now)) }
+{
+    match text_at(tree, name) {
+        Some(text) => {
+            let word = Word::new(alloc, text)?;
+            Ok(Some(word))
+        }
+        None => Ok(None),
+    }
+}
+
+// The variable that a member declares.
+fn read_var(alloc: Global, pair: &Pair) -> Result<Var, AllocError>
+    requires { IsName (pair_data pair.now).0 }
+    ensures { IfOk result (λ var. var ≡ var_of (pair_data pair.now)) }
+{
+    let tree = &pair.tree;
+    let name = Name::new(alloc, pair.name.as_str())?;
+    let kind = Kind::read(alloc, some_text(tree, "type"))?;
+    let worth = read_word(alloc, tree, "value")?;
+    Ok(Var {
+        name,
+        kind,
+        worth,
+        constant: flag_at(tree, "constant"),
+        external: flag_at(tree, "external"),
+    })
+}
+
+/// The variables that the dictionary under a name declares; none where there is no dictionary.
+pub(crate) fn read_vars(alloc: Global, tree: &Tree, name: &str) -> Result<Vars, AllocError>
+    requires { MayHave name.now IsDictionary (data_of tree.now) }
+    ensures { IfOk result (λ vars. vars ≡ vars_at name.now (data_of tree.now)) }
+{
+    let mut vars = Vec::new(alloc);
+    for pair in members_at(tree, name) {
+        vars.push(read_var(alloc, pair)?)?;
+    }
+    Ok(Vars::from_vec(vars))
+}
