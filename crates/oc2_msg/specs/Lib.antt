@@ -1,0 +1,13 @@
+pub mod Reasons
+pub mod Parts
+pub mod Words
+pub mod Features
+pub mod Targets
+pub mod Args
+pub mod Commands
+pub mod Messages
+pub mod Ranges
+pub mod Least
+pub mod Responses
+pub mod Laws
+pub mod Puts

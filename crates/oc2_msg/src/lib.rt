@@ -1,0 +1,48 @@
+//! OpenC2 commands and responses of the profile for stateless packet filtering, as JSON texts, both ways.
+//!
+//! `read_command` answers by six tests in their order (the table of refusals), `write_command` writes the least command with a
+//! value, and so does `write_response`; what is written reads back.
+#![tactic(auto)]
+
+mod actions;
+mod answers;
+mod arguments;
+mod building;
+mod command_writing;
+mod commands;
+mod connections;
+mod directions;
+mod drops;
+mod feature_lists;
+mod features;
+mod kinds;
+mod laws;
+mod messages;
+mod parts;
+mod protocols;
+mod reading;
+mod reasons;
+mod refusals;
+mod response_reading;
+mod response_writing;
+mod responses;
+mod target_writing;
+mod targets;
+mod values;
+
+pub use answers::{Answer, ResponseError};
+pub use command_writing::write_command;
+pub use commands::Command;
+pub use directions::Direction;
+pub use drops::Drop3;
+pub use features::{Feature, FeatureList};
+pub use laws::reads_back;
+pub use reading::read_command;
+pub use reasons::Reason;
+pub use refusals::{CommandError, Refusal};
+pub use response_reading::read_response;
+pub use response_writing::write_response;
+pub use responses::Response;
+
+#[cfg(test)]
+mod tests;

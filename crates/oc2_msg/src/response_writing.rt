@@ -1,0 +1,144 @@
+// From responses to texts.
+ghost use Rattle.std.specs.Prelude.{◌≡◌, ◌<◌, ◌^◌, IfOk, OnOk, Some, option_map};
+ghost use Rattle.cacao_json.specs.Tree.{data_of};
+ghost use Rattle.oc2_msg.specs.Reasons.{reason_text};
+ghost use Rattle.oc2_msg.specs.Ranges.{IsStatus};
+ghost use Rattle.oc2_msg.specs.Responses.{flow_kinds, feature_value, pairs_value, value_part, rule_part, results_part, text_part, response_object, response_text, answer};
+
+use crate::building::{one_member, one_text, push_text, put, text_tree, unless_empty, whole_tree};
+use crate::features::{Feature, FeatureList};
+use crate::reasons::Reason;
+use crate::responses::Response;
+use cacao_json::{Items, Pairs, Tree};
+use cacao_text::{Bytes2, canonical};
+use std::alloc::{AllocError, Global};
+
+/// The canonical text (RFC 8785) of the response (OpenC2 Language 1.0, section 3.2): `results` with the values of the
+/// features and the rule's number, if there are any, `status`, and `status_text`, if it is not empty.
+pub fn write_response(alloc: Global, response: &Response) -> Result<Bytes2, AllocError>
+    requires { IsStatus response.now.status }
+    ensures text { IfOk result (λ text. text ≡ response_text response.now) }
+    ensures back { IfOk result (λ text. answer text ≡ Some (record {
+      status = response.now.status;
+      rule = response.now.rule;
+      text = reason_text response.now.text;
+    })) }
+{
+    let results = results_part(alloc, response.rule, &response.features)?;
+    let tree = response_tree(alloc, results, response.status, response.text)?;
+    canonical(alloc, &tree)
+}
+
+/// The targets of rules.
+fn flow_kinds(alloc: Global) -> Result<Tree, AllocError>
+    ensures { IfOk result (λ t. data_of t ≡ flow_kinds) }
+{
+    let mut items = Items::new(alloc);
+    push_text(alloc, &mut items, "ipv4_connection")?;
+    push_text(alloc, &mut items, "ipv4_net")?;
+    push_text(alloc, &mut items, "ipv6_connection")?;
+    push_text(alloc, &mut items, "ipv6_net")?;
+    Ok(Tree::List(items))
+}
+
+/// The targets that each action takes.
+fn pairs_value(alloc: Global) -> Result<Tree, AllocError>
+    ensures { IfOk result (λ t. data_of t ≡ pairs_value) }
+{
+    let allow = flow_kinds(alloc)?;
+    let delete = one_text(alloc, "slpf:rule_number")?;
+    let deny = flow_kinds(alloc)?;
+    let query = one_text(alloc, "features")?;
+    let update = one_text(alloc, "file")?;
+    let mut pairs = Pairs::new(alloc);
+    put(alloc, &mut pairs, "update", Some(update))?;
+    put(alloc, &mut pairs, "query", Some(query))?;
+    put(alloc, &mut pairs, "deny", Some(deny))?;
+    put(alloc, &mut pairs, "delete", Some(delete))?;
+    put(alloc, &mut pairs, "allow", Some(allow))?;
+    Ok(Tree::Members(pairs))
+}
+
+fn feature_value(alloc: Global, feature: Feature) -> Result<Tree, AllocError>
+    ensures { IfOk result (λ t. data_of t ≡ feature_value feature) }
+{
+    match feature {
+        Feature::Versions => one_text(alloc, "1.0"),
+        Feature::Profiles => one_text(alloc, "slpf"),
+        Feature::Pairs => pairs_value(alloc),
+        Feature::RateLimit => Ok(whole_tree(60_000)),
+    }
+}
+
+/// The value of a feature, if it is asked for.
+fn value_part(
+    alloc: Global,
+    features: &FeatureList,
+    feature: Feature,
+) -> Result<Option<Tree>, AllocError>
+    ensures { IfOk result (λ part. option_map data_of part ≡ value_part features.now feature) }
+{
+    if features.has(feature) {
+        Ok(Some(feature_value(alloc, feature)?))
+    } else {
+        Ok(None)
+    }
+}
+
+fn rule_part(alloc: Global, rule: u32) -> Result<Option<Tree>, AllocError>
+    ensures { IfOk result (λ part. option_map data_of part ≡ rule_part rule) }
+{
+    if rule == 0 {
+        return Ok(None);
+    }
+    let number = one_member(alloc, "rule_number", whole_tree(rule as u64))?;
+    Ok(Some(number))
+}
+
+fn results_part(
+    alloc: Global,
+    rule: u32,
+    features: &FeatureList,
+) -> Result<Option<Tree>, AllocError>
+    ensures value { IfOk result (λ part. option_map data_of part ≡ results_part rule features.now) }
+    ensures small { OnOk result (rule < 2 ^ 32) }
+{
+    let pairs = value_part(alloc, features, Feature::Pairs)?;
+    let profiles = value_part(alloc, features, Feature::Profiles)?;
+    let rate_limit = value_part(alloc, features, Feature::RateLimit)?;
+    let slpf = rule_part(alloc, rule)?;
+    let versions = value_part(alloc, features, Feature::Versions)?;
+    let mut results = Pairs::new(alloc);
+    put(alloc, &mut results, "versions", versions)?;
+    put(alloc, &mut results, "slpf", slpf)?;
+    put(alloc, &mut results, "rate_limit", rate_limit)?;
+    put(alloc, &mut results, "profiles", profiles)?;
+    put(alloc, &mut results, "pairs", pairs)?;
+    Ok(unless_empty(results))
+}
+
+fn text_part(alloc: Global, text: Reason) -> Result<Option<Tree>, AllocError>
+    ensures { IfOk result (λ part. option_map data_of part ≡ text_part (reason_text text)) }
+{
+    let text = text.text();
+    if text.is_empty() {
+        return Ok(None);
+    }
+    Ok(Some(text_tree(alloc, text)?))
+}
+
+fn response_tree(
+    alloc: Global,
+    results: Option<Tree>,
+    status: u16,
+    text: Reason,
+) -> Result<Tree, AllocError>
+    ensures { IfOk result (λ t. data_of t ≡ response_object (option_map data_of results) status text) }
+{
+    let text = text_part(alloc, text)?;
+    let mut pairs = Pairs::new(alloc);
+    put(alloc, &mut pairs, "status_text", text)?;
+    put(alloc, &mut pairs, "status", Some(whole_tree(status as u64)))?;
+    put(alloc, &mut pairs, "results", results)?;
+    Ok(Tree::Members(pairs))
+}
