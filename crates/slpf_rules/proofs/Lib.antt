@@ -1,0 +1,12 @@
+pub mod NumberTests
+pub mod Entries
+pub mod Zeros
+pub mod Rising
+pub mod Indexed
+pub mod Counting
+pub mod Filings
+pub mod Smallest
+pub mod NetWidths
+pub mod Deciders
+pub mod ReplyRanges
+pub mod ReplyLengths

@@ -1,0 +1,13 @@
+pub mod AnyNets
+pub mod AnyNetOrder
+pub mod Rules
+pub mod Order
+pub mod Verdicts
+pub mod Filed
+pub mod Widths
+pub mod IndexEntries
+pub mod Filing
+pub mod Deciding
+pub mod Replies
+pub mod TableFacts
+pub mod Laws

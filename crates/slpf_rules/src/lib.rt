@@ -1,0 +1,25 @@
+//! The rule table of a simulated packet filter (OpenC2 SLPF 1.0).
+#![tactic(auto)]
+
+mod adding;
+mod answering;
+mod any_nets;
+mod deciding;
+mod filing;
+mod index;
+mod laws;
+mod numbers;
+mod rules;
+mod table;
+#[cfg(test)]
+mod tests;
+mod verdicts;
+mod widths;
+
+pub use answering::refused;
+pub use any_nets::AnyNet;
+pub use laws::replies_are_final;
+pub use numbers::Numbers;
+pub use rules::{Rule, Rules};
+pub use table::Table;
+pub use verdicts::Verdict;
