@@ -1,0 +1,90 @@
+#!/usr/bin/env python3
+"""Writes a playbook that is costly to check, of at most 1 MiB, to standard output.
+
+usage: make_hostile.py arguments | nested | branches | plain [NUMBER]
+  arguments   playbook-actions with 64 different arguments each, at the end of a deep chain of control steps
+  nested      4,096 steps, nearly all parallel steps, each in the region of the one before it
+  branches    a chain of parallel steps with 64 equal branches each
+  plain       a chain of 4,000 actions
+NUMBER is that of the playbook, 1 if it is not given: playbooks with different numbers have different identifiers.
+"""
+import json
+import sys
+
+
+def identifier(kind, number):
+    return f"{kind}--00000000-0000-4000-8000-{number:012x}"
+
+
+START, END, AGENT = identifier("start", 1), identifier("end", 1), identifier("a", 1)
+BOOK = identifier("playbook", int(sys.argv[2]) if len(sys.argv) > 2 else 1)
+
+
+def playbook(steps, variables):
+    return {
+        "type": "playbook",
+        "spec_version": "cacao-2.0",
+        "id": BOOK,
+        "name": "n",
+        "created_by": identifier("identity", 1),
+        "created": "2024-01-01T00:00:00Z",
+        "modified": "2024-01-01T00:00:00Z",
+        "workflow_start": START,
+        "agent_definitions": {AGENT: {}},
+        "playbook_variables": variables,
+        "workflow": {**steps, END: {"type": "end"}},
+    }
+
+
+def nested(count):
+    keys = [identifier("p", n) for n in range(count)] + [END]
+    steps = {START: {"type": "start", "on_completion": keys[0]}}
+    for n in range(count):
+        steps[keys[n]] = {"type": "parallel", "next_steps": [keys[n + 1]], "on_completion": END}
+    return steps
+
+
+def branches(count, width):
+    keys = [identifier("p", n) for n in range(count)] + [END]
+    steps = {START: {"type": "start", "on_completion": keys[0]}}
+    for n in range(count):
+        steps[keys[n]] = {"type": "parallel", "next_steps": [keys[n + 1]] * width, "on_completion": END}
+    return steps
+
+
+def arguments(depth, calls):
+    steps = nested(depth)
+    keys = [identifier("q", n) for n in range(calls)] + [END]
+    steps[identifier("p", depth - 1)]["next_steps"] = [keys[0]]
+    declared = {}
+    for n in range(calls):
+        names = [f"__{n * 64 + k:x}__" for k in range(64)]
+        for name in names:
+            declared[name] = {"type": "x"}
+        steps[keys[n]] = {"type": "playbook-action", "playbook_id": identifier("playbook", 999), "in_args": names, "on_completion": keys[n + 1]}
+    names = list(declared)
+    for at in range(0, len(names), 1000):
+        key = identifier("p", at // 1000)
+        steps[key]["step_variables"] = {name: declared[name] for name in names[at : at + 1000]}
+    return steps
+
+
+def plain(count):
+    keys = [identifier("a", n) for n in range(count)] + [END]
+    steps = {START: {"type": "start", "on_completion": keys[0]}}
+    for n in range(count):
+        command = {"type": "openc2-http", "content": '{"a":"__x__:value"}'}
+        steps[keys[n]] = {"type": "action", "agent": AGENT, "commands": [command], "out_args": ["__y__"], "on_completion": keys[n + 1]}
+    return steps
+
+
+MADE = {
+    "arguments": lambda: playbook(arguments(1500, 250), {}),
+    "nested": lambda: playbook(nested(4094), {}),
+    "branches": lambda: playbook(branches(280, 64), {}),
+    "plain": lambda: playbook(plain(4000), {"__x__": {"type": "string"}, "__y__": {"type": "string"}}),
+}
+
+text = json.dumps(MADE[sys.argv[1]](), separators=(",", ":"))
+assert len(text) <= 1_048_576, len(text)
+print(text)

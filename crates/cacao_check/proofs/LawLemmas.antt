@@ -1,0 +1,103 @@
+-- The laws of books that break no rule.
+use Rattle.std.proofs.Common.{◌≡◌, inl, inr, ℕ, ◌<◌, ◌≤◌, Bool, IsTrue, List, map, Option, Some, None, IfSome, slice_get, is_some, refl, sym, ◌∙◌, ap, subst, arith, pos}
+use Rattle.std.specs.Fmt.{decimal}
+use Rattle.std.proofs.lemmas.Bool.{false≢true}
+use Rattle.serde_json.specs.Data.{Data}
+use Rattle.decimals.specs.Laws.{IntegersReadBack}
+use Rattle.cacao_vars.specs.declared.kinds.Kind.{Kind}
+use Rattle.cacao_vars.specs.declared.kinds.Kind.TheVariants as kind
+use Rattle.cacao_book.specs.declared.books.Book.{Book}
+use Rattle.cacao_book.specs.declared.steps.Step.{Step}
+use Rattle.cacao_book.specs.Least.{Before, IsLeastBreak}
+use Rattle.cacao_book.specs.Shape.{ShapeDemand, shape_rank, KeepsShape, IsWellShaped}
+use Rattle.cacao_book.specs.Books.{book}
+use Rattle.cacao_check.specs.declared.breaks.Mode.{Mode}
+use Rattle.cacao_check.specs.declared.rules.SenseRule.{SenseRule}
+use Rattle.cacao_check.specs.declared.rules.SenseRule.TheVariants as rule
+use Rattle.cacao_check.specs.Fits.{FitsKind}
+use Rattle.cacao_check.specs.Rules.{may_take, K19, K25}
+use Rattle.cacao_check.specs.Sense.{SenseDemand, sense_rank, IsSound, KeepsSense, KeepsOfStep, KeepsAt}
+use Rattle.cacao_check.specs.FirstBreak.{Demand, of_shape, of_sense, rank, Keeps, AreWellShaped}
+use Rattle.cacao_check.specs.Laws.{SoundGives, SoundEnds, ResultsFit, FirstBreakIs}
+
+at_some : {X : Type 0} (o : Option X) (P : X → Type 0) (x : X) → o ≡ Some x → IfSome o P → P x
+at_some o P x e h = rw e at h
+
+kept_of_step : (books : List Book) (mode : Mode) → IsSound books mode → (n place : ℕ) (book : Book) (step : Step) (r : SenseRule) → slice_get books n ≡ Some book → slice_get book.steps place ≡ Some step → KeepsOfStep books mode n book place step r
+kept_of_step books mode sound n place book step r at here =
+    at_some (slice_get book.steps place) (λ s. KeepsOfStep books mode n book place s r) step here
+    (at_some (slice_get books n) (λ b. KeepsAt books mode n b (Some place) r) book at (sound (record { book = n; step = Some place; rule = r })))
+
+pub sound_gives : SoundGives
+sound_gives = record {
+  of_step = kept_of_step;
+  of_book = λ books mode sound n book r at. at_some (slice_get books n) (λ b. KeepsAt books mode n b None r) book at (sound (record { book = n; step = None; rule = r }));
+}
+
+pub sound_ends : SoundEnds
+sound_ends = record {
+  ends = λ books mode sound n place book step at here. let k : K25 book place = kept_of_step books mode sound n place book step rule.K25 at here in k.0;
+  apart = λ books mode sound n place book step at here. let k : K25 book place = kept_of_step books mode sound n place book step rule.K25 at here in k.1;
+  no_circle = λ books mode sound n m place book theirs step at here calls there. let k : K19 books n step = kept_of_step books mode sound n place book step rule.K19 at here in (k m theirs calls there).1;
+}
+
+-- ---- results
+
+number_fits : IntegersReadBack → (k n : ℕ) (kind : Kind) → IsTrue (may_take k kind) → n ≤ 9007199254740991 → k < 2 → FitsKind kind (decimal n)
+number_fits back k n kind.String may few two = inr tt
+number_fits back k n kind.Bool may few two = absurd (false≢true may)
+number_fits back k n kind.Integer may few two = inr (ap is_some (back 9007199254740991 9007199254740991 (pos n) few (omega arith) (omega arith)))
+number_fits back k n kind.Long may few two = inr (ap is_some (back 9223372036854775808 9223372036854775807 (pos n) (let fits : n ≤ 9223372036854775807 = omega arith in fits) (omega arith) (omega arith)))
+number_fits back k n kind.Ipv4Addr may few two = absurd (false≢true may)
+number_fits back k n kind.Ipv6Addr may few two = absurd (false≢true may)
+number_fits back k n kind.MacAddr may few two = absurd (false≢true may)
+number_fits back k n kind.Uri may few two = absurd (false≢true may)
+number_fits back k n kind.Uuid may few two = absurd (false≢true may)
+number_fits back k n kind.Hexstring may few two = absurd (false≢true may)
+number_fits back k n (kind.Other name) may few two = inr tt
+
+text_fits : (kind : Kind) (text : List ℕ) → IsTrue (may_take 2 kind) → FitsKind kind text
+text_fits kind.String text may = inr tt
+text_fits (kind.Other name) text may = inr tt
+text_fits _ text may = absurd (false≢true may)
+
+pub results_fit : IntegersReadBack → ResultsFit
+results_fit back = record { number = number_fits back; text = text_fits }
+
+-- ---- the first break
+
+some_if : {X : Type 0} (o : Option X) (P : X → Type 0) → ((x : X) → o ≡ Some x → P x) → IfSome o P
+some_if None P h = tt
+some_if (Some x) P h = h x refl
+
+pub first_break_is : FirstBreakIs
+first_break_is = record {
+  of_shapes = λ trees mode n t demand at before least. record {
+    is_broken = λ kept. least.is_broken (at_some (slice_get trees n) (λ t. KeepsShape t demand) t at kept);
+    earlier = shape_earlier trees mode n t demand at before least;
+  };
+  of_senses = λ trees mode demand shaped least. record { is_broken = least.is_broken; earlier = sense_earlier trees mode demand shaped least };
+  none = λ trees mode shaped sound d. kept_all trees mode shaped sound d;
+}
+  where
+    shape_earlier : (trees : List Data) (mode : Mode) (n : ℕ) (t : Data) (demand : ShapeDemand) → slice_get trees n ≡ Some t → ((k : ℕ) (earlier : Data) → k < n → slice_get trees k ≡ Some earlier → IsWellShaped earlier)
+        → IsLeastBreak shape_rank (KeepsShape t) demand → (other : Demand) → Before (rank other) (rank (of_shape n demand)) → Keeps trees mode other
+    shape_earlier trees mode n t demand at before least (of_sense d) b = elim b [ inl lt ↦ absurd (let h : 1 < 0 = lt in omega arith) | inr same ↦ absurd (let h : 1 ≡ 0 = same.0 in omega arith) ]
+    shape_earlier trees mode n t demand at before least (of_shape k d) b = elim b [
+      | inl lt ↦ absurd (let h : 0 < 0 = lt in omega arith)
+      | inr same ↦ elim same.1 [
+        | inl lower ↦ some_if (slice_get trees k) (λ u. KeepsShape u d) (λ u there. before k u lower there d)
+        | inr here ↦ some_if (slice_get trees k) (λ u. KeepsShape u d) (λ u there. subst (λ v. KeepsShape v d) (one t u (sym at ∙ ap (slice_get trees) (sym here.0) ∙ there)) (least.earlier d here.1))
+      ]
+    ]
+      where
+        one : (a b : Data) → Some a ≡ Some b → a ≡ b
+        one a b e = cc
+
+    sense_earlier : (trees : List Data) (mode : Mode) (demand : SenseDemand) → AreWellShaped trees → IsLeastBreak sense_rank (KeepsSense (map book trees) mode) demand → (other : Demand) → Before (rank other) (rank (of_sense demand)) → Keeps trees mode other
+    sense_earlier trees mode demand shaped least (of_shape k d) b = some_if (slice_get trees k) (λ u. KeepsShape u d) (λ u there. at_some (slice_get trees k) IsWellShaped u there (shaped k) d)
+    sense_earlier trees mode demand shaped least (of_sense d) b = elim b [ inl lt ↦ absurd (let h : 1 < 1 = lt in omega arith) | inr same ↦ least.earlier d same.1 ]
+
+    kept_all : (trees : List Data) (mode : Mode) → AreWellShaped trees → IsSound (map book trees) mode → (d : Demand) → Keeps trees mode d
+    kept_all trees mode shaped sound (of_shape k d) = some_if (slice_get trees k) (λ u. KeepsShape u d) (λ u there. at_some (slice_get trees k) IsWellShaped u there (shaped k) d)
+    kept_all trees mode shaped sound (of_sense d) = sound d

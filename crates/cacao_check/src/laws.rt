@@ -1,0 +1,36 @@
+//! Laws over the definitions that the contracts of this crate speak by. Each function does nothing; its contract is the law.
+ghost use Rattle.cacao_check.specs.Regions.{ScopesAgree};
+ghost use Rattle.cacao_check.specs.Laws.{SoundGives, SoundEnds, ResultsFit, FirstBreakIs};
+
+use decimals::decimal_law;
+
+/// What the scopes of a run see is what its steps may see.
+#[tactic(auto, using(crate::proofs::SeenLemmas::scopes_agree))]
+pub fn scopes_agree()
+    ensures { ScopesAgree }
+{}
+
+/// Books that break no rule keep each rule, of each book and of each step.
+#[tactic(auto, using(crate::proofs::LawLemmas::sound_gives))]
+pub fn sound_gives()
+    ensures { SoundGives }
+{}
+
+/// Of books that break no rule: from each step a path can end, no step encloses itself, and no called book leads back.
+#[tactic(auto, using(crate::proofs::LawLemmas::sound_ends))]
+pub fn sound_ends()
+    ensures { SoundEnds }
+{}
+
+/// What is written for the results of an action fits the kinds that may take them.
+pub fn results_fit()
+    ensures { ResultsFit }
+{
+    decimal_law();
+}
+
+/// The first break of the trees of books is the first of shape in the first book that has one, else the first of sense.
+#[tactic(auto, using(crate::proofs::LawLemmas::first_break_is))]
+pub fn first_break_is()
+    ensures { FirstBreakIs }
+{}
