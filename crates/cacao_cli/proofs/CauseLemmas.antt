@@ -3,15 +3,15 @@ use Rattle.std.proofs.Common.{◌≡◌, ◌⊎◌, inl, inr, ◌∙◌, refl, s
 use Rattle.std.specs.Prelude.{IsSomeAnd, if◌then◌else◌}
 use Rattle.serde_json.specs.Data.{Data}
 use Rattle.cacao_json.specs.Reading.{tree}
+use Rattle.cacao_site.specs.View.{SiteView}
 use Rattle.cacao_cli.specs.Words.{Text}
 use Rattle.cacao_cli.specs.Ends.{End, most, status_of, no_such_file, past, not_readable}
 use Rattle.cacao_cli.specs.Files.{File, Files, Content, NamedText, whole, too_long, named, text_in, item_then, content_in, reading}
 use Rattle.cacao_cli.specs.Work.{Work, ends, or_end, tree_of, trees_of}
-use Rattle.cacao_cli.specs.Exact.{IsOneOf, ComesExactly}
+use Rattle.cacao_cli.specs.Exact.{IsOneOf, ComesExactly, HasStatus}
 use Rattle.cacao_cli.specs.Causes.{IsWithin, AllWithin, First, IsMissing, IsTooLong, Trees, SomeTreeless}
 use Rattle.cacao_cli.specs.declared.limit.Limit.{Limit}
 use Rattle.cacao_cli.specs.declared.reason.Reason.{Reason}
-use Rattle.cacao_cli.proofs.ExactLemmas.{work_status}
 use Rattle.cacao_cli.proofs.ReadLemmas.{Read}
 use Rattle.cacao_cli.proofs.TreeLemmas.{TreeCase, has_tree, treeless, tree_case}
 
@@ -113,25 +113,25 @@ abbrev pub tree_work : Files → List File → (List Data → Work) → Work
 tree_work files list does = or_end (reading files list) (λ texts. or_end (trees_of texts) does)
 
 pub data TreeWork (files : Files) (list : List File) (does : List Data → Work) : Type 0 where
-  is_missing : IsMissing files list → work_status (tree_work files list does) ≡ 4 → TreeWork files list does
-  is_too_long : IsTooLong files list → work_status (tree_work files list does) ≡ 11 → TreeWork files list does
-  is_treeless : AllWithin files list → SomeTreeless files list → work_status (tree_work files list does) ≡ 5 → TreeWork files list does
-  is_read : (roots : List Data) → Trees files list roots → work_status (tree_work files list does) ≡ work_status (does roots) → TreeWork files list does
+  is_missing : (name : Text) → IsMissing files list → tree_work files list does ≡ ends [] (no_such_file name) → TreeWork files list does
+  is_too_long : (limit : Limit) → IsTooLong files list → tree_work files list does ≡ ends [] (past limit) → TreeWork files list does
+  is_treeless : (name : Text) (reason : Reason) → AllWithin files list → SomeTreeless files list → tree_work files list does ≡ ends [] (not_readable name reason) → TreeWork files list does
+  is_read : (roots : List Data) → Trees files list roots → tree_work files list does ≡ does roots → TreeWork files list does
 
 pub tree_work_case : (files : Files) (list : List File) (does : List Data → Work) → TreeWork files list does
 tree_work_case files list does = go (reading_case files list)
   where
-    at : (r : Read) → reading files list ≡ r → work_status (tree_work files list does) ≡ work_status (or_end r (λ texts. or_end (trees_of texts) does))
-    at r e = ap (λ (r : Read). work_status (or_end r (λ texts. or_end (trees_of texts) does))) e
+    at : (r : Read) → reading files list ≡ r → tree_work files list does ≡ or_end r (λ texts. or_end (trees_of texts) does)
+    at r e = ap (λ (r : Read). or_end r (λ texts. or_end (trees_of texts) does)) e
 
     go : ReadingCase files list → TreeWork files list does
-    go (one_missing name m e) = is_missing m (at (Err (no_such_file name)) e)
-    go (one_long limit m e) = is_too_long m (at (Err (past limit)) e)
+    go (one_missing name m e) = is_missing name m (at (Err (no_such_file name)) e)
+    go (one_long limit m e) = is_too_long limit m (at (Err (past limit)) e)
     go (all_within texts t e) = by (trees_case texts)
       where
         by : TreesCase texts → TreeWork files list does
-        by (all_trees roots r f) = is_read roots (trees-roots files list texts roots t r) (at (Ok texts) e ∙ ap (λ (r : Result (List Data) End). work_status (or_end r does)) f)
-        by (one_treeless name reason r f) = is_treeless (texts-within files list texts t) (treeless-some files list texts t r) (at (Ok texts) e ∙ ap (λ (r : Result (List Data) End). work_status (or_end r does)) f)
+        by (all_trees roots r f) = is_read roots (trees-roots files list texts roots t r) (at (Ok texts) e ∙ ap (λ (r : Result (List Data) End). or_end r does) f)
+        by (one_treeless name reason r f) = is_treeless name reason (texts-within files list texts t) (treeless-some files list texts t r) (at (Ok texts) e ∙ ap (λ (r : Result (List Data) End). or_end r does) f)
 
 -- ---- the causes exclude one another
 
@@ -193,100 +193,96 @@ trees-same files (file ∷ more) (a ∷ roots) (b ∷ others) s t = ap (λ (x : 
 
 -- ---- both ways
 
--- the work with the trees ends with 0 or 1
+-- the status of the work with the trees is 0 or 1
 abbrev pub EndsByTrees : (List Data → Work) → Type 0
-EndsByTrees does = (roots : List Data) → IsOneOf (work_status (does roots)) (0 ∷ 1 ∷ [])
+EndsByTrees does = (roots : List Data) (old new : SiteView) (n : ℕ) → HasStatus (does roots) old new n → n ≤ 1
 
-module _ (files : Files) (list : List File) (does : List Data → Work) (ends_so : EndsByTrees does) where
-  abbrev status : ℕ
-  status = work_status (tree_work files list does)
+module _ (files : Files) (list : List File) (does : List Data → Work) (so : EndsByTrees does) (old new : SiteView) (n : ℕ) where
+  at : (w : Work) → tree_work files list does ≡ w → HasStatus (tree_work files list does) old new n → HasStatus w old new n
+  at w is h = subst (λ (w : Work). HasStatus w old new n) is h
 
-  not-of-trees : (n : ℕ) (roots : List Data) → 1 < n → n ≡ work_status (does roots) → ⊥
-  not-of-trees n roots lt e = go (ends_so roots)
-    where
-      go : IsOneOf (work_status (does roots)) (0 ∷ 1 ∷ []) → ⊥
-      go (inl is) = omega (arith, lt, e, is)
-      go (inr (inl is)) = omega (arith, lt, e, is)
-      go (inr (inr h)) = h
-
-  pub missing-only : work_status (tree_work files list does) ≡ 4 → IsMissing files list
-  missing-only e = go (tree_work_case files list does)
+  pub missing-only : HasStatus (tree_work files list does) old new n → n ≡ 4 → IsMissing files list
+  missing-only h e = go (tree_work_case files list does)
     where
       go : TreeWork files list does → IsMissing files list
-      go (is_missing m is) = m
-      go (is_too_long m is) = absurd (omega (arith, e, is))
-      go (is_treeless a s is) = absurd (omega (arith, e, is))
-      go (is_read roots t is) = absurd (not-of-trees 4 roots (omega arith) (sym e ∙ is))
+      go (is_missing name m is) = m
+      go (is_too_long limit l is) = let k : n ≡ 11 = at (ends [] (past limit)) is h in absurd (omega (arith, e, k))
+      go (is_treeless name reason a s is) = let k : n ≡ 5 = at (ends [] (not_readable name reason)) is h in absurd (omega (arith, e, k))
+      go (is_read roots t is) = let k = so roots old new n (at (does roots) is h) in absurd (omega (arith, e, k))
 
-  pub missing-always : IsMissing files list → work_status (tree_work files list does) ≡ 4
-  missing-always m = go (tree_work_case files list does)
+  pub missing-always : HasStatus (tree_work files list does) old new n → IsMissing files list → n ≡ 4
+  missing-always h m = go (tree_work_case files list does)
     where
-      go : TreeWork files list does → work_status (tree_work files list does) ≡ 4
-      go (is_missing _ is) = is
-      go (is_too_long l is) = absurd (missing-long files list m l)
-      go (is_treeless a s is) = absurd (first-within files (λ file. files file.name ≡ None) list (missing-within files) m a)
+      go : TreeWork files list does → n ≡ 4
+      go (is_missing name _ is) = at (ends [] (no_such_file name)) is h
+      go (is_too_long limit l is) = absurd (missing-long files list m l)
+      go (is_treeless name reason a s is) = absurd (first-within files (λ file. files file.name ≡ None) list (missing-within files) m a)
       go (is_read roots t is) = absurd (first-within files (λ file. files file.name ≡ None) list (missing-within files) m (trees-within files list roots t))
 
-  pub long-only : work_status (tree_work files list does) ≡ 11 → IsTooLong files list
-  long-only e = go (tree_work_case files list does)
+  pub long-only : HasStatus (tree_work files list does) old new n → n ≡ 11 → IsTooLong files list
+  long-only h e = go (tree_work_case files list does)
     where
       go : TreeWork files list does → IsTooLong files list
-      go (is_missing m is) = absurd (omega (arith, e, is))
-      go (is_too_long m is) = m
-      go (is_treeless a s is) = absurd (omega (arith, e, is))
-      go (is_read roots t is) = absurd (not-of-trees 11 roots (omega arith) (sym e ∙ is))
+      go (is_missing name m is) = let k : n ≡ 4 = at (ends [] (no_such_file name)) is h in absurd (omega (arith, e, k))
+      go (is_too_long limit l is) = l
+      go (is_treeless name reason a s is) = let k : n ≡ 5 = at (ends [] (not_readable name reason)) is h in absurd (omega (arith, e, k))
+      go (is_read roots t is) = let k = so roots old new n (at (does roots) is h) in absurd (omega (arith, e, k))
 
-  pub long-always : IsTooLong files list → work_status (tree_work files list does) ≡ 11
-  long-always l = go (tree_work_case files list does)
+  pub long-always : HasStatus (tree_work files list does) old new n → IsTooLong files list → n ≡ 11
+  long-always h l = go (tree_work_case files list does)
     where
-      go : TreeWork files list does → work_status (tree_work files list does) ≡ 11
-      go (is_missing m is) = absurd (missing-long files list m l)
-      go (is_too_long _ is) = is
-      go (is_treeless a s is) = absurd (first-within files (λ file. IsSomeAnd (files file.name) (λ bytes. most file.limit < length bytes)) list (long-within files) l a)
+      go : TreeWork files list does → n ≡ 11
+      go (is_missing name m is) = absurd (missing-long files list m l)
+      go (is_too_long limit _ is) = at (ends [] (past limit)) is h
+      go (is_treeless name reason a s is) = absurd (first-within files (λ file. IsSomeAnd (files file.name) (λ bytes. most file.limit < length bytes)) list (long-within files) l a)
       go (is_read roots t is) = absurd (first-within files (λ file. IsSomeAnd (files file.name) (λ bytes. most file.limit < length bytes)) list (long-within files) l (trees-within files list roots t))
 
-  pub treeless-only : work_status (tree_work files list does) ≡ 5 → AllWithin files list × SomeTreeless files list
-  treeless-only e = go (tree_work_case files list does)
+  pub treeless-only : HasStatus (tree_work files list does) old new n → n ≡ 5 → AllWithin files list × SomeTreeless files list
+  treeless-only h e = go (tree_work_case files list does)
     where
       go : TreeWork files list does → AllWithin files list × SomeTreeless files list
-      go (is_missing m is) = absurd (omega (arith, e, is))
-      go (is_too_long m is) = absurd (omega (arith, e, is))
-      go (is_treeless a s is) = (a, s)
-      go (is_read roots t is) = absurd (not-of-trees 5 roots (omega arith) (sym e ∙ is))
+      go (is_missing name m is) = let k : n ≡ 4 = at (ends [] (no_such_file name)) is h in absurd (omega (arith, e, k))
+      go (is_too_long limit l is) = let k : n ≡ 11 = at (ends [] (past limit)) is h in absurd (omega (arith, e, k))
+      go (is_treeless name reason a s is) = (a, s)
+      go (is_read roots t is) = let k = so roots old new n (at (does roots) is h) in absurd (omega (arith, e, k))
 
-  pub treeless-always : AllWithin files list × SomeTreeless files list → work_status (tree_work files list does) ≡ 5
-  treeless-always h = go (tree_work_case files list does)
+  pub treeless-always : HasStatus (tree_work files list does) old new n → AllWithin files list × SomeTreeless files list → n ≡ 5
+  treeless-always h c = go (tree_work_case files list does)
     where
-      go : TreeWork files list does → work_status (tree_work files list does) ≡ 5
-      go (is_missing m is) = absurd (first-within files (λ file. files file.name ≡ None) list (missing-within files) m h.0)
-      go (is_too_long l is) = absurd (first-within files (λ file. IsSomeAnd (files file.name) (λ bytes. most file.limit < length bytes)) list (long-within files) l h.0)
-      go (is_treeless a s is) = is
-      go (is_read roots t is) = absurd (trees-treeless files list roots t h.1)
+      go : TreeWork files list does → n ≡ 5
+      go (is_missing name m is) = absurd (first-within files (λ file. files file.name ≡ None) list (missing-within files) m c.0)
+      go (is_too_long limit l is) = absurd (first-within files (λ file. IsSomeAnd (files file.name) (λ bytes. most file.limit < length bytes)) list (long-within files) l c.0)
+      go (is_treeless name reason a s is) = at (ends [] (not_readable name reason)) is h
+      go (is_read roots t is) = absurd (trees-treeless files list roots t c.1)
 
-  -- a status of the work with the trees comes where all trees are there, and the work with them has it
-  pub trees-only : (n : ℕ) → n ≤ 1 → work_status (tree_work files list does) ≡ n → (roots : List Data) × Trees files list roots × (work_status (does roots) ≡ n)
-  trees-only n le e = go (tree_work_case files list does)
+  -- 0 and 1 come where all trees are there, by the work with them
+  pub trees-only : HasStatus (tree_work files list does) old new n → n ≤ 1 → (roots : List Data) × Trees files list roots × HasStatus (does roots) old new n
+  trees-only h le = go (tree_work_case files list does)
     where
-      go : TreeWork files list does → (roots : List Data) × Trees files list roots × (work_status (does roots) ≡ n)
-      go (is_missing m is) = absurd (omega (arith, e, is, le))
-      go (is_too_long m is) = absurd (omega (arith, e, is, le))
-      go (is_treeless a s is) = absurd (omega (arith, e, is, le))
-      go (is_read roots t is) = (roots, t, sym is ∙ e)
+      go : TreeWork files list does → (roots : List Data) × Trees files list roots × HasStatus (does roots) old new n
+      go (is_missing name m is) = let k : n ≡ 4 = at (ends [] (no_such_file name)) is h in absurd (omega (arith, le, k))
+      go (is_too_long limit l is) = let k : n ≡ 11 = at (ends [] (past limit)) is h in absurd (omega (arith, le, k))
+      go (is_treeless name reason a s is) = let k : n ≡ 5 = at (ends [] (not_readable name reason)) is h in absurd (omega (arith, le, k))
+      go (is_read roots t is) = (roots, t, at (does roots) is h)
 
-  pub trees-always : (roots : List Data) → Trees files list roots → work_status (tree_work files list does) ≡ work_status (does roots)
-  trees-always roots t = go (tree_work_case files list does)
+  pub trees-always : HasStatus (tree_work files list does) old new n → (roots : List Data) → Trees files list roots → HasStatus (does roots) old new n
+  trees-always h roots t = go (tree_work_case files list does)
     where
-      go : TreeWork files list does → work_status (tree_work files list does) ≡ work_status (does roots)
-      go (is_missing m is) = absurd (first-within files (λ file. files file.name ≡ None) list (missing-within files) m (trees-within files list roots t))
-      go (is_too_long l is) = absurd (first-within files (λ file. IsSomeAnd (files file.name) (λ bytes. most file.limit < length bytes)) list (long-within files) l (trees-within files list roots t))
-      go (is_treeless a s is) = absurd (trees-treeless files list roots t s)
-      go (is_read others u is) = is ∙ ap (λ (rs : List Data). work_status (does rs)) (trees-same files list others roots u t)
+      go : TreeWork files list does → HasStatus (does roots) old new n
+      go (is_missing name m is) = absurd (first-within files (λ file. files file.name ≡ None) list (missing-within files) m (trees-within files list roots t))
+      go (is_too_long limit l is) = absurd (first-within files (λ file. IsSomeAnd (files file.name) (λ bytes. most file.limit < length bytes)) list (long-within files) l (trees-within files list roots t))
+      go (is_treeless name reason a s is) = absurd (trees-treeless files list roots t s)
+      go (is_read others u is) = subst (λ (rs : List Data). HasStatus (does rs) old new n) (trees-same files list others roots u t) (at (does others) is h)
 
 -- ---- a clause on one status
 
-pub comes : (status n : ℕ) (faults : List ℕ) (cause : Type 0) (answer : ℕ) → (status ≡ n → cause) → (cause → status ≡ n) → (IsOneOf n faults → ⊥) → IsOneOf answer (status ∷ faults) → ComesExactly n faults cause answer
-comes status n faults cause answer to from apart h = record { only = only h; always = λ c. subst (λ (s : ℕ). IsOneOf answer (s ∷ faults)) (from c) h }
+pub comes : (n : ℕ) (faults : List ℕ) (Has : Type 0) (cause : Type 0) (answer : ℕ) → (Has → answer ≡ n → cause) → (Has → cause → answer ≡ n) → (IsOneOf n faults → ⊥) → Has ⊎ IsOneOf answer faults → ComesExactly n faults cause answer
+comes n faults Has cause answer to from apart h = record { only = only h; always = always h }
   where
-    only : IsOneOf answer (status ∷ faults) → answer ≡ n → cause
-    only (inl is) e = to (sym is ∙ e)
+    only : Has ⊎ IsOneOf answer faults → answer ≡ n → cause
+    only (inl has) e = to has e
     only (inr f) e = absurd (apart (subst (λ (m : ℕ). IsOneOf m faults) e f))
+
+    always : Has ⊎ IsOneOf answer faults → cause → IsOneOf answer (n ∷ faults)
+    always (inl has) c = inl (from has c)
+    always (inr f) c = inr f

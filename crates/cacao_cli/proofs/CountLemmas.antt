@@ -5,18 +5,19 @@ use Rattle.std.proofs.lemmas.Bool.{true≢false}
 use Rattle.serde_json.specs.Data.{Data}
 use Rattle.cacao_site.specs.Counts.{next_count}
 use Rattle.cacao_site.specs.View.{SiteView}
+use Rattle.cacao_check.specs.declared.breaks.Mode.TheVariants.{Read as Reading}
 use Rattle.cacao_cli.specs.Words.{Text}
-use Rattle.cacao_cli.specs.Asked.{Asked, canonises}
-use Rattle.cacao_cli.specs.Ends.{End, status_of, text_of, is_fault, done, past, shelf_failed, no_such_file, not_readable, unsaid, no_memory}
+use Rattle.cacao_cli.specs.Asked.{Asked, canonises, checks}
+use Rattle.cacao_cli.specs.Ends.{End, status_of, text_of, is_fault, done, accepted, past, shelf_failed, no_such_file, not_readable, unsaid, no_memory}
 use Rattle.cacao_cli.specs.Files.{File, Files, Content, ShelfCall, NamedText, Reads, Gives, all_read, wants_memory, stops, goes_on, text_in, item_then, named, whole, missing, too_long, failed, no_room, faults_behind, files_of, named_by, has_too_many}
 use Rattle.cacao_cli.specs.Lines.{SaysLine, FailsToSay, SaysAll, SaysWork, Tells, TellsText}
-use Rattle.cacao_cli.specs.Work.{Work, ends, or_end, trees_of, canon_line, work, work_on}
+use Rattle.cacao_cli.specs.Work.{Work, ends, judges, or_end, trees_of, canon_line, work, work_on}
 use Rattle.cacao_cli.specs.Ended.{Performs, Performed, Ended}
-use Rattle.cacao_cli.specs.Exact.{IsOneOf}
+use Rattle.cacao_cli.specs.Exact.{IsOneOf, HasStatus}
 use Rattle.cacao_cli.specs.Leaves.{NoFault}
 use Rattle.cacao_cli.specs.declared.limit.Limit.TheVariants.{BookCount}
 use Rattle.cacao_cli.proofs.CauseLemmas.{TreesCase, all_trees, one_treeless, trees_case}
-use Rattle.cacao_cli.proofs.ExactLemmas.{work_status, performs-status}
+use Rattle.cacao_cli.proofs.ExactLemmas.{performs-status}
 use Rattle.cacao_cli.proofs.LeaveLemmas.{end-failed, no-more, no_cons}
 use Rattle.cacao_cli.proofs.LineLemmas.{IsCutOff, tells-status}
 use Rattle.cacao_cli.proofs.ReadLemmas.{Read, empty-read}
@@ -37,6 +38,9 @@ performs-disk : (w : Work) (old mid : SiteView) (last : End) → Performs w old 
 performs-disk (ends lines end) old mid last (inl h) = (says-counts lines old mid h.says).1
 performs-disk (ends lines end) old mid last (inr (inl h)) = h.fails.only.disk.faults ∙ (says-counts h.front old h.between h.says).1
 performs-disk (ends lines end) old mid last (inr (inr h)) = ap (λ (s : SiteView). s.disk.faults) h.same
+performs-disk (judges trees mode kept) old mid last (inl h) = performs-disk kept old mid last h.1
+performs-disk (judges trees mode kept) old mid last (inr (inl h)) = ap (λ (s : SiteView). s.disk.faults) h.same
+performs-disk (judges trees mode kept) old mid last (inr (inr h)) = ap (λ (s : SiteView). s.disk.faults) h.same
 
 last-said : (last : End) (text : Option Text) (mid new : SiteView) (answer : ℕ) → TellsText last text mid new answer → (answer ≡ 9 → ⊥) → new.clock.unsaid ≡ mid.clock.unsaid
 last-said last None mid new answer h unlike = ap (λ (s : SiteView). s.clock.unsaid) h.same
@@ -54,13 +58,38 @@ performs-said : (w : Work) (old mid new : SiteView) (last : End) (answer : ℕ) 
 performs-said (ends lines end) old mid new last answer (inl h) tells unlike = last-said last (text_of last) mid new answer tells unlike ∙ (says-counts lines old mid h.says).0
 performs-said (ends lines end) old mid new last answer (inr (inl h)) tells unlike = absurd (unlike (no-more last unsaid mid new answer h.ends refl tells).1)
 performs-said (ends lines end) old mid new last answer (inr (inr h)) tells unlike = last-said last (text_of last) mid new answer tells unlike ∙ ap (λ (s : SiteView). s.clock.unsaid) h.same
+performs-said (judges trees mode kept) old mid new last answer (inl h) tells unlike = performs-said kept old mid new last answer h.1 tells unlike
+performs-said (judges trees mode kept) old mid new last answer (inr (inl h)) tells unlike = last-said last (text_of last) mid new answer tells unlike ∙ ap (λ (s : SiteView). s.clock.unsaid) h.same
+performs-said (judges trees mode kept) old mid new last answer (inr (inr h)) tells unlike = last-said last (text_of last) mid new answer tells unlike ∙ ap (λ (s : SiteView). s.clock.unsaid) h.same
 
-performs-unsaid : (w : Work) (old mid new : SiteView) (last : End) (answer : ℕ) → (work_status w ≡ 9 → ⊥) → Performs w old mid last → Tells last mid new answer → answer ≡ 9 → new.clock.unsaid ≡ next_count old.clock.unsaid
+-- the work ends with other statuses than 2, 3 and 9
+abbrev pub IsOther : Work → Type 0
+IsOther (ends lines end) = (status_of end ≡ 2 → ⊥) × (status_of end ≡ 3 → ⊥) × (status_of end ≡ 9 → ⊥)
+IsOther (judges trees mode kept) = IsOther kept
+
+other-status : (w : Work) (old new : SiteView) (n : ℕ) → IsOther w → HasStatus w old new n → (n ≡ 2 → ⊥) × (n ≡ 3 → ⊥) × (n ≡ 9 → ⊥)
+other-status (ends lines end) old new n h is = (λ e. h.0 (sym is ∙ e), λ e. h.1 (sym is ∙ e), λ e. h.2 (sym is ∙ e))
+other-status (judges trees mode kept) old new n h (inl is) = other-status kept old new n h is.1
+other-status (judges trees mode kept) old new n h (inr is) = (λ e. omega (arith, e, is.1), λ e. omega (arith, e, is.1), λ e. omega (arith, e, is.1))
+
+abbrev pub NotUnsaid : Work → Type 0
+NotUnsaid (ends lines end) = status_of end ≡ 9 → ⊥
+NotUnsaid (judges trees mode kept) = NotUnsaid kept
+
+other-said : (w : Work) → IsOther w → NotUnsaid w
+other-said (ends lines end) h = h.2
+other-said (judges trees mode kept) h = other-said kept h
+
+performs-unsaid : (w : Work) (old mid new : SiteView) (last : End) (answer : ℕ) → NotUnsaid w → Performs w old mid last → Tells last mid new answer → answer ≡ 9 → new.clock.unsaid ≡ next_count old.clock.unsaid
 performs-unsaid (ends lines end) old mid new last answer other (inl h) tells e =
     last-unsaid last (text_of last) mid new answer (λ is. other (sym (ap status_of h.ends) ∙ is)) tells e ∙ ap next_count (says-counts lines old mid h.says).0
 performs-unsaid (ends lines end) old mid new last answer other (inr (inl h)) tells e =
     ap (λ (s : SiteView). s.clock.unsaid) (no-more last unsaid mid new answer h.ends refl tells).0 ∙ h.fails.unsaid ∙ ap next_count (says-counts h.front old h.between h.says).0
 performs-unsaid (ends lines end) old mid new last answer other (inr (inr h)) tells e = absurd (omega (arith, e, (no-more last no_memory mid new answer h.ends refl tells).1))
+performs-unsaid (judges trees mode kept) old mid new last answer other (inl h) tells e = performs-unsaid kept old mid new last answer other h.1 tells e
+performs-unsaid (judges trees mode kept) old mid new last answer other (inr (inl h)) tells e =
+    last-unsaid last (text_of last) mid new answer (λ is. let k : status_of last ≡ 1 = ap status_of h.ends in omega (arith, is, k)) tells e ∙ ap (λ (s : SiteView). next_count s.clock.unsaid) h.same
+performs-unsaid (judges trees mode kept) old mid new last answer other (inr (inr h)) tells e = absurd (omega (arith, e, (no-more last no_memory mid new answer h.ends refl tells).1))
 
 -- ---- the statuses of the work
 
@@ -81,45 +110,37 @@ read-status told list count read end (goes_on file behind bytes more rest gives 
     go (Err stop) h e = h e
     go (Ok texts) h e = absurd (cc)
 
--- the work with the texts ends with one of these statuses
-trees-range : (texts : List NamedText) (does : List Data → Work) (ns : List ℕ) → ((roots : List Data) → IsOneOf (work_status (does roots)) ns) → IsOneOf 5 ns → IsOneOf (work_status (or_end (trees_of texts) does)) ns
-trees-range texts does ns by five = go (trees_case texts)
+-- the work with the texts ends with other statuses
+trees-other : (texts : List NamedText) (does : List Data → Work) → ((roots : List Data) → IsOther (does roots)) → IsOther (or_end (trees_of texts) does)
+trees-other texts does so = go (trees_case texts)
   where
-    at : (r : Result (List Data) End) → trees_of texts ≡ r → work_status (or_end (trees_of texts) does) ≡ work_status (or_end r does)
-    at r e = ap (λ (r : Result (List Data) End). work_status (or_end r does)) e
+    go : TreesCase texts → IsOther (or_end (trees_of texts) does)
+    go (all_trees roots r e) = subst (λ (r : Result (List Data) End). IsOther (or_end r does)) (sym e) (so roots)
+    go (one_treeless name reason r e) = subst (λ (r : Result (List Data) End). IsOther (or_end r does)) (sym e) ((λ e. omega (arith, e), λ e. omega (arith, e), λ e. omega (arith, e)))
 
-    go : TreesCase texts → IsOneOf (work_status (or_end (trees_of texts) does)) ns
-    go (all_trees roots r e) = subst (λ (n : ℕ). IsOneOf n ns) (sym (at (Ok roots) e)) (by roots)
-    go (one_treeless name reason r e) = subst (λ (n : ℕ). IsOneOf n ns) (sym (at (Err (not_readable name reason)) e)) five
-
-texts-range : (asked : Asked) (texts : List NamedText) → IsOneOf (work_status (work_on asked texts)) (0 ∷ 1 ∷ 5 ∷ [])
-texts-range (canonises book) texts = trees-range texts (λ roots. ends (map canon_line roots) done) (0 ∷ 1 ∷ 5 ∷ []) (λ roots. inl refl) (inr (inr (inl refl)))
+texts-other : (asked : Asked) (texts : List NamedText) → IsOther (work_on asked texts)
+texts-other (canonises book) texts = trees-other texts (λ roots. ends (map canon_line roots) done) (λ roots. (λ e. omega (arith, e), λ e. omega (arith, e), λ e. omega (arith, e)))
+texts-other (checks books) texts = trees-other texts (λ roots. judges roots Reading (ends [] accepted)) (λ roots. (λ e. omega (arith, e), λ e. omega (arith, e), λ e. omega (arith, e)))
 
 -- a command ends with a status by its texts, with that of a file, or for too many playbooks
 data StatusCase (asked : Asked) (read : Read) : Type 0 where
-  too_many : has_too_many asked ≡ true → work_status (work (Some asked) read) ≡ 11 → StatusCase asked read
-  by_file : (end : End) → has_too_many asked ≡ false → read ≡ Err end → work_status (work (Some asked) read) ≡ status_of end → StatusCase asked read
-  by_texts : IsOneOf (work_status (work (Some asked) read)) (0 ∷ 1 ∷ 5 ∷ []) → StatusCase asked read
+  too_many : has_too_many asked ≡ true → work (Some asked) read ≡ ends [] (past BookCount) → StatusCase asked read
+  by_file : (end : End) → has_too_many asked ≡ false → read ≡ Err end → work (Some asked) read ≡ ends [] end → StatusCase asked read
+  by_texts : IsOther (work (Some asked) read) → StatusCase asked read
 
 status_case : (asked : Asked) (read : Read) → StatusCase asked read
 status_case asked read = go (has_too_many asked) refl
   where
-    at : (b : Bool) → b ≡ has_too_many asked → work_status (work (Some asked) read) ≡ work_status (if b then ends [] (past BookCount) else or_end read (work_on asked))
-    at b is = ap (λ (b : Bool). work_status (if b then ends [] (past BookCount) else or_end read (work_on asked))) (sym is)
+    at : (b : Bool) → b ≡ has_too_many asked → work (Some asked) read ≡ (if b then ends [] (past BookCount) else or_end read (work_on asked))
+    at b is = ap (λ (b : Bool). if b then ends [] (past BookCount) else or_end read (work_on asked)) (sym is)
 
     go : (b : Bool) → b ≡ has_too_many asked → StatusCase asked read
     go true is = too_many (sym is) (at true is)
     go false is = by read refl
       where
         by : (r : Read) → read ≡ r → StatusCase asked read
-        by (Err end) e = by_file end (sym is) e (at false is ∙ ap (λ (r : Read). work_status (or_end r (work_on asked))) e)
-        by (Ok texts) e = by_texts (subst (λ (n : ℕ). IsOneOf n (0 ∷ 1 ∷ 5 ∷ [])) (sym (at false is ∙ ap (λ (r : Read). work_status (or_end r (work_on asked))) e)) (texts-range asked texts))
-
-among-few : (n : ℕ) → IsOneOf n (0 ∷ 1 ∷ 5 ∷ []) → (n ≡ 2 → ⊥) × (n ≡ 3 → ⊥) × (n ≡ 9 → ⊥)
-among-few n (inl e) = (λ f. omega (arith, e, f), λ f. omega (arith, e, f), λ f. omega (arith, e, f))
-among-few n (inr (inl e)) = (λ f. omega (arith, e, f), λ f. omega (arith, e, f), λ f. omega (arith, e, f))
-among-few n (inr (inr (inl e))) = (λ f. omega (arith, e, f), λ f. omega (arith, e, f), λ f. omega (arith, e, f))
-among-few n (inr (inr (inr h))) = absurd h
+        by (Err end) e = by_file end (sym is) e (at false is ∙ ap (λ (r : Read). or_end r (work_on asked)) e)
+        by (Ok texts) e = by_texts (subst IsOther (sym (at false is ∙ ap (λ (r : Read). or_end r (work_on asked)) e)) (texts-other asked texts))
 
 among-file : (n : ℕ) → IsOneOf n (3 ∷ 4 ∷ 10 ∷ 11 ∷ []) → (n ≡ 2 → ⊥) × (n ≡ 9 → ⊥)
 among-file n (inl e) = (λ f. omega (arith, e, f), λ f. omega (arith, e, f))
@@ -128,18 +149,26 @@ among-file n (inr (inr (inl e))) = (λ f. omega (arith, e, f), λ f. omega (arit
 among-file n (inr (inr (inr (inl e)))) = (λ f. omega (arith, e, f), λ f. omega (arith, e, f))
 among-file n (inr (inr (inr (inr h)))) = absurd h
 
--- neither 2 nor 9 is a status of the work of a command
-some-status : (asked : Asked) (told : Option Files) (count : ℕ) (read : Read) → Reads told (files_of (Some asked)) count read → (work_status (work (Some asked) read) ≡ 2 → ⊥) × (work_status (work (Some asked) read) ≡ 9 → ⊥)
-some-status asked told count read reads = go (status_case asked read)
-  where
-    go : StatusCase asked read → (work_status (work (Some asked) read) ≡ 2 → ⊥) × (work_status (work (Some asked) read) ≡ 9 → ⊥)
-    go (too_many many is) = (λ e. omega (arith, e, is), λ e. omega (arith, e, is))
-    go (by_file end few e is) = let k = among-file (status_of end) (read-status told (files_of (Some asked)) count read end reads e) in (λ f. k.0 (sym is ∙ f), λ f. k.1 (sym is ∙ f))
-    go (by_texts h) = let k = among-few (work_status (work (Some asked) read)) h in (k.0, k.2)
+has-end : (w : Work) (end : End) (old new : SiteView) (n : ℕ) → w ≡ ends [] end → HasStatus w old new n → n ≡ status_of end
+has-end w end old new n is h = subst (λ (w : Work). HasStatus w old new n) is h
 
-no-nine : (asked : Option Asked) (told : Option Files) (count : ℕ) (read : Read) → Reads told (files_of asked) count read → work_status (work asked read) ≡ 9 → ⊥
-no-nine None told count read reads e = omega (arith, e)
-no-nine (Some asked) told count read reads e = (some-status asked told count read reads).1 e
+-- neither 2 nor 9 is a status of the work of a command
+some-status : (asked : Asked) (told : Option Files) (count : ℕ) (read : Read) (old new : SiteView) (n : ℕ) → Reads told (files_of (Some asked)) count read → HasStatus (work (Some asked) read) old new n → n ≡ 2 → ⊥
+some-status asked told count read old new n reads h = go (status_case asked read)
+  where
+    go : StatusCase asked read → n ≡ 2 → ⊥
+    go (too_many many is) e = let k : n ≡ 11 = has-end (work (Some asked) read) (past BookCount) old new n is h in omega (arith, e, k)
+    go (by_file end few f is) e = (among-file (status_of end) (read-status told (files_of (Some asked)) count read end reads f)).0 (sym (has-end (work (Some asked) read) end old new n is h) ∙ e)
+    go (by_texts other) e = (other-status (work (Some asked) read) old new n other h).0 e
+
+no-nine : (asked : Option Asked) (told : Option Files) (count : ℕ) (read : Read) → Reads told (files_of asked) count read → NotUnsaid (work asked read)
+no-nine None told count read reads = λ e. omega (arith, e)
+no-nine (Some asked) told count read reads = go (status_case asked read)
+  where
+    go : StatusCase asked read → NotUnsaid (work (Some asked) read)
+    go (too_many many is) = subst NotUnsaid (sym is) (λ e. omega (arith, e))
+    go (by_file end few f is) = subst NotUnsaid (sym is) (among-file (status_of end) (read-status told (files_of (Some asked)) count read end reads f)).1
+    go (by_texts other) = other-said (work (Some asked) read) other
 
 -- ---- the clauses
 
@@ -148,8 +177,8 @@ pub understood-ended : (asked : Option Asked) (shelf : ShelfCall) (old new : Sit
 understood-ended None shelf old new answer h e = refl
 understood-ended (Some asked) shelf old new answer h e = absurd (go (performs-status (work (Some asked) h.performed.read) old h.between new h.last answer h.performed.performs h.tells))
   where
-    go : (answer ≡ work_status (work (Some asked) h.performed.read)) ⊎ IsCutOff answer → ⊥
-    go (inl is) = (some-status asked shelf.told h.performed.reads.count h.performed.read h.performed.reads.reads).0 (sym is ∙ e)
+    go : HasStatus (work (Some asked) h.performed.read) old new answer ⊎ IsCutOff answer → ⊥
+    go (inl is) = some-status asked shelf.told h.performed.reads.count h.performed.read old new answer h.performed.reads.reads is e
     go (inr (inl is)) = omega (arith, e, is)
     go (inr (inr (inl is))) = omega (arith, e, is)
     go (inr (inr (inr x))) = x
@@ -215,7 +244,7 @@ failed-ended asked shelf old new answer h three = by asked h.performed
     by : (a : Option Asked) → Performed a shelf old h.between h.last → shelf.after ≡ next_count shelf.before
     by a p = at a p (performs-status (work a p.read) old h.between new h.last answer p.performs h.tells)
       where
-        at : (a : Option Asked) (p : Performed a shelf old h.between h.last) → (answer ≡ work_status (work a p.read)) ⊎ IsCutOff answer → shelf.after ≡ next_count shelf.before
+        at : (a : Option Asked) (p : Performed a shelf old h.between h.last) → HasStatus (work a p.read) old new answer ⊎ IsCutOff answer → shelf.after ≡ next_count shelf.before
         at a p (inr (inl is)) = absurd (omega (arith, three, is))
         at a p (inr (inr (inl is))) = absurd (omega (arith, three, is))
         at a p (inr (inr (inr x))) = absurd x
@@ -223,9 +252,10 @@ failed-ended asked shelf old new answer h three = by asked h.performed
         at (Some asked) p (inl is) = go (status_case asked p.read)
           where
             go : StatusCase asked p.read → shelf.after ≡ next_count shelf.before
-            go (too_many many e) = absurd (omega (arith, three, is, e))
-            go (by_file end few e s) = p.reads.faults ∙ ap (faults_behind shelf.before) e ∙ ap (λ (b : Bool). if b then next_count shelf.before else shelf.before) (three-is (status_of end) (sym s ∙ sym is ∙ three))
-            go (by_texts x) = absurd ((among-few (work_status (work (Some asked) p.read)) x).1 (sym is ∙ three))
+            go (too_many many e) = let k : answer ≡ 11 = has-end (work (Some asked) p.read) (past BookCount) old new answer e is in absurd (omega (arith, three, k))
+            go (by_file end few e s) = p.reads.faults ∙ ap (faults_behind shelf.before) e
+                ∙ ap (λ (b : Bool). if b then next_count shelf.before else shelf.before) (three-is (status_of end) (sym (has-end (work (Some asked) p.read) end old new answer s is) ∙ three))
+            go (by_texts other) = absurd ((other-status (work (Some asked) p.read) old new answer other is).1 three)
 
 pub memory-ended : (asked : Option Asked) (shelf : ShelfCall) (old new : SiteView) (answer : ℕ) → Ended asked shelf old new answer → answer ≡ 10 → NoFault shelf.before shelf.after old new
 memory-ended asked shelf old new answer h e = record {
@@ -233,13 +263,3 @@ memory-ended asked shelf old new answer h e = record {
   disk = last-disk h.last (text_of h.last) h.between new answer h.tells ∙ performs-disk (work asked h.performed.read) old h.between h.last h.performed.performs;
   say = said-ended asked shelf old new answer h (λ f. omega (arith, e, f));
 }
-
-pub too_many-ended : (asked : Asked) (shelf : ShelfCall) (old new : SiteView) (answer : ℕ) → Ended (Some asked) shelf old new answer → has_too_many asked ≡ true → IsOneOf answer (11 ∷ 9 ∷ 10 ∷ [])
-too_many-ended asked shelf old new answer h many = go (performs-status (work (Some asked) h.performed.read) old h.between new h.last answer h.performed.performs h.tells)
-  where
-    is : work_status (work (Some asked) h.performed.read) ≡ 11
-    is = ap (λ (b : Bool). work_status (if b then ends [] (past BookCount) else or_end h.performed.read (work_on asked))) many
-
-    go : (answer ≡ work_status (work (Some asked) h.performed.read)) ⊎ IsCutOff answer → IsOneOf answer (11 ∷ 9 ∷ 10 ∷ [])
-    go (inl e) = inl (e ∙ is)
-    go (inr c) = inr c

@@ -2,30 +2,29 @@
 use Rattle.std.proofs.Common.{◌≡◌, ◌≢◌, ◌⊎◌, suc, inl, inr, ◌∙◌, refl, sym, ap, subst, arith, ℕ, ◌==◌, Bool, true, false, List, [], ◌∷◌, ◌++◌, length, map, Option, Some, None, Result, Ok, Err}
 use Rattle.std.specs.Prelude.{if◌then◌else◌, codes}
 use Rattle.serde_json.specs.Data.{Data}
-use Rattle.cacao_json.specs.Refusals.{answer}
-use Rattle.cacao_json.specs.declared.error.JsonError.{JsonError}
-use Rattle.cacao_json.specs.declared.error.JsonError.TheVariants as json
 use Rattle.cacao_site.specs.Counts.{next_count}
 use Rattle.cacao_site.specs.SayCalls.{SaysOnly}
 use Rattle.cacao_site.specs.View.{SiteView}
+use Rattle.cacao_check.specs.declared.breaks.Mode.{Mode}
+use Rattle.cacao_check.specs.declared.breaks.Mode.TheVariants.{Read as Reading}
 use Rattle.cacao_cli.specs.Words.{Text}
-use Rattle.cacao_cli.specs.Asked.{Asked, canonises}
-use Rattle.cacao_cli.specs.Ends.{End, status_of, text_of, is_fault, done, not_understood, past, shelf_failed, no_such_file, not_readable, unsaid, no_memory}
+use Rattle.cacao_cli.specs.Asked.{Asked, canonises, checks}
+use Rattle.cacao_cli.specs.Ends.{End, status_of, text_of, is_fault, done, accepted, refused, not_understood, past, shelf_failed, no_such_file, not_readable, unsaid, no_memory}
 use Rattle.cacao_cli.specs.Files.{File, Files, Content, ShelfCall, NamedText, Reads, ReadsTo, Gives, all_read, wants_memory, stops, goes_on, text_in, item_then, whole, missing, too_long, failed, no_room, faults_behind, files_of, named_by, has_too_many, counted}
 use Rattle.cacao_cli.specs.Lines.{SaysLine, FailsToSay, SaysAll, SaysWork, Tells, TellsText}
-use Rattle.cacao_cli.specs.Work.{Work, ends, or_end, tree_of, tree_or_end, trees_of, canon_line, work, work_on}
+use Rattle.cacao_cli.specs.Work.{Work, ends, judges, or_end, tree_of, tree_or_end, trees_of, canon_line, work, work_on}
 use Rattle.cacao_cli.specs.Ended.{Performs, Performed, Ended}
 use Rattle.cacao_cli.specs.Exact.{IsOneOf}
 use Rattle.cacao_cli.specs.Leaves.{SaysAtMostOnce, Leaves, ReadsAtMost, NoFault}
 use Rattle.cacao_cli.specs.declared.limit.Limit.TheVariants.{BookCount}
-use Rattle.cacao_cli.proofs.ExactLemmas.{work_status, performs-status}
-use Rattle.cacao_cli.proofs.LineLemmas.{IsCutOff, says-status, tells-status}
 use Rattle.cacao_cli.proofs.ReadLemmas.{Read, reads-few, empty-read}
 
 -- ---- the status and the line of an end
 
 pub end-unsaid : (end : End) → status_of end ≡ 9 → text_of end ≡ None
 end-unsaid done e = refl
+end-unsaid accepted e = absurd (omega (arith, e))
+end-unsaid (refused broken) e = absurd (omega (arith, e))
 end-unsaid not_understood e = absurd (omega (arith, e))
 end-unsaid (past limit) e = absurd (omega (arith, e))
 end-unsaid (shelf_failed name) e = absurd (omega (arith, e))
@@ -36,6 +35,8 @@ end-unsaid no_memory e = refl
 
 pub end-memory : (end : End) → status_of end ≡ 10 → text_of end ≡ None
 end-memory done e = refl
+end-memory accepted e = absurd (omega (arith, e))
+end-memory (refused broken) e = absurd (omega (arith, e))
 end-memory not_understood e = absurd (omega (arith, e))
 end-memory (past limit) e = absurd (omega (arith, e))
 end-memory (shelf_failed name) e = absurd (omega (arith, e))
@@ -46,6 +47,8 @@ end-memory no_memory e = refl
 
 pub end-failed : (end : End) → status_of end ≡ 3 → (name : Text) × (end ≡ shelf_failed name)
 end-failed done e = absurd (omega (arith, e))
+end-failed accepted e = absurd (omega (arith, e))
+end-failed (refused broken) e = absurd (omega (arith, e))
 end-failed not_understood e = absurd (omega (arith, e))
 end-failed (past limit) e = absurd (omega (arith, e))
 end-failed (shelf_failed name) e = (name, refl)
@@ -60,6 +63,7 @@ end-failed no_memory e = absurd (omega (arith, e))
 pub data IsBrief : Work → Type 0 where
   silent : (end : End) → IsBrief (ends [] end)
   one_line : (line : Text) → IsBrief (ends (line ∷ []) done)
+  judged : (trees : List Data) (mode : Mode) (kept : Work) → IsBrief kept → IsBrief (judges trees mode kept)
 
 last-once : (last : End) (text : Option Text) (mid new : SiteView) (answer : ℕ) → text ≡ text_of last → TellsText last text mid new answer → SaysAtMostOnce mid new answer
 last-once last None mid new answer is h = record { once = inl h.same; unsaid = λ e. ap (λ (s : SiteView). s.link.said) h.same; no_memory = λ e. h.same }
@@ -122,10 +126,13 @@ brief-once w old mid new last answer (one_line line) (inr (inl h)) tells = go h.
         }
     go (first ∷ front) is says = absurd (one_cons front h.behind first h.line line is)
 brief-once w old mid new last answer (one_line line) (inr (inr h)) tells = subst (λ (s : SiteView). SaysAtMostOnce s new answer) h.same (tells-once last mid new answer tells)
+brief-once w old mid new last answer (judged trees mode kept brief) (inl h) tells = brief-once kept old mid new last answer brief h.1 tells
+brief-once w old mid new last answer (judged trees mode kept brief) (inr (inl h)) tells = subst (λ (s : SiteView). SaysAtMostOnce s new answer) h.same (tells-once last mid new answer tells)
+brief-once w old mid new last answer (judged trees mode kept brief) (inr (inr h)) tells = subst (λ (s : SiteView). SaysAtMostOnce s new answer) h.same (tells-once last mid new answer tells)
 
--- ---- how many lines `canon` says
+-- ---- how many lines `canon` and `check` say
 
-reads-length : (told : Option Files) (list : List File) (count : ℕ) (read : Read) (texts : List NamedText) → Reads told list count read → read ≡ Ok texts → length texts ≡ length list
+pub reads-length : (told : Option Files) (list : List File) (count : ℕ) (read : Read) (texts : List NamedText) → Reads told list count read → read ≡ Ok texts → length texts ≡ length list
 reads-length told list count read texts all_read e = let is : texts ≡ [] = cc in ap length is
 reads-length told list count read texts (wants_memory file behind) e = absurd (cc)
 reads-length told list count read texts (stops file behind content end gives is) e = absurd (cc)
@@ -145,10 +152,26 @@ brief-canon book told count (Ok (text ∷ [])) reads = go (tree_of text)
     go (Err end) = silent end
     go (Ok root) = one_line (canon_line root)
 
+pub brief-check : (books : List Text) (read : Read) → IsBrief (work (Some (checks books)) read)
+brief-check books read = go (has_too_many (checks books))
+  where
+    by : (r : Read) → IsBrief (or_end r (work_on (checks books)))
+    by (Err end) = silent end
+    by (Ok texts) = at (trees_of texts)
+      where
+        at : (r : Result (List Data) End) → IsBrief (or_end r (λ roots. judges roots Reading (ends [] accepted)))
+        at (Err end) = silent end
+        at (Ok roots) = judged roots Reading (ends [] accepted) (silent accepted)
+
+    go : (b : Bool) → IsBrief (if b then ends [] (past BookCount) else or_end read (work_on (checks books)))
+    go true = silent (past BookCount)
+    go false = by read
+
 pub leaves-ended : (asked : Option Asked) (shelf : ShelfCall) (old new : SiteView) (answer : ℕ) → Ended asked shelf old new answer → Leaves asked old new answer
 leaves-ended None shelf old new answer h = brief-once (ends [] not_understood) old h.between new h.last answer (silent not_understood) h.performed.performs h.tells
 leaves-ended (Some (canonises book)) shelf old new answer h = brief-once (work (Some (canonises book)) h.performed.read) old h.between new h.last answer
     (brief-canon book shelf.told h.performed.reads.count h.performed.read h.performed.reads.reads) h.performed.performs h.tells
+leaves-ended (Some (checks books)) shelf old new answer h = brief-once (work (Some (checks books)) h.performed.read) old h.between new h.last answer (brief-check books h.performed.read) h.performed.performs h.tells
 
 pub few-ended : (asked : Option Asked) (shelf : ShelfCall) (old new : SiteView) (answer : ℕ) → Ended asked shelf old new answer → ReadsAtMost (length (files_of asked)) shelf.reads_before shelf.reads_after
 few-ended asked shelf old new answer h = (h.performed.reads.count, reads-few shelf.told (files_of asked) h.performed.reads.count h.performed.read h.performed.reads.reads, h.performed.reads.counted)

@@ -6,6 +6,7 @@ pub mod ClapSteps
 pub mod ClapWalk
 pub mod CountLemmas
 pub mod ExactLemmas
+pub mod JudgeLemmas
 pub mod LeaveLemmas
 pub mod LineLemmas
 pub mod NameLemmas

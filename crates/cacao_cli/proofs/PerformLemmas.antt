@@ -1,12 +1,21 @@
--- Calls that read nothing.
-use Rattle.std.proofs.Common.{◌≡◌, inr, inl, refl, sym, subst, [], Option, Some, None, Ok, Err}
+-- Calls that read nothing, and the parts of `check`.
+use Rattle.std.proofs.Common.{◌≡◌, ◌⊎◌, inr, inl, ◌∙◌, refl, sym, ap, subst, arith, ℕ, ◌<◌, ◌≤◌, nat_lt, Bor, Bool, true, false, List, [], ◌∷◌, length, map, Option, Some, None, Result, Ok, Err}
+use Rattle.std.specs.Prelude.{if◌then◌else◌}
+use Rattle.std.proofs.lemmas.List.{length-map}
+use Rattle.serde_json.specs.Data.{Data}
+use Rattle.cacao_check.specs.declared.breaks.Mode.TheVariants.{Read as Reading}
 use Rattle.cacao_site.specs.View.{SiteView}
-use Rattle.cacao_cli.specs.Asked.{Asked, canonises}
-use Rattle.cacao_cli.specs.Ends.{End, not_understood, no_memory}
-use Rattle.cacao_cli.specs.Files.{ShelfCall, book_file}
+use Rattle.cacao_cli.specs.Words.{Text}
+use Rattle.cacao_cli.specs.Asked.{Asked, canonises, checks}
+use Rattle.cacao_cli.specs.Command.{IsJudgement}
+use Rattle.cacao_cli.specs.Ends.{End, accepted, past, not_understood, not_readable, no_memory}
+use Rattle.cacao_cli.specs.Files.{File, ShelfCall, NamedText, ReadsTo, book_file, has_too_many}
 use Rattle.cacao_cli.specs.Lines.{SaysWork}
-use Rattle.cacao_cli.specs.Ended.{Performed}
-use Rattle.cacao_cli.proofs.ReadLemmas.{none-read, wanted-before}
+use Rattle.cacao_cli.specs.Work.{Work, ends, judges, or_end, trees_of, work_on}
+use Rattle.cacao_cli.specs.Ended.{Performs, Performed}
+use Rattle.cacao_cli.specs.declared.limit.Limit.TheVariants.{BookCount}
+use Rattle.cacao_cli.proofs.CauseLemmas.{TreesCase, all_trees, one_treeless, trees_case}
+use Rattle.cacao_cli.proofs.ReadLemmas.{Read, none-read, wanted-before}
 
 -- nothing is said, and the end is this one
 pub says-end : (end : End) (site : SiteView) → SaysWork [] end site site end
@@ -25,3 +34,80 @@ performed-memory (Some (canonises book)) shelf site same steady = record {
   reads = wanted-before shelf (book_file book) [] same steady;
   performs = says-end no_memory site;
 }
+performed-memory (Some (checks books)) shelf site same steady = go (has_too_many (checks books)) refl
+  where
+    by : (names : List Text) → (read : Read) × (ReadsTo shelf (map book_file names) read × Performs (or_end read (work_on (checks books))) site site no_memory)
+    by [] = (Ok [], (none-read shelf same steady, inr (inr (record { same = refl; ends = refl }))))
+    by (name ∷ names) = (Err no_memory, (wanted-before shelf (book_file name) (map book_file names) same steady, says-end no_memory site))
+
+    go : (b : Bool) → has_too_many (checks books) ≡ b → Performed (Some (checks books)) shelf site site no_memory
+    go true many = record {
+      read = Ok [];
+      reads = subst (λ (b : Bool). ReadsTo shelf (if b then [] else map book_file books) (Ok [])) (sym many) (none-read shelf same steady);
+      performs = subst (λ (b : Bool). Performs (if b then ends [] (past BookCount) else or_end (Ok []) (work_on (checks books))) site site no_memory) (sym many) (inr (inr (record { same = refl; no_fault = refl; ends = refl })));
+    }
+    go false few = let p = by books in record {
+      read = p.0;
+      reads = subst (λ (b : Bool). ReadsTo shelf (if b then [] else map book_file books) p.0) (sym few) p.1.0;
+      performs = subst (λ (b : Bool). Performs (if b then ends [] (past BookCount) else or_end p.0 (work_on (checks books))) site site no_memory) (sym few) p.1.1;
+    }
+
+-- ---- check
+
+nat_lt-no : (n : ℕ) → n ≤ 16 → nat_lt 16 n ≡ false
+nat_lt-no n le = grind arith
+
+nat_lt-yes : (n : ℕ) → 16 < n → nat_lt 16 n ≡ true
+nat_lt-yes n lt = grind arith
+
+-- too many playbooks
+pub check-many : (names : List (Bor Text)) (shelf : ShelfCall) (site : SiteView) → 16 < length names → shelf.reads_after ≡ shelf.reads_before → shelf.after ≡ shelf.before
+    → Performed (Some (checks (map (λ name. name.now) names))) shelf site site (past BookCount)
+check-many names shelf site lt same steady = record {
+  read = Ok [];
+  reads = subst (λ (b : Bool). ReadsTo shelf (if b then [] else map book_file (map (λ name. name.now) names)) (Ok [])) (sym many) (none-read shelf same steady);
+  performs = subst (λ (b : Bool). Performs (if b then ends [] (past BookCount) else or_end (Ok []) (work_on (checks (map (λ name. name.now) names)))) site site (past BookCount)) (sym many) (says-end (past BookCount) site);
+}
+  where
+    many : has_too_many (checks (map (λ name. name.now) names)) ≡ true
+    many = ap (nat_lt 16) (length-map names (λ name. name.now)) ∙ nat_lt-yes (length names) lt
+
+pub few-files : (names : List (Bor Text)) → length names ≤ 16 → has_too_many (checks (map (λ name. name.now) names)) ≡ false
+few-files names le = ap (nat_lt 16) (length-map names (λ name. name.now)) ∙ nat_lt-no (length names) le
+
+files-named : (names : List (Bor Text)) → map (λ name. book_file name.now) names ≡ map book_file (map (λ name. name.now) names)
+files-named [] = refl
+files-named (name ∷ names) = ap (λ (rest : List File). book_file name.now ∷ rest) (files-named names)
+
+-- the files were read, and what they come to was done
+pub check-read : (names : List (Bor Text)) (shelf : ShelfCall) (site : SiteView) (read : Read) (last : End) → length names ≤ 16 → ReadsTo shelf (map (λ name. book_file name.now) names) read
+    → Performs (or_end read (work_on (checks (map (λ name. name.now) names)))) site site last → Performed (Some (checks (map (λ name. name.now) names))) shelf site site last
+check-read names shelf site read last le reads performs = record {
+  read = read;
+  reads = subst (λ (b : Bool). ReadsTo shelf (if b then [] else map book_file (map (λ name. name.now) names)) read) (sym (few-files names le)) (subst (λ (files : List File). ReadsTo shelf files read) (files-named names) reads);
+  performs = subst (λ (b : Bool). Performs (if b then ends [] (past BookCount) else or_end read (work_on (checks (map (λ name. name.now) names)))) site site last) (sym (few-files names le)) performs;
+}
+
+pub check-unread : (books : List Text) (site : SiteView) (end : End) → Performs (or_end (Err end) (work_on (checks books))) site site end
+check-unread books site end = says-end end site
+
+-- the texts have no tree, or memory was wanted
+pub check-treeless : (books : List Text) (texts : List NamedText) (site : SiteView) (end : End) → (trees_of texts ≡ Err end) ⊎ (end ≡ no_memory) → Performs (or_end (Ok texts) (work_on (checks books))) site site end
+check-treeless books texts site end (inl is) = subst (λ (r : Result (List Data) End). Performs (or_end r (λ roots. judges roots Reading (ends [] accepted))) site site end) (sym is) (says-end end site)
+check-treeless books texts site end (inr is) = subst (λ (e : End). Performs (or_end (trees_of texts) (λ roots. judges roots Reading (ends [] accepted))) site site e) (sym is) (go (trees_case texts))
+  where
+    at : (r : Result (List Data) End) → trees_of texts ≡ r → Performs (or_end r (λ roots. judges roots Reading (ends [] accepted))) site site no_memory → Performs (or_end (trees_of texts) (λ roots. judges roots Reading (ends [] accepted))) site site no_memory
+    at r e p = subst (λ (r : Result (List Data) End). Performs (or_end r (λ roots. judges roots Reading (ends [] accepted))) site site no_memory) (sym e) p
+
+    go : TreesCase texts → Performs (or_end (trees_of texts) (λ roots. judges roots Reading (ends [] accepted))) site site no_memory
+    go (all_trees roots r e) = at (Ok roots) e (inr (inr (record { same = refl; ends = refl })))
+    go (one_treeless name reason r e) = at (Err (not_readable name reason)) e (inr (inr (record { same = refl; no_fault = refl; ends = refl })))
+
+-- the trees were judged
+pub check-judged : (books : List Text) (texts : List NamedText) (roots : List Data) (site : SiteView) (end : End) → trees_of texts ≡ Ok roots → IsJudgement roots Reading end → Performs (or_end (Ok texts) (work_on (checks books))) site site end
+check-judged books texts roots site end is judged = subst (λ (r : Result (List Data) End). Performs (or_end r (λ roots. judges roots Reading (ends [] accepted))) site site end) (sym is) (go judged)
+  where
+    go : IsJudgement roots Reading end → Performs (judges roots Reading (ends [] accepted)) site site end
+    go (inl (kept, e)) = inl (kept, inl (record { says = refl; ends = e }))
+    go (inr (inl (broken, first, e))) = inr (inl (record { broken = broken; first = first; same = refl; ends = e }))
+    go (inr (inr e)) = inr (inr (record { same = refl; ends = e }))

@@ -1,7 +1,8 @@
 -- What reading files comes to.
-use Rattle.std.proofs.Common.{◌≡◌, ◌⊎◌, inl, inr, ◌∙◌, refl, sym, ap, subst, arith, ℕ, ◌≤◌, ◌<◌, Bool, true, false, List, [], ◌∷◌, length, Option, Some, None, Result, Ok, Err}
+use Rattle.std.proofs.Common.{zero, suc, ◌+◌, ◌++◌, take, drop, get_or, map, drop-cons, ◌≡◌, ◌⊎◌, inl, inr, ◌∙◌, refl, sym, ap, subst, arith, ℕ, ◌≤◌, ◌<◌, Bool, true, false, List, [], ◌∷◌, length, Option, Some, None, Result, Ok, Err}
 use Rattle.std.specs.Prelude.{IfSome, IsSomeAnd, nat_le, if◌then◌else◌}
-use Rattle.cacao_site.specs.Counts.{CountsOne}
+use Rattle.std.proofs.lemmas.List.{map-append, take_more, take-append-drop}
+use Rattle.cacao_site.specs.Counts.{CountsOne, next_count}
 use Rattle.cacao_cli.specs.Words.{Text}
 use Rattle.cacao_cli.specs.Ends.{End, most, shelf_failed, no_memory}
 use Rattle.cacao_cli.specs.Exact.{file_faults}
@@ -105,3 +106,147 @@ reads-few told list count read all_read = omega arith
 reads-few told list count read (wants_memory file behind) = omega arith
 reads-few told list count read (stops file behind content end gives is) = omega arith
 reads-few told list count read (goes_on file behind bytes more rest gives reads) = omega (arith, reads-few told behind more rest reads)
+
+-- ---- files read one after another
+
+-- each file gave this text
+abbrev pub GivesAll : Option Files → List File → List NamedText → Type 0
+GivesAll told [] [] = Unit {0}
+GivesAll told [] (text ∷ texts) = ⊥
+GivesAll told (file ∷ files) [] = ⊥
+GivesAll told (file ∷ files) (text ∷ texts) = ((text ≡ named file.name text.bytes) × Gives told file (whole text.bytes)) × GivesAll told files texts
+
+pub gives-more : (told : Option Files) (files : List File) (file : File) (texts : List NamedText) (text : NamedText) → GivesAll told files texts → (text ≡ named file.name text.bytes) × Gives told file (whole text.bytes)
+    → GivesAll told (files ++ file ∷ []) (texts ++ text ∷ [])
+gives-more told [] file [] text p h = (h, tt)
+gives-more told [] file (t ∷ texts) text p h = absurd p
+gives-more told (f ∷ files) file [] text p h = absurd p
+gives-more told (f ∷ files) file (t ∷ texts) text p h = (p.0, gives-more told files file texts text p.1 h)
+
+-- a count after these texts
+abbrev pub behind_all : List NamedText → ℕ → ℕ
+behind_all [] count = count
+behind_all (text ∷ texts) count = suc (behind_all texts count)
+
+item-named : (text : NamedText) (file : File) (r : Read) → text ≡ named file.name text.bytes → item_then (Ok (named file.name text.bytes)) r ≡ item_then (Ok text) r
+item-named text file r is = ap (λ (t : NamedText). item_then (Ok t) r) (sym is)
+
+pub reads-all : (told : Option Files) (files : List File) (texts : List NamedText) → GivesAll told files texts → Reads told files (behind_all texts 0) (Ok texts)
+reads-all told [] [] p = all_read
+reads-all told [] (t ∷ texts) p = absurd p
+reads-all told (f ∷ files) [] p = absurd p
+reads-all told (f ∷ files) (t ∷ texts) p = subst (λ (r : Read). Reads told (f ∷ files) (suc (behind_all texts 0)) r) (item-named t f (Ok texts) p.0.0)
+    (goes_on f files t.bytes (behind_all texts 0) (Ok texts) p.0.1 (reads-all told files texts p.1))
+
+-- what stops at the only file stops at the first of several
+stops-behind : (told : Option Files) (file : File) (rest only : List File) (count : ℕ) (r : Read) (end : End) → Reads told only count r → only ≡ file ∷ [] → r ≡ Err end → Reads told (file ∷ rest) count (Err end)
+stops-behind told file rest only count r end all_read is e = absurd (cc)
+stops-behind told file rest only count r end (wants_memory f behind) is e = let same : end ≡ no_memory = cc in subst (λ (x : End). Reads told (file ∷ rest) 0 (Err x)) (sym same) (wants_memory file rest)
+stops-behind told file rest only count r end (stops f behind content stop gives puts) is e =
+    let same : end ≡ stop = cc in let first : f ≡ file = cc in
+    subst (λ (x : End). Reads told (file ∷ rest) 1 (Err x)) (sym same) (stops file rest content stop (subst (λ (x : File). Gives told x content) first gives) (subst (λ (x : File). text_in x content ≡ Err stop) first puts))
+stops-behind told file rest only count r end (goes_on f behind bytes more read gives reads) is e = absurd (go more read reads e)
+  where
+    none : behind ≡ []
+    none = cc
+
+    go : (more : ℕ) (read : Read) → Reads told behind more read → item_then (Ok (named f.name bytes)) read ≡ Err end → ⊥
+    go more read reads e = let k : read ≡ Ok [] = (empty-read told more read (subst (λ (l : List File). Reads told l more read) none reads)).1 in
+        let whole_is : item_then (Ok (named f.name bytes)) read ≡ Ok (named f.name bytes ∷ []) = ap (item_then (Ok (named f.name bytes))) k in cc
+
+pub reads-stopped : (told : Option Files) (files : List File) (texts : List NamedText) (file : File) (rest : List File) (count : ℕ) (end : End) → GivesAll told files texts → Reads told (file ∷ []) count (Err end)
+    → Reads told (files ++ file ∷ rest) (behind_all texts count) (Err end)
+reads-stopped told [] [] file rest count end p h = stops-behind told file rest (file ∷ []) count (Err end) end h refl refl
+reads-stopped told [] (t ∷ texts) file rest count end p h = absurd p
+reads-stopped told (f ∷ files) [] file rest count end p h = absurd p
+reads-stopped told (f ∷ files) (t ∷ texts) file rest count end p h = goes_on f (files ++ file ∷ rest) t.bytes (behind_all texts count) (Err end) p.0.1 (reads-stopped told files texts file rest count end p.1 h)
+
+-- a file that gave its text, by one read
+pub one-read : (told : Option Files) (file : File) (only : List File) (count : ℕ) (r : Read) (text : NamedText) → Reads told only count r → only ≡ file ∷ [] → r ≡ Ok (text ∷ []) → (count ≡ 1) × ((text ≡ named file.name text.bytes) × Gives told file (whole text.bytes))
+one-read told file only count r text all_read is e = absurd (cc)
+one-read told file only count r text (wants_memory f behind) is e = absurd (cc)
+one-read told file only count r text (stops f behind content stop gives puts) is e = absurd (cc)
+one-read told file only count r text (goes_on f behind bytes more read gives reads) is e = go more read reads e
+  where
+    none : behind ≡ []
+    none = cc
+
+    first : f ≡ file
+    first = cc
+
+    go : (more : ℕ) (read : Read) → Reads told behind more read → item_then (Ok (named f.name bytes)) read ≡ Ok (text ∷ []) → (suc more ≡ 1) × ((text ≡ named file.name text.bytes) × Gives told file (whole text.bytes))
+    go more read reads e =
+        let k = empty-read told more read (subst (λ (l : List File). Reads told l more read) none reads) in
+        let whole_is : item_then (Ok (named f.name bytes)) read ≡ Ok (named f.name bytes ∷ []) = ap (item_then (Ok (named f.name bytes))) k.1 in
+        let same : text ≡ named f.name bytes = cc in
+        let held : bytes ≡ text.bytes = ap (λ (t : NamedText). t.bytes) (sym same) in
+        (ap suc k.0, (same ∙ ap (λ (x : File). named x.name bytes) first ∙ ap (named file.name) held, subst (λ (b : Text). Gives told file (whole b)) held (subst (λ (x : File). Gives told x (whole bytes)) first gives)))
+
+-- ---- counts
+
+counted-next : (n count : ℕ) → next_count (counted n count) ≡ counted n (next_count count)
+counted-next zero count = refl
+counted-next (suc n) count = ap next_count (counted-next n count)
+
+counted-all : (texts : List NamedText) (n count : ℕ) → counted n (counted (length texts) count) ≡ counted (behind_all texts n) count
+counted-all [] n count = refl
+counted-all (text ∷ texts) n count = sym (counted-next n (counted (length texts) count)) ∙ ap next_count (counted-all texts n count)
+
+pub counts-all : (a b c : Option ℕ) (texts : List NamedText) (n : ℕ) → Counts a (length texts) b → Counts b n c → Counts a (behind_all texts n) c
+counts-all None None None texts n p q = tt
+counts-all None None (Some c) texts n p q = absurd q
+counts-all None (Some b) c texts n p q = absurd p
+counts-all (Some a) None c texts n p q = absurd p
+counts-all (Some a) (Some b) None texts n p q = absurd q
+counts-all (Some a) (Some b) (Some c) texts n p q = q ∙ ap (counted n) p ∙ counted-all texts n a
+
+pub counts-more : (a b c : Option ℕ) (n : ℕ) → Counts a n b → Counts b 1 c → Counts a (suc n) c
+counts-more None None None n p q = tt
+counts-more None None (Some c) n p q = absurd q
+counts-more None (Some b) c n p q = absurd p
+counts-more (Some a) None c n p q = absurd p
+counts-more (Some a) (Some b) None n p q = absurd q
+counts-more (Some a) (Some b) (Some c) n p q = q ∙ ap next_count p
+
+-- ---- a list, at one place
+
+pub split_at : {A : Type 0} (xs : List A) (i : ℕ) (d : A) → i < length xs → xs ≡ take i xs ++ get_or xs i d ∷ drop (i + 1) xs
+split_at xs i d lt = sym (take-append-drop i xs) ∙ ap (λ rest. take i xs ++ rest) (drop_at xs i d lt)
+  where
+    drop_at : {A : Type 0} (xs : List A) (i : ℕ) (d : A) → i < length xs → drop i xs ≡ get_or xs i d ∷ drop (i + 1) xs
+    drop_at xs i d lt = grind (arith, drop-cons)
+
+pub map-split : {A B : Type 0} (f : A → B) (xs : List A) (i : ℕ) (d : A) → i < length xs → map f xs ≡ map f (take i xs) ++ f (get_or xs i d) ∷ map f (drop (i + 1) xs)
+map-split f xs i d lt = ap (map f) (split_at xs i d lt) ∙ map-append f (take i xs) (get_or xs i d ∷ drop (i + 1) xs)
+
+pub map-more : {A B : Type 0} (f : A → B) (xs : List A) (i : ℕ) (d : A) → i < length xs → map f (take (i + 1) xs) ≡ map f (take i xs) ++ f (get_or xs i d) ∷ []
+map-more f xs i d lt = ap (map f) (take_more xs i d lt) ∙ map-append f (take i xs) (get_or xs i d ∷ [])
+
+-- ---- several files
+
+pub all-read-to : (shelf : ShelfCall) (files : List File) (texts : List NamedText) → GivesAll shelf.told files texts → Counts shelf.reads_before (length texts) shelf.reads_after → shelf.after ≡ shelf.before → ReadsTo shelf files (Ok texts)
+all-read-to shelf files texts given counts steady = record {
+  count = behind_all texts 0;
+  reads = reads-all shelf.told files texts given;
+  counted = counts-all shelf.reads_before shelf.reads_after shelf.reads_after texts 0 counts (counts-none shelf.reads_after);
+  faults = steady;
+}
+
+pub stopped-after : (inner outer : ShelfCall) (files rest all : List File) (texts : List NamedText) (file : File) (end : End) → all ≡ files ++ file ∷ rest → inner.told ≡ outer.told → inner.before ≡ outer.before → inner.after ≡ outer.after
+    → inner.reads_after ≡ outer.reads_after → GivesAll outer.told files texts → Counts outer.reads_before (length texts) inner.reads_before → ReadsTo inner (file ∷ []) (Err end) → ReadsTo outer all (Err end)
+stopped-after inner outer files rest all texts file end is told before after last given counts r = record {
+  count = behind_all texts r.count;
+  reads = subst (λ (l : List File). Reads outer.told l (behind_all texts r.count) (Err end)) (sym is)
+      (reads-stopped outer.told files texts file rest r.count end given (subst (λ (t : Option Files). Reads t (file ∷ []) r.count (Err end)) told r.reads));
+  counted = counts-all outer.reads_before inner.reads_before outer.reads_after texts r.count counts (subst (Counts inner.reads_before r.count) last r.counted);
+  faults = sym after ∙ r.faults ∙ ap (λ (n : ℕ). faults_behind n (Err end)) before;
+}
+
+-- a file that was read, for whose text no memory was left
+pub no-room-after : (shelf : ShelfCall) (file : File) (text : NamedText) → ReadsTo shelf (file ∷ []) (Ok (text ∷ [])) → ReadsTo shelf (file ∷ []) (Err no_memory)
+no-room-after shelf file text r = record {
+  count = 1;
+  reads = stops file [] no_room no_memory tt refl;
+  counted = subst (λ (n : ℕ). Counts shelf.reads_before n shelf.reads_after) (one-read shelf.told file (file ∷ []) r.count (Ok (text ∷ [])) text r.reads refl refl).0 r.counted;
+  faults = r.faults;
+}

@@ -1,22 +1,35 @@
 -- The values of the code as those of the definitions.
-use Rattle.std.specs.Prelude.{◌≡◌, ◌⊎◌, List, [], ◌∷◌, Result, Ok, Err}
+use Rattle.std.specs.Prelude.{◌≡◌, ◌⊎◌, ℕ, List, [], ◌∷◌, map, Vec, Result, Ok, Err}
+use Rattle.std.specs.declared.alloc.Global.{Global}
+use Rattle.serde_json.specs.Data.{Data}
+use Rattle.cacao_check.specs.FirstBreak.{IsAccepted, IsFirstBreak}
+use Rattle.cacao_book.specs.declared.refusals.BookError.{BookError}
+use Rattle.cacao_book.specs.declared.refusals.BookError.TheVariants as book_error
+use Rattle.cacao_check.specs.declared.breaks.Break.{Break}
+use Rattle.cacao_check.specs.declared.breaks.CheckError.{CheckError}
+use Rattle.cacao_check.specs.declared.breaks.CheckError.TheVariants as check_error
+use Rattle.cacao_check.specs.declared.breaks.Mode.{Mode}
 use Rattle.cacao_json.specs.Tree.{data_of}
 use Rattle.cacao_json.specs.declared.tree.Tree.{Tree}
 use Rattle.cacao_cli.specs.Words.{Text}
-use Rattle.cacao_cli.specs.Asked.{Asked, canonises}
+use Rattle.cacao_cli.specs.Asked.{Asked, canonises, checks}
 use Rattle.cacao_cli.specs.Ends as as_said
 use Rattle.cacao_cli.specs.Files.{NamedText, named}
-use Rattle.cacao_cli.specs.Work.{tree_of}
+use Rattle.cacao_cli.specs.Work.{tree_of, trees_of}
 use Rattle.cacao_cli.specs.declared.words.Command.{Command}
-use Rattle.cacao_cli.specs.declared.words.Command.TheVariants.{Canon}
+use Rattle.cacao_cli.specs.declared.words.Command.TheVariants.{Canon, Check}
 use Rattle.cacao_cli.specs.declared.end.End.{End}
+use Rattle.cacao_cli.specs.declared.file_text.FileText.{FileText}
 use Rattle.cacao_cli.specs.declared.end.End.TheVariants as how
 
 abbrev pub asked_by : Command → Asked
 asked_by (Canon book) = canonises book.now
+asked_by (Check books) = checks (map (λ name. name.now) books.items.items)
 
 abbrev pub end_of : End → as_said.End
 end_of how.Done = as_said.done
+end_of how.Accepted = as_said.accepted
+end_of (how.Refused broken) = as_said.refused broken
 end_of how.NotUnderstood = as_said.not_understood
 end_of (how.Past limit) = as_said.past limit
 end_of (how.ShelfFailed line) = as_said.shelf_failed line.name.now
@@ -25,12 +38,42 @@ end_of (how.NotReadable name reason) = as_said.not_readable name.now reason
 end_of how.Unsaid = as_said.unsaid
 end_of how.NoMemory = as_said.no_memory
 
--- what the read of one file gave, as what reading it comes to
-abbrev pub read_of : Text → Result Text End → Result (List NamedText) as_said.End
-read_of name (Ok bytes) = Ok (named name bytes ∷ [])
-read_of name (Err end) = Err (end_of end)
+-- a file that was read, as its text
+abbrev pub text_of : FileText → NamedText
+text_of text = named text.name.now text.bytes
+
+-- what the read of one file gave, and of several, as what reading comes to
+abbrev pub read_of : Result FileText End → Result (List NamedText) as_said.End
+read_of (Ok text) = Ok (text_of text ∷ [])
+read_of (Err end) = Err (end_of end)
+
+abbrev pub reads_of : Result (Vec FileText Global) End → Result (List NamedText) as_said.End
+reads_of (Ok texts) = Ok (map text_of texts.items)
+reads_of (Err end) = Err (end_of end)
 
 -- the tree of the text, or why it has none; or memory was wanted
-abbrev pub IsTreeOrMemory : Text → Text → Result Tree End → Type 0
-IsTreeOrMemory name bytes (Ok tree) = tree_of (named name bytes) ≡ Ok (data_of tree)
-IsTreeOrMemory name bytes (Err end) = (tree_of (named name bytes) ≡ Err (end_of end)) ⊎ (end_of end ≡ as_said.no_memory)
+abbrev pub IsTreeOrMemory : NamedText → Result Tree End → Type 0
+IsTreeOrMemory text (Ok tree) = tree_of text ≡ Ok (data_of tree)
+IsTreeOrMemory text (Err end) = (tree_of text ≡ Err (end_of end)) ⊎ (end_of end ≡ as_said.no_memory)
+
+-- the trees of the texts, or why the first has none; or memory was wanted
+abbrev pub AreTreesOrMemory : List NamedText → Result (Vec Tree Global) End → Type 0
+AreTreesOrMemory texts (Ok trees) = trees_of texts ≡ Ok (map data_of trees.items)
+AreTreesOrMemory texts (Err end) = (trees_of texts ≡ Err (end_of end)) ⊎ (end_of end ≡ as_said.no_memory)
+
+-- the playbooks are accepted, or this is their first break; or memory was wanted
+abbrev pub IsJudgement : List Data → Mode → as_said.End → Type 0
+IsJudgement trees mode end = (IsAccepted trees mode × (end ≡ as_said.accepted)) ⊎ (((broken : Break) × IsFirstBreak trees mode broken × (end ≡ as_said.refused broken)) ⊎ (end ≡ as_said.no_memory))
+
+abbrev pub IsJudgedOrMemory : List Data → Mode → End → Type 0
+IsJudgedOrMemory trees mode end = IsJudgement trees mode (end_of end)
+
+-- how a call ends where the playbook of this number has a break of shape
+abbrev pub shape_end : ℕ → BookError → as_said.End
+shape_end book (book_error.Shape step rule) = as_said.refused (record { book = book; step = step; rule = rule })
+shape_end book book_error.Memory = as_said.no_memory
+
+-- and where the playbooks have a break of sense
+abbrev pub sense_end : CheckError → as_said.End
+sense_end (check_error.Broken broken) = as_said.refused broken
+sense_end check_error.Memory = as_said.no_memory

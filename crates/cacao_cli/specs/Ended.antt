@@ -1,15 +1,32 @@
 -- How a call of the program goes: what it reads, what it does, the lines that it says, and its status.
-use Rattle.std.specs.Prelude.{ℕ, List, Option, Result}
+use Rattle.std.specs.Prelude.{◌≡◌, ◌⊎◌, ℕ, List, Option, Result}
+use Rattle.serde_json.specs.Data.{Data}
+use Rattle.cacao_check.specs.FirstBreak.{IsAccepted, IsFirstBreak}
+use Rattle.cacao_check.specs.declared.breaks.Break.{Break}
+use Rattle.cacao_check.specs.declared.breaks.Mode.{Mode}
 use Rattle.cacao_site.specs.View.{SiteView}
 use Rattle.cacao_cli.specs.Asked.{Asked}
-use Rattle.cacao_cli.specs.Ends.{End}
+use Rattle.cacao_cli.specs.Ends.{End, refused, no_memory}
 use Rattle.cacao_cli.specs.Files.{ShelfCall, NamedText, ReadsTo, files_of}
 use Rattle.cacao_cli.specs.Lines.{SaysWork, Tells}
-use Rattle.cacao_cli.specs.Work.{Work, ends, work}
+use Rattle.cacao_cli.specs.Work.{Work, ends, judges, work}
+
+-- a rule of the playbooks is broken, and the end tells the first break
+pub record TellsBreak (trees : List Data) (mode : Mode) (old new : SiteView) (last : End) : Type 0 where
+  pub broken : Break
+  pub first : IsFirstBreak trees mode broken
+  pub same : new ≡ old
+  pub ends : last ≡ refused broken
+
+-- memory was wanted for the judgement
+pub record IsNotJudged (old new : SiteView) (last : End) : Type 0 where
+  pub same : new ≡ old
+  pub ends : last ≡ no_memory
 
 -- the work was done, from the one site to the other, all but the last line
 abbrev pub Performs : Work → SiteView → SiteView → End → Type 0
 Performs (ends lines end) old new last = SaysWork lines end old new last
+Performs (judges trees mode accepted) old new last = (IsAccepted trees mode × Performs accepted old new last) ⊎ (TellsBreak trees mode old new last ⊎ IsNotJudged old new last)
 
 -- the files were read, and the work that they come to was done
 pub record Performed (asked : Option Asked) (shelf : ShelfCall) (old new : SiteView) (last : End) : Type 0 where

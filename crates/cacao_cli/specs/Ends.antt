@@ -1,5 +1,6 @@
 -- How a call of the program ends: its exit status, and its last line if it has one.
 use Rattle.std.specs.Prelude.{ℕ, Bool, true, false, ◌++◌, codes, decimal, Option, Some, None}
+use Rattle.cacao_check.specs.declared.breaks.Break.{Break}
 use Rattle.cacao_cli.specs.Words.{Text}
 use Rattle.cacao_cli.specs.declared.limit.Limit.{Limit}
 use Rattle.cacao_cli.specs.declared.limit.Limit.TheVariants.{FileBytes, BookCount}
@@ -24,8 +25,19 @@ reason_text NotJson = codes "not json"
 reason_text (RepeatedName colons members) = codes "repeated name " ++ (decimal colons ++ (codes " " ++ decimal members))
 reason_text (NotWhole index) = codes "not whole " ++ decimal index
 
+-- the step that a break names
+abbrev pub step_text : Option Text → Text
+step_text None = codes ""
+step_text (Some key) = codes " step " ++ key
+
+-- the rule of a playbook that is broken
+abbrev pub break_text : Break → Text
+break_text broken = codes "book " ++ (decimal broken.book ++ (step_text broken.step ++ (codes " rule K" ++ decimal broken.rule)))
+
 pub data End : Type 0 where
   done : End  -- all was said before
+  accepted : End
+  refused : (broken : Break) → End
   not_understood : End
   past : (limit : Limit) → End
   shelf_failed : (name : Text) → End
@@ -36,6 +48,8 @@ pub data End : Type 0 where
 
 abbrev pub status_of : End → ℕ
 status_of done = 0
+status_of accepted = 0
+status_of (refused broken) = 1
 status_of not_understood = 2
 status_of (past limit) = 11
 status_of (shelf_failed name) = 3
@@ -47,6 +61,8 @@ status_of no_memory = 10
 -- the last line without its line feed
 abbrev pub text_of : End → Option Text
 text_of done = None
+text_of accepted = Some (codes "accepted")
+text_of (refused broken) = Some (codes "refused: " ++ break_text broken)
 text_of not_understood = Some (codes "words not understood")
 text_of (past limit) = Some (codes "limit: " ++ limit_text limit)
 text_of (shelf_failed name) = Some (codes "shelf failed: " ++ name)
@@ -58,6 +74,8 @@ text_of no_memory = None
 -- Whether the end tells a fault of the outside. Its line wants no memory: it is made before the call that may fail.
 abbrev pub is_fault : End → Bool
 is_fault done = false
+is_fault accepted = false
+is_fault (refused broken) = false
 is_fault not_understood = false
 is_fault (past limit) = false
 is_fault (shelf_failed name) = true

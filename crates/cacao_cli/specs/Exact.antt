@@ -1,10 +1,13 @@
 -- Which status comes, where the outside tells what it holds.
 use Rattle.std.specs.Prelude.{◌≡◌, ◌⊎◌, ℕ, List, [], ◌∷◌, ◌++◌, Option, Some, None, IfSome}
+use Rattle.serde_json.specs.Data.{Data}
+use Rattle.cacao_check.specs.FirstBreak.{Demand, IsAccepted, Keeps}
+use Rattle.cacao_check.specs.declared.breaks.Mode.{Mode}
 use Rattle.cacao_site.specs.View.{SiteView}
-use Rattle.cacao_cli.specs.Asked.{Asked, canonises}
+use Rattle.cacao_cli.specs.Asked.{Asked, canonises, checks}
 use Rattle.cacao_cli.specs.Ends.{status_of}
 use Rattle.cacao_cli.specs.Files.{File, Files, files_of, reading}
-use Rattle.cacao_cli.specs.Work.{Work, ends, work}
+use Rattle.cacao_cli.specs.Work.{Work, ends, judges, work}
 
 abbrev pub IsOneOf : ℕ → List ℕ → Type 0
 IsOneOf n [] = ⊥
@@ -24,6 +27,7 @@ IfFilesTold (file ∷ more) told P = IfSome told P
 abbrev pub IfTold : Option Asked → Option Files → SiteView → (Files → Type 0) → Type 0
 IfTold None told old P = IfFilesTold [] told P
 IfTold (Some (canonises book)) told old P = IfFilesTold (files_of (Some (canonises book))) told P
+IfTold (Some (checks books)) told old P = IfFilesTold (files_of (Some (checks books))) told P
 
 -- the faults that may stand in the place of a status that rests on the files alone
 abbrev pub file_faults : List File → List ℕ
@@ -34,10 +38,19 @@ file_faults (file ∷ more) = 3 ∷ 9 ∷ 10 ∷ []
 abbrev pub faults_of : Option Asked → List ℕ
 faults_of None = file_faults []
 faults_of (Some (canonises book)) = file_faults (files_of (Some (canonises book)))
+faults_of (Some (checks books)) = file_faults (files_of (Some (checks books)))
 
--- the status is that of the work's end, or one of the faults that may stand in its place
-abbrev pub Exact : Work → List ℕ → SiteView → SiteView → ℕ → Type 0
-Exact (ends lines end) faults old new answer = IsOneOf answer (status_of end ∷ faults)
+-- a rule of the playbooks with these trees is broken
+abbrev pub IsBroken : List Data → Mode → Type 0
+IsBroken trees mode = (demand : Demand) × ¬ Keeps trees mode demand
+
+-- the status is that of the work
+abbrev pub HasStatus : Work → SiteView → SiteView → ℕ → Type 0
+HasStatus (ends lines end) old new answer = answer ≡ status_of end
+HasStatus (judges trees mode accepted) old new answer = (IsAccepted trees mode × HasStatus accepted old new answer) ⊎ (IsBroken trees mode × (answer ≡ 1))
+
+-- the status is that of the work that the files call for, or one of the faults that may stand in its place
 
 abbrev pub Answers : Option Asked → Option Files → SiteView → SiteView → ℕ → Type 0
-Answers asked told old new answer = IfTold asked told old (λ files. Exact (work asked (reading files (files_of asked))) (faults_of asked) old new answer)
+Answers asked told old new answer = IfTold asked told old (λ files.
+    HasStatus (work asked (reading files (files_of asked))) old new answer ⊎ IsOneOf answer (faults_of asked))

@@ -1,10 +1,10 @@
 -- The named files that a command reads, in order, and what reading them comes to.
 use Rattle.std.proofs.Common.{zero, suc}
-use Rattle.std.specs.Prelude.{◌≡◌, ℕ, ◌<◌, ◌≤◌, ◌==◌, nat_lt, nat_le, length, Bool, List, [], ◌∷◌, Option, Some, None, Result, Ok, Err}
+use Rattle.std.specs.Prelude.{◌≡◌, ℕ, ◌<◌, ◌≤◌, ◌==◌, nat_lt, nat_le, length, map, Bool, List, [], ◌∷◌, Option, Some, None, Result, Ok, Err}
 use Rattle.std.specs.Prelude.{IfSome, IsSomeAnd, ⊤, if◌then◌else◌}
 use Rattle.cacao_site.specs.Counts.{next_count}
 use Rattle.cacao_cli.specs.Words.{Text}
-use Rattle.cacao_cli.specs.Asked.{Asked, canonises}
+use Rattle.cacao_cli.specs.Asked.{Asked, canonises, checks}
 use Rattle.cacao_cli.specs.Ends.{End, most, status_of, past, shelf_failed, no_such_file, no_memory}
 use Rattle.cacao_cli.specs.declared.limit.Limit.{Limit}
 use Rattle.cacao_cli.specs.declared.limit.Limit.TheVariants.{FileBytes}
@@ -20,6 +20,7 @@ book_file name = record { name = name; limit = FileBytes }
 -- the playbooks that the words name
 abbrev pub books_of : Asked → List Text
 books_of (canonises book) = book ∷ []
+books_of (checks books) = books
 
 -- more playbooks than the limit: then no file is read
 abbrev pub has_too_many : Asked → Bool
@@ -27,6 +28,7 @@ has_too_many asked = nat_lt 16 (length (books_of asked))
 
 abbrev pub named_by : Asked → List File
 named_by (canonises book) = book_file book ∷ []
+named_by (checks books) = map book_file books
 
 -- the files to be read, in order
 abbrev pub files_of : Option Asked → List File

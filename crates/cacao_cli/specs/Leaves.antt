@@ -2,7 +2,7 @@
 use Rattle.std.specs.Prelude.{◌≡◌, ◌⊎◌, ℕ, ◌≤◌, length, Option, Some, None}
 use Rattle.cacao_site.specs.SayCalls.{SaysOnly}
 use Rattle.cacao_site.specs.View.{SiteView}
-use Rattle.cacao_cli.specs.Asked.{Asked, canonises}
+use Rattle.cacao_cli.specs.Asked.{Asked, canonises, checks}
 use Rattle.cacao_cli.specs.Files.{Counts}
 
 -- at most one call of `say` was made, and nothing else changed
@@ -14,6 +14,7 @@ pub record SaysAtMostOnce (old new : SiteView) (answer : ℕ) : Type 0 where
 abbrev pub Leaves : Option Asked → SiteView → SiteView → ℕ → Type 0
 Leaves None old new answer = SaysAtMostOnce old new answer
 Leaves (Some (canonises book)) old new answer = SaysAtMostOnce old new answer
+Leaves (Some (checks books)) old new answer = SaysAtMostOnce old new answer
 
 -- at most so many reads were counted, where the shelf tells them
 abbrev pub ReadsAtMost : ℕ → Option ℕ → Option ℕ → Type 0

@@ -5,16 +5,20 @@ use Rattle.cacao_json.specs.Refusals.{answer}
 use Rattle.cacao_json.specs.declared.error.JsonError.{JsonError}
 use Rattle.cacao_json.specs.declared.error.JsonError.TheVariants as json
 use Rattle.cacao_text.specs.Canon.{book_text}
+use Rattle.cacao_check.specs.declared.breaks.Mode.{Mode}
+use Rattle.cacao_check.specs.declared.breaks.Mode.TheVariants.{Read}
 use Rattle.cacao_cli.specs.Words.{Text}
-use Rattle.cacao_cli.specs.Asked.{Asked, canonises}
-use Rattle.cacao_cli.specs.Ends.{End, done, not_understood, past, not_readable, no_memory}
+use Rattle.cacao_cli.specs.Asked.{Asked, canonises, checks}
+use Rattle.cacao_cli.specs.Ends.{End, done, accepted, not_understood, past, not_readable, no_memory}
 use Rattle.cacao_cli.specs.Files.{NamedText, item_then, has_too_many}
 use Rattle.cacao_cli.specs.declared.limit.Limit.TheVariants.{BookCount}
 use Rattle.cacao_cli.specs.declared.reason.Reason.TheVariants.{NotJson, RepeatedName, NotWhole}
 
--- what is left to be done where nothing was refused before: to say these lines, and end so
+-- What is left to be done where nothing was refused before: to say these lines and end so; to tell the first break of the playbooks with
+-- these trees, and where there is none to do this work.
 pub data Work : Type 0 where
   ends : (lines : List Text) (end : End) → Work
+  judges : (trees : List Data) (mode : Mode) (accepted : Work) → Work
 
 -- the tree, or the end that says why there is none
 abbrev pub tree_or_end : Text → Result Data JsonError → Result Data End
@@ -44,6 +48,7 @@ canon_line root = book_text root ++ codes "\n"
 -- the work that the texts of its files come to
 abbrev pub work_on : Asked → List NamedText → Work
 work_on (canonises book) texts = or_end (trees_of texts) (λ roots. ends (map canon_line roots) done)
+work_on (checks books) texts = or_end (trees_of texts) (λ roots. judges roots Read (ends [] accepted))
 
 -- the work that the words and what was read come to
 abbrev pub work : Option Asked → Result (List NamedText) End → Work

@@ -38,11 +38,11 @@ pub fn canon<'w, L: Shelf, S: Site>(
     ensures files { L.told shelf.new ≡ L.told shelf.old }
     ensures faults { L.faults shelf.old ≤ L.faults shelf.new }
 {
-    let bytes = match read_file(alloc, book, shelf) {
-        Ok(bytes) => bytes,
+    let text = match read_file(alloc, book, shelf) {
+        Ok(text) => text,
         Err(end) => return end,
     };
-    let tree = match tree_of(alloc, book, bytes.as_slice()) {
+    let tree = match tree_of(alloc, &text) {
         Ok(tree) => tree,
         Err(end) => return end,
     };

@@ -6,6 +6,7 @@ ghost use Rattle.cacao_cli.specs.Ends.{status_of, text_of};
 use crate::fault_line::FaultLine;
 use crate::limit::Limit;
 use crate::reason::Reason;
+use cacao_check::Break;
 use std::fmt;
 
 /// How a call of the program ends. Each end has an exit status, and each but three a last line.
@@ -13,6 +14,10 @@ use std::fmt;
 pub enum End<'w> {
     /// All was said before.
     Done,
+    /// No rule of the playbooks is broken.
+    Accepted,
+    /// A rule of a playbook is broken: this is the first break.
+    Refused { broken: Break },
     /// The words have no reading.
     NotUnderstood,
     /// A quantity passes its limit.
@@ -35,7 +40,8 @@ impl<'w> End<'w> {
         ensures { result ≡ status_of (end_of self.now) }
     {
         match self {
-            End::Done => 0,
+            End::Done | End::Accepted => 0,
+            End::Refused { .. } => 1,
             End::NotUnderstood => 2,
             End::ShelfFailed { .. } => 3,
             End::NoSuchFile { .. } => 4,
@@ -64,6 +70,18 @@ impl<'w> fmt::Display for End<'w> {
     fn fmt<W: fmt::Write>(&self, f: &mut fmt::Formatter<W>) -> fmt::Result {
         match self {
             End::Done | End::Unsaid | End::NoMemory => f.write_str(""),
+            End::Accepted => f.write_str("accepted"),
+            End::Refused { broken } => match &broken.step {
+                None => write!(f, "refused: book {} rule K{}", broken.book, broken.rule),
+                Some(step) => {
+                    let step = step.as_str();
+                    write!(
+                        f,
+                        "refused: book {} step {step} rule K{}",
+                        broken.book, broken.rule
+                    )
+                }
+            },
             End::NotUnderstood => f.write_str("words not understood"),
             End::Past { limit } => write!(f, "limit: {limit}"),
             End::ShelfFailed { line } => write!(f, "shelf failed: {}", line.name),

@@ -1,12 +1,13 @@
 // The named files that commands read.
-ghost use Rattle.std.specs.Prelude.{◌≡◌, ◌≤◌, ◌∷◌, []};
-ghost use Rattle.cacao_cli.specs.Command.{read_of};
+ghost use Rattle.std.specs.Prelude.{◌≡◌, ◌≤◌, ◌∷◌, [], map};
+ghost use Rattle.cacao_cli.specs.Command.{read_of, reads_of};
 ghost use Rattle.cacao_cli.specs.Files.{ReadsTo, book_file, shelf_call};
 
 use crate::end::End;
 use crate::fault_line::FaultLine;
+use crate::file_text::FileText;
 use crate::limit::Limit;
-use cacao_site::{Bytes, Shelf, ShelfError};
+use cacao_site::{Shelf, ShelfError};
 use std::alloc::Global;
 
 /// The bytes of the file of this name, at most 1,048,576.
@@ -14,9 +15,9 @@ pub fn read_file<'w, L: Shelf>(
     alloc: Global,
     name: &'w str,
     shelf: &mut L,
-) -> Result<Bytes, End<'w>>
+) -> Result<FileText<'w>, End<'w>>
     ensures reads { ReadsTo (shelf_call (L.told shelf.old) (L.faults shelf.old) (L.faults shelf.new) (L.reads shelf.old) (L.reads shelf.new))
-        (book_file name.entry.now ∷ []) (read_of name.entry.now result) }
+        (book_file name.entry.now ∷ []) (read_of result) }
     ensures files { L.told shelf.new ≡ L.told shelf.old }
     ensures faults { L.faults shelf.old ≤ L.faults shelf.new }
 {
@@ -26,10 +27,35 @@ pub fn read_file<'w, L: Shelf>(
     };
     let limit = Limit::FileBytes;
     match shelf.read(alloc, name, limit.most()) {
-        Ok(bytes) => Ok(bytes),
+        Ok(bytes) => Ok(FileText { name, bytes }),
         Err(ShelfError::Missing) => Err(End::NoSuchFile { name }),
         Err(ShelfError::Failed) => Err(End::ShelfFailed { line }),
         Err(ShelfError::TooLarge) => Err(End::Past { limit }),
         Err(ShelfError::Memory) => Err(End::NoMemory),
     }
+}
+
+/// The bytes of the files of these names, in order, up to the first that gives none.
+pub fn read_files<'w, L: Shelf>(
+    alloc: Global,
+    names: &[&'w str],
+    shelf: &mut L,
+) -> Result<Vec<FileText<'w>>, End<'w>>
+    ensures reads { ReadsTo (shelf_call (L.told shelf.old) (L.faults shelf.old) (L.faults shelf.new) (L.reads shelf.old) (L.reads shelf.new))
+        (map (λ name. book_file name.now) names.entry.now) (reads_of result) }
+    ensures files { L.told shelf.new ≡ L.told shelf.old }
+    ensures faults { L.faults shelf.old ≤ L.faults shelf.new }
+{
+    let mut texts = Vec::new(alloc);
+    for name in names {
+        let text = match read_file(alloc, name, shelf) {
+            Ok(text) => text,
+            Err(end) => return Err(end),
+        };
+        match texts.push(text) {
+            Ok(()) => {}
+            Err(_) => return Err(End::NoMemory),
+        }
+    }
+    Ok(texts)
 }

@@ -2,7 +2,7 @@
 ghost use Rattle.std.specs.Prelude.{◌≡◌, ◌≢◌, ◌≤◌, ◌∷◌, [], length, map, string_bytes, Some, None};
 ghost use Rattle.cacao_site.specs.Counts.{next_count};
 ghost use Rattle.cacao_cli.specs.Asked.{asked};
-ghost use Rattle.cacao_cli.specs.Causes.{CanBeDone, IsMissing, IsPastLimit, IsUnreadable};
+ghost use Rattle.cacao_cli.specs.Causes.{CanBeDone, IsMissing, IsPastLimit, IsRefused, IsUnreadable};
 ghost use Rattle.cacao_cli.specs.Command.{asked_by, end_of};
 ghost use Rattle.cacao_cli.specs.Ended.{Ended, Performed};
 ghost use Rattle.cacao_cli.specs.Exact.{Answers, ComesExactly, IfFilesTold, IfTold, faults_of};
@@ -10,6 +10,7 @@ ghost use Rattle.cacao_cli.specs.Files.{files_of, shelf_call};
 ghost use Rattle.cacao_cli.specs.Leaves.{Leaves, NoFault, ReadsAtMost};
 
 use crate::canon::canon;
+use crate::check::check;
 use crate::end::End;
 use crate::say::finish;
 use crate::words::{Command, read_words};
@@ -32,6 +33,7 @@ fn carry_out<'w, L: Shelf, S: Site>(
 {
     match command {
         Command::Canon { book } => canon(alloc, book, shelf, site),
+        Command::Check { books } => check(alloc, books.as_slice(), shelf, site),
     }
 }
 
@@ -58,9 +60,9 @@ fn perform<'w, L: Shelf, S: Site>(
 
 /// Does what the words after the program's name ask, says its lines, and answers the exit status.
 ///
-/// Each status but 0 says why: 2 the words have no reading, 3 the shelf failed, 4 there is no such file, 5 a file has no tree, 9 a line
+/// Each status but 0 says why: 1 a rule is broken, 2 the words have no reading, 3 the shelf failed, 4 there is no such file, 5 a file has no tree, 9 a line
 /// could not be said, 10 memory was wanted, 11 a limit was passed. Where several causes hold, 2 comes before 11 for too many
-/// playbooks, then 3, 4 and 11 of one file before those of the next, and all of them before 5.
+/// playbooks, then 3, 4 and 11 of one file before those of the next, all of them before 5, and 5 before 1.
 pub fn top<L: Shelf, S: Site>(alloc: Global, words: &[String], shelf: &mut L, site: &mut S) -> u8
     // All that the call does: what it reads, the work, the lines and the status.
     ensures ended { Ended (asked (map string_bytes words.now))
@@ -74,6 +76,8 @@ pub fn top<L: Shelf, S: Site>(alloc: Global, words: &[String], shelf: &mut L, si
     ensures done { IfTold (asked (map string_bytes words.now)) (L.told shelf.old) (S.view site.old) (λ files.
         ComesExactly 0 (faults_of (asked (map string_bytes words.now)))
         (CanBeDone (asked (map string_bytes words.now)) files (S.view site.old) (S.view site.new)) result) }
+    ensures refused { IfFilesTold (files_of (asked (map string_bytes words.now))) (L.told shelf.old) (λ files.
+        ComesExactly 1 (3 ∷ 9 ∷ 10 ∷ []) (IsRefused (asked (map string_bytes words.now)) files) result) }
     ensures not_understood { ComesExactly 2 (9 ∷ 10 ∷ []) (asked (map string_bytes words.now) ≡ None) result }
     ensures shelf_failed { result ≡ 3 → L.faults shelf.new ≡ next_count (L.faults shelf.old) }
     ensures shelf_steady { result ≢ 3 → result ≢ 9 → L.faults shelf.new ≡ L.faults shelf.old }

@@ -293,3 +293,80 @@ fn a_line_that_is_not_said_is_status_9(rt: HostRuntime) -> Result<(), Fail> {
     }
     Ok(())
 }
+
+/// A playbook with this identifier that goes from its start to its end.
+fn playbook(alloc: Global, id: &str) -> Result<String, AllocError> {
+    let head =
+        "{\"type\":\"playbook\",\"spec_version\":\"cacao-2.0\",\"id\":\"playbook--00000000-0000-4000-8000-";
+    let made =
+        "\",\"created_by\":\"identity--00000000-0000-4000-8000-000000000001\",\"created\":\"2024-01-02T03:04:05Z\",\"modified\":\"2024-01-02T03:04:05Z\"";
+    let steps =
+        ",\"name\":\"nothing\",\"workflow_start\":\"start--00000000-0000-4000-8000-000000000010\",\"workflow\":{\"start--00000000-0000-4000-8000-000000000010\":{\"type\":\"start\",\"on_completion\":\"end--00000000-0000-4000-8000-000000000013\"},\"end--00000000-0000-4000-8000-000000000013\":{\"type\":\"end\"}}}";
+    let mut text = String::from_str(alloc, head)?;
+    text.push_str(id)?;
+    text.push_str(made)?;
+    text.push_str(steps)?;
+    Ok(text)
+}
+
+#[test]
+fn checks_playbooks_together(rt: HostRuntime) -> Result<(), Fail> {
+    let alloc = rt.alloc();
+    let first = playbook(alloc, "000000000001")?;
+    let second = playbook(alloc, "000000000002")?;
+    let mut shelf = MemoryShelf::new(alloc);
+    shelf.add("a.json", first.as_bytes())?;
+    shelf.add("b.json", second.as_bytes())?;
+    shelf.add("c.json", second.as_bytes())?;
+    shelf.add("empty.json", b"{}")?;
+    shelf.add("bad.json", b"{")?;
+    let rows: [(&[&str], &str, u8); 6] = [
+        (&["check", "a.json", "b.json"], "accepted\n", 0),
+        (
+            &["check", "a.json", "b.json", "c.json"],
+            "refused: book 2 rule K14\n",
+            1,
+        ),
+        (
+            &["check", "a.json", "empty.json"],
+            "refused: book 1 rule K1\n",
+            1,
+        ),
+        (
+            &["check", "empty.json", "bad.json"],
+            "not readable: bad.json not json\n",
+            5,
+        ),
+        (
+            &["check", "bad.json", "q.json"],
+            "no such file: q.json\n",
+            4,
+        ),
+        (&["check", "--x", "a.json"], "words not understood\n", 2),
+    ];
+    for (words, line, wanted) in rows {
+        let (status, said) = answer(alloc, words, &mut shelf, &[])?;
+        assert_eq!(rt; said.as_slice(), line.as_bytes());
+        assert_eq!(rt; status, wanted);
+    }
+    Ok(())
+}
+
+/// Seventeen playbooks are too many, whether their files are there or not.
+#[test]
+fn counts_the_playbooks_before_it_reads(rt: HostRuntime) -> Result<(), Fail> {
+    let alloc = rt.alloc();
+    let mut shelf = MemoryShelf::new(alloc);
+    let (status, said) = answer(
+        alloc,
+        &[
+            "check", "a", "b", "c", "d", "e", "f", "g", "h", "i", "j", "k", "l", "m", "n", "o",
+            "p", "q",
+        ],
+        &mut shelf,
+        &[],
+    )?;
+    assert_eq!(rt; said.as_slice(), b"limit: books 16\n".as_slice());
+    assert_eq!(rt; status, 11);
+    Ok(())
+}

@@ -1,18 +1,19 @@
 // The trees of the files that commands read.
-ghost use Rattle.std.specs.Prelude.{◌≡◌, ◌≤◌, length};
-ghost use Rattle.cacao_cli.specs.Command.{IsTreeOrMemory};
+ghost use Rattle.std.specs.Prelude.{◌≡◌, map};
+ghost use Rattle.cacao_cli.specs.Command.{AreTreesOrMemory, IsTreeOrMemory, text_of};
 
 use crate::end::End;
+use crate::file_text::FileText;
 use crate::reason::Reason;
 use cacao_json::{JsonError, Tree, read_tree};
 use std::alloc::Global;
 
-/// The tree of the bytes, which are those of the file of this name.
-pub fn tree_of<'w>(alloc: Global, name: &'w str, bytes: &[u8]) -> Result<Tree, End<'w>>
-    requires { length bytes.now ≤ 1048576 }
-    ensures { IsTreeOrMemory name.entry.now bytes.now result }
+/// The tree of the bytes of a file.
+pub fn tree_of<'w>(alloc: Global, text: &FileText<'w>) -> Result<Tree, End<'w>>
+    ensures { IsTreeOrMemory (text_of text.entry.now) result }
 {
-    match read_tree(alloc, bytes) {
+    let name = text.name;
+    match read_tree(alloc, text.bytes.as_slice()) {
         Ok(tree) => Ok(tree),
         Err(JsonError::NotJson) => Err(End::NotReadable {
             name,
@@ -28,4 +29,22 @@ pub fn tree_of<'w>(alloc: Global, name: &'w str, bytes: &[u8]) -> Result<Tree, E
         }),
         Err(JsonError::Memory) => Err(End::NoMemory),
     }
+}
+
+/// The trees of the bytes of these files, in order, up to the first that has none.
+pub fn trees_of<'w>(alloc: Global, texts: &[FileText<'w>]) -> Result<Vec<Tree>, End<'w>>
+    ensures { AreTreesOrMemory (map text_of texts.entry.now) result }
+{
+    let mut trees = Vec::new(alloc);
+    for text in texts {
+        let tree = match tree_of(alloc, text) {
+            Ok(tree) => tree,
+            Err(end) => return Err(end),
+        };
+        match trees.push(tree) {
+            Ok(()) => {}
+            Err(_) => return Err(End::NoMemory),
+        }
+    }
+    Ok(trees)
 }
