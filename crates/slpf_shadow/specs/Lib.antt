@@ -1,0 +1,9 @@
+pub mod Packets
+pub mod Shadows
+pub mod Listed
+pub mod Nets
+pub mod Connections
+pub mod Shapes
+pub mod Ranges
+pub mod Tests
+pub mod Searches
