@@ -6,7 +6,7 @@ ghost use Rattle.cacao_site.specs.Entries.{IsReadAt};
 
 use crate::entry::Entry;
 use crate::replay::{fill, length_after};
-use crate::room::{extend_in_room, push_in_room};
+use crate::room::extend_in_room;
 use crate::tear::crash_image;
 use std::alloc::{AllocError, Global};
 use std::marker::Model;
@@ -55,7 +55,7 @@ impl CallLog {
         ensures room { self.new.room ≡ self.old.room }
         ensures most { self.new.most ≡ self.old.most }
     {
-        push_in_room(&mut self.entries, Entry::Looked);
+        self.entries.push_reserved(Entry::Looked);
     }
 
     /// Adds a write that was done.
@@ -79,7 +79,7 @@ impl CallLog {
             start,
             end,
         };
-        push_in_room(&mut self.entries, entry);
+        self.entries.push_reserved(entry);
     }
 
     /// Adds a write that failed.
@@ -93,7 +93,7 @@ impl CallLog {
         ensures room { self.new.room ≡ self.old.room }
         ensures most { self.new.most ≡ self.old.most }
     {
-        push_in_room(&mut self.entries, Entry::Tried { file, at, size });
+        self.entries.push_reserved(Entry::Tried { file, at, size });
     }
 
     /// Adds a sync that was done.
@@ -106,7 +106,7 @@ impl CallLog {
         ensures room { self.new.room ≡ self.old.room }
         ensures most { self.new.most ≡ self.old.most }
     {
-        push_in_room(&mut self.entries, Entry::Synced { file });
+        self.entries.push_reserved(Entry::Synced { file });
     }
 
     /// The length of a file in bytes after the calls, from its contents at the start.

@@ -20,6 +20,7 @@ mod memory_crash;
 mod memory_link;
 pub mod memory_shelf;
 pub mod memory_site;
+mod open_files;
 pub mod parcel;
 pub mod plan;
 mod replay;

@@ -7,7 +7,6 @@ ghost use Rattle.cacao_site.specs.Weather.{arrivals, holds, marks};
 
 use crate::parcel::Parcel;
 use crate::plan::Weather;
-use crate::room::push_in_room;
 use std::alloc::{AllocError, Global};
 use std::collections::VecDeque;
 
@@ -92,7 +91,7 @@ impl Link {
         ensures held_slots { vec_capacity self.old.held ≤ vec_capacity self.new.held }
     {
         let place = self.puts.len();
-        push_in_room(&mut self.puts, (beat, parcel));
+        self.puts.push_reserved((beat, parcel));
         self.arrive(weather, place);
     }
 
@@ -117,7 +116,7 @@ impl Link {
                 self.pending.push_back_reserved(place);
                 self.pending.push_back_reserved(place);
             }
-            Weather::Hold { until } => push_in_room(&mut self.held, (until, place)),
+            Weather::Hold { until } => self.held.push_reserved((until, place)),
         }
     }
 
@@ -155,12 +154,7 @@ impl Link {
     }
 
     /// Takes the first pending parcel, which was put at this place, at a beat.
-    pub fn take_first(
-        &mut self,
-        alloc: Global,
-        place: usize,
-        beat: u64,
-    ) -> Result<Parcel, AllocError>
+    pub fn take_first(&mut self, place: usize, beat: u64) -> Result<Parcel, AllocError>
         requires put { place < length self.old.puts.items }
         requires before { (slice_index_or self.old.puts.items place no_put).0 ≤ beat }
         requires first { self.old.pending.items ≡ place ∷ drop 1 self.old.pending.items }
@@ -178,7 +172,7 @@ impl Link {
         ensures held { self.new.held ≡ self.old.held }
         ensures empty_takes { self.new.empty_takes ≡ self.old.empty_takes }
     {
-        let parcel = self.puts[place].1.copy(alloc)?;
+        let parcel = self.puts[place].1.clone()?;
         self.taken.push((beat, place))?;
         let _ = self.pending.pop_front();
         Ok(parcel)

@@ -99,7 +99,7 @@ impl Site for MemorySite {
             return Ok(None);
         };
         let beat = self.first_beat.saturating_add(self.calls);
-        let parcel = self.link.take_first(self.alloc, place, beat)?;
+        let parcel = self.link.take_first(place, beat)?;
         Ok(Some(parcel))
     }
 

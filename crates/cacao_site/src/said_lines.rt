@@ -2,7 +2,7 @@
 ghost use Rattle.std.specs.Prelude.{option_map, slice_get, Some, ◌-◌, ◌≡◌, ◌+◌, ◌<◌, ◌≤◌, IfOk, OnOk, [], ◌∷◌, ◌++◌, length};
 ghost use Rattle.cacao_site.specs.SaidView.{SaidView};
 
-use crate::room::{extend_in_room, push_in_room};
+use crate::room::extend_in_room;
 use std::alloc::{AllocError, Global};
 use std::marker::Model;
 
@@ -79,7 +79,7 @@ impl SaidLines {
         let start = self.text.len();
         extend_in_room(&mut self.text, bytes);
         let end = self.text.len();
-        push_in_room(&mut self.lines, Line { beat, start, end });
+        self.lines.push_reserved(Line { beat, start, end });
     }
 
     /// Makes room for `most` more lines of `room` bytes together.

@@ -3,6 +3,7 @@ ghost use Rattle.std.specs.Prelude.{◌≤◌};
 use super::lines::plan;
 use crate::{Disk, Failed, FileSite, MemorySite, Site};
 use std::alloc::{AllocError, Global};
+use std::io::Print;
 use std::rt::Files;
 use std::{fs, io};
 
@@ -50,70 +51,99 @@ fn crashed(alloc: Global, choice: u64) -> Result<Vec<u8>, Ends> {
     front(&mut site, alloc, 3)
 }
 
+/// Choices, and what each leaves of that file.
+static TORN: [(u64, &str); 10] = [
+    (0, "aXYZ"),
+    (1, "abcd"),
+    (2, "abcd"),
+    (3, "aXYZ"),
+    (5, "aXcd"),
+    (6, "abYZ"),
+    (8, "aXYd"),
+    (9, "abcZ"),
+    (11, "aXYZ"),
+    (12, "abcd"),
+];
+
 #[test]
 fn a_crash_leaves_old_new_or_torn_bytes(rt: HostRuntime) -> Result<(), Ends> {
-    let alloc = rt.alloc();
-    for (choice, want) in [
-        (0, b"aXYZ"),
-        (1, b"abcd"),
-        (2, b"abcd"),
-        (3, b"aXYZ"),
-        (5, b"aXcd"),
-        (6, b"abYZ"),
-        (8, b"aXYd"),
-        (9, b"abcZ"),
-        (11, b"aXYZ"),
-        (12, b"abcd"),
-    ] {
-        assert!(rt;
-            crashed(alloc, choice)?.as_slice() == want.as_slice(),
-            "choice {choice}"
-        );
+    for (choice, want) in &TORN {
+        let left = crashed(rt.alloc(), *choice)?;
+        assert!(rt; left.as_slice() == want.as_bytes(), "choice {choice}");
     }
-    let noisy = crashed(alloc, 7)?;
-    assert!(rt; noisy.starts_with(b"aX") && noisy.len() == 4);
-    assert!(rt; noisy.as_slice() != b"aXYZ".as_slice() && noisy.as_slice() != b"aXcd".as_slice());
-    let mut synced = written(alloc)?;
-    synced.sync(3)?;
-    let mut site = synced.crash(1)?;
-    assert!(rt; front(&mut site, alloc, 3)?.as_slice() == b"aXYZ".as_slice());
-    assert!(rt; site.length(2)? == 0);
     Ok(())
 }
 
 #[test]
-fn a_crash_leaves_a_length_between_and_keeps_lines(rt: HostRuntime) -> Result<(), Ends> {
-    let alloc = rt.alloc();
+fn a_crash_leaves_other_bytes_behind_a_cut(rt: HostRuntime) -> Result<(), Ends> {
+    let noisy = crashed(rt.alloc(), 7)?;
+    assert!(rt; noisy.starts_with(b"aX") && noisy.len() == 4);
+    assert!(rt; noisy.as_slice() != b"aXYZ".as_slice() && noisy.as_slice() != b"aXcd".as_slice());
+    Ok(())
+}
+
+#[test]
+fn a_crash_leaves_what_was_synced(rt: HostRuntime) -> Result<(), Ends> {
+    let mut synced = written(rt.alloc())?;
+    synced.sync(3)?;
+    let mut site = synced.crash(1)?;
+    assert!(rt; front(&mut site, rt.alloc(), 3)?.as_slice() == b"aXYZ".as_slice());
+    assert!(rt; site.length(2)? == 0);
+    Ok(())
+}
+
+/// A site whose file 0 was synced with 4 bytes, where a write of 3 more then failed.
+fn half_written(alloc: Global) -> Result<MemorySite, Ends> {
     let third: &[u32] = &[3];
-    // the choice, the length of a file that was synced with 4 bytes, where a write of 3 more failed
-    for (choice, want) in [(0, 4), (1, 4), (2, 4), (3, 7), (5, 5), (8, 6), (11, 7)] {
-        let mut site = MemorySite::new(alloc, plan(alloc, 100, 10, third)?)?;
-        site.write(0, 0, b"abcd")?;
-        site.sync(0)?;
-        site.say(b"a line\n")?;
-        assert!(rt; site.write(0, 4, b"efg").is_err());
-        let mut site = site.crash(choice)?;
-        assert!(rt; site.length(0)? == want, "choice {choice}");
-        assert!(rt; front(&mut site, alloc, 0)?.starts_with(b"abcd"));
-        assert!(rt; site.line_count() == 1);
-        if site.line_count() == 1 {
-            assert!(rt; site.line(0) == b"a line\n".as_slice());
-        }
+    let mut site = MemorySite::new(alloc, plan(alloc, 100, 10, third)?)?;
+    site.write(0, 0, b"abcd")?;
+    site.sync(0)?;
+    site.say(b"a line\n")?;
+    let _failed = site.write(0, 4, b"efg");
+    Ok(site)
+}
+
+/// Choices, and the length that each leaves of that file.
+static LENGTHS: [(u64, u64); 7] = [(0, 4), (1, 4), (2, 4), (3, 7), (5, 5), (8, 6), (11, 7)];
+
+#[test]
+fn a_crash_leaves_a_length_between(rt: HostRuntime) -> Result<(), Ends> {
+    for (choice, want) in &LENGTHS {
+        let mut site = half_written(rt.alloc())?.crash(*choice)?;
+        assert!(rt; site.length(0)? == *want, "choice {choice}");
+        assert!(rt; front(&mut site, rt.alloc(), 0)?.starts_with(b"abcd"));
+    }
+    Ok(())
+}
+
+#[test]
+fn a_crash_keeps_lines(rt: HostRuntime) -> Result<(), Ends> {
+    let site = half_written(rt.alloc())?.crash(3)?;
+    assert!(rt; site.line_count() == 1);
+    if site.line_count() == 1 {
+        assert!(rt; site.line(0) == b"a line\n".as_slice());
     }
     Ok(())
 }
 
 #[test]
 fn calls_and_room_are_shared_by_the_disk_and_the_lines(rt: HostRuntime) -> Result<(), Ends> {
-    let alloc = rt.alloc();
     let no_call: &[u32] = &[];
-    let mut site = MemorySite::new(alloc, plan(alloc, 10, 5, no_call)?)?;
+    let mut site = MemorySite::new(rt.alloc(), plan(rt.alloc(), 10, 5, no_call)?)?;
     site.write(0, 0, b"123456")?;
     assert!(rt; site.say(b"12345").is_err());
     site.say(b"1234")?;
     assert!(rt; site.write(1, 0, b"1").is_err());
     site.sync(1)?;
     assert!(rt; site.length(0).is_err() && site.sync(0).is_err());
+    Ok(())
+}
+
+#[test]
+fn calls_and_room_start_anew_after_a_crash(rt: HostRuntime) -> Result<(), Ends> {
+    let no_call: &[u32] = &[];
+    let mut site = MemorySite::new(rt.alloc(), plan(rt.alloc(), 10, 2, no_call)?)?;
+    site.write(0, 0, b"123456")?;
     let mut site = site.crash(0)?;
     site.write(0, 6, b"0123456789")?;
     assert!(rt; site.length(0)? == 16);
@@ -123,10 +153,7 @@ fn calls_and_room_are_shared_by_the_disk_and_the_lines(rt: HostRuntime) -> Resul
 #[test]
 fn a_file_site_keeps_real_files(rt: HostRuntime) -> io::Result<()> {
     let alloc = rt.alloc();
-    let mut site = FileSite::new(&rt, rt.alloc());
-    let blank = site.length(16);
-    let unread = front(&mut site, alloc, 16);
-    let unsynced = site.sync(16);
+    let mut site = FileSite::new(&rt, alloc);
     let done = site.write(16, 0, b"abcdef").is_ok()
         && site.sync(16).is_ok()
         && site.write(16, 4, b"XY").is_ok()
@@ -134,52 +161,76 @@ fn a_file_site_keeps_real_files(rt: HostRuntime) -> io::Result<()> {
     let length = site.length(16);
     let read = front(&mut site, alloc, 16);
     fs::remove_file(&rt, "agent-16.journal")?;
-    assert!(rt; blank == Ok(0) && unread.is_ok_and(|bytes| bytes.is_empty()) && unsynced.is_ok());
     assert!(rt; done && length == Ok(6));
     assert!(rt; read.is_ok_and(|bytes| bytes.as_slice() == b"abcdXY".as_slice()));
-    fs::create_dir(&rt, "agent-15.journal")?;
-    let folder = site.write(15, 0, b"a");
-    fs::remove_dir(&rt, "agent-15.journal")?;
-    assert!(rt; folder == Err(Failed));
     Ok(())
+}
+
+#[test]
+fn a_file_that_is_not_there_is_blank(rt: HostRuntime) {
+    let mut site = FileSite::new(&rt, rt.alloc());
+    assert!(rt; site.length(14) == Ok(0) && site.sync(14).is_ok());
+    assert!(rt; front(&mut site, rt.alloc(), 14).is_ok_and(|bytes| bytes.is_empty()));
+    assert!(rt; rt.metadata("agent-14.journal").is_err());
+}
+
+#[test]
+fn a_folder_is_no_file_of_a_disk(rt: HostRuntime) -> io::Result<()> {
+    fs::create_dir(&rt, "agent-15.journal")?;
+    let refused = FileSite::new(&rt, rt.alloc()).write(15, 0, b"a");
+    fs::remove_dir(&rt, "agent-15.journal")?;
+    assert!(rt; refused == Err(Failed));
+    Ok(())
+}
+
+#[test]
+fn a_file_stays_open_from_its_first_write_until_its_sync(rt: HostRuntime) -> io::Result<()> {
+    let mut site = FileSite::new(&rt, rt.alloc());
+    let written = site.write(13, 0, b"abc").is_ok();
+    fs::rename(&rt, "agent-13.journal", "moved.journal")?;
+    let open = written && site.write(13, 3, b"d").is_ok() && site.length(13) == Ok(4);
+    let closed = site.sync(13).is_ok() && site.length(13) == Ok(0);
+    fs::remove_file(&rt, "moved.journal")?;
+    assert!(rt; open && closed);
+    Ok(())
+}
+
+#[test]
+fn a_file_that_was_read_can_be_written(rt: HostRuntime) -> io::Result<()> {
+    let alloc = rt.alloc();
+    fs::write(&rt, "agent-12.journal", "abc")?;
+    let mut site = FileSite::new(&rt, alloc);
+    let before = front(&mut site, alloc, 12);
+    let written = site.write(12, 2, b"XY").is_ok() && site.sync(12).is_ok();
+    let after = front(&mut site, alloc, 12);
+    fs::remove_file(&rt, "agent-12.journal")?;
+    assert!(rt; written && before.is_ok_and(|bytes| bytes.as_slice() == b"abc".as_slice()));
+    assert!(rt; after.is_ok_and(|bytes| bytes.as_slice() == b"abXY".as_slice()));
+    Ok(())
+}
+
+/// Whether a site keeps a file under this name: an empty write past its end lengthens it, and what is written at a
+/// place is read there.
+fn is_kept_as<R: Files + Print>(rt: &R, alloc: Global, file: u8, name: &str) -> io::Result<bool>
+    requires { file ≤ 16 }
+{
+    let mut site = FileSite::new(rt, alloc);
+    let lengthened = site.write(file, 3, b"").is_ok() && site.length(file) == Ok(3);
+    let written = site.write(file, 5, b"abc").is_ok() && site.sync(file).is_ok();
+    let size = rt.metadata(name)?.len();
+    let mut back = [9u8; 4];
+    let count = site.read(file, 6, &mut back);
+    fs::remove_file(rt, name)?;
+    Ok(lengthened && written && size == 8 && count == Ok(2) && back == [b'b', b'c', 9, 9])
 }
 
 #[test]
 fn a_file_site_keeps_each_file_under_its_name(rt: HostRuntime) -> io::Result<()> {
     let alloc = rt.alloc();
-    let mut site = FileSite::new(&rt, alloc);
-    for (file, name) in [
-        (0, "engine.journal"),
-        (1, "agent-01.journal"),
-        (2, "agent-02.journal"),
-        (3, "agent-03.journal"),
-        (4, "agent-04.journal"),
-        (5, "agent-05.journal"),
-        (6, "agent-06.journal"),
-        (7, "agent-07.journal"),
-        (8, "agent-08.journal"),
-        (9, "agent-09.journal"),
-        (10, "agent-10.journal"),
-        (11, "agent-11.journal"),
-        (12, "agent-12.journal"),
-        (13, "agent-13.journal"),
-        (14, "agent-14.journal"),
-        (15, "agent-15.journal"),
-        (16, "agent-16.journal"),
-    ] {
-        assert!(rt; file <= 16);
-        let lengthened = site.write(file, 3, b"").is_ok() && site.length(file) == Ok(3);
-        let written = site.write(file, 5, b"abc").is_ok() && site.sync(file).is_ok();
-        let size = rt.metadata(name).map(|metadata| metadata.len());
-        let mut back = [9u8; 4];
-        let count = site.read(file, 6, &mut back);
-        fs::remove_file(&rt, name)?;
-        assert!(rt;
-            lengthened && written && size.is_ok_and(|size| size == 8),
-            "file {file}"
-        );
-        assert!(rt; count == Ok(2) && back == [b'b', b'c', 9, 9], "file {file}");
-        assert!(rt; site.length(file) == Ok(0));
+    assert!(rt; is_kept_as(&rt, alloc, 0, "engine.journal")?);
+    for agent in 1..17u8 {
+        let name = format!(in alloc; "agent-{agent:02}.journal")?;
+        assert!(rt; is_kept_as(&rt, alloc, agent, name.as_str())?, "{name}");
     }
     Ok(())
 }

@@ -5,5 +5,5 @@ use Rattle.cacao_site.proofs.call_log.CallLog.write.Goals as goal
 
 pub returns-clause-calls : goal.returns-clause-calls
 returns-clause-calls c =
-    rw (c.extend_in_room.ensures.items, c.push_in_room.ensures.items, ← c.self.view_is)
+    rw (c.extend_in_room.ensures.items, c.push_reserved.ensures.items, ← c.self.view_is)
     (calls_of-write c.self.inside.bytes.items c.args.bytes.now (vec_len c.self.inside.bytes) c.self.inside.entries.items c.args.file c.args.at c.len-start.result c.len-end.result (omega arith) c.self.invariant.fits (omega arith) (omega arith))
