@@ -43,11 +43,12 @@ const ACT: [u8; 32] = [
     0x73, 0xca, 0xfa, 0x80, 0x00, 0x00, 0x00, 0x00, 0x01, 0x43, 0x00, 0x00, 0x00, 0x02, 0x52, 0x45,
 ];
 
-/// Reads a record, and sees that it is written as it was.
+/// Reads a record, and sees that it is written as it was, and that a copy equals it.
 fn again(rt: &impl Abort, alloc: Global, bytes: &[u8]) -> Result<Record, Fail> {
     let record = read_record(alloc, bytes)?.ok_or("not read")?;
     let written = write_record(alloc, &record)?;
     assert_eq!(rt; written.as_slice(), bytes);
+    assert!(rt; record.clone()? == record);
     Ok(record)
 }
 
