@@ -1,5 +1,6 @@
 -- What an image of a journal stands for.
-use Rattle.std.specs.Prelude.{◌≡◌, ◌≢◌, ◌⊎◌, ℕ, ◌+◌, ◌*◌, ◌<◌, ◌≤◌, ◌/◌, ◌%◌, List, [], ◌∷◌, ◌++◌, length, take, slice_index, All}
+use Rattle.std.specs.Prelude.{◌≡◌, ◌≢◌, ◌⊎◌, ℕ, ◌<◌, ◌≤◌, List, [], ◌∷◌, ◌++◌, length, take, slice_index, All}
+use Rattle.std.specs.Int.{w32, to_be_bytes, from_be_bytes}
 
 -- the eight bytes `CACAOJ1` and a line feed
 abbrev pub header : List ℕ
@@ -15,11 +16,11 @@ most_entry = 17829888
 
 -- an entry's length in four bytes, the greatest first
 abbrev pub length_field : ℕ → List ℕ
-length_field n = n / 16777216 % 256 ∷ n / 65536 % 256 ∷ n / 256 % 256 ∷ n % 256 ∷ []
+length_field n = to_be_bytes w32 n
 
 -- the length that four bytes say
 abbrev pub length_of : ℕ → ℕ → ℕ → ℕ → ℕ
-length_of a b c d = a * 16777216 + b * 65536 + c * 256 + d
+length_of a b c d = from_be_bytes w32 (a ∷ b ∷ c ∷ d ∷ [])
 
 -- the entries, each behind its open gate and its length
 unfoldable pub entries : List (List ℕ) → List ℕ

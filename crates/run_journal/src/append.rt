@@ -3,12 +3,11 @@ ghost use Rattle.std.specs.Prelude.{◌≡◌, ◌≢◌, ◌⊎◌, ◌↔◌, 
 ghost use Rattle.cacao_site.specs.Counts.{Rose};
 ghost use Rattle.cacao_site.specs.DiskCalls.{StaysAt, SameRest, EachBeat, AllLeft};
 ghost use Rattle.run_journal.specs.JournalView.{JournalView};
-ghost use Rattle.run_journal.specs.Layout.{HasLayout, Stands, BeforeOrAfter, StandsBeforeOrAfter, front, block_for, length_field};
+ghost use Rattle.run_journal.specs.Layout.{HasLayout, Stands, BeforeOrAfter, StandsBeforeOrAfter, front, block_for};
 
 use crate::error::JournalError;
 use crate::journal::Journal;
 use crate::layout::MOST_IMAGE;
-use crate::room::push_in_room;
 use crate::store::add_block;
 use cacao_site::{Bytes, Disk};
 
@@ -63,7 +62,7 @@ impl Journal {
         match add_block(disk, self.file, self.gate, self.block.as_slice()) {
             Ok(()) => {
                 self.gate += 5 + size;
-                push_in_room(&mut self.items, item);
+                self.items.push_reserved(item);
                 self.spare = 0;
                 Ok(())
             }
@@ -83,19 +82,8 @@ fn fill_block(block: &mut Vec<u8>, item: &[u8])
     ensures capacity { vec_capacity block.old ≤ vec_capacity block.new }
 {
     block.clear();
-    block.extend_from_slice(&length_bytes(item.len())).unwrap();
+    let size = (item.len() as u32).to_be_bytes();
+    block.extend_from_slice(&size).unwrap();
     block.extend_from_slice(item).unwrap();
     block.push(0).unwrap();
-}
-
-/// A length in four bytes, the greatest first.
-fn length_bytes(n: usize) -> [u8; 4]
-    ensures { result ≡ length_field n }
-{
-    [
-        (n / 16_777_216 % 256) as u8,
-        (n / 65_536 % 256) as u8,
-        (n / 256 % 256) as u8,
-        (n % 256) as u8,
-    ]
 }

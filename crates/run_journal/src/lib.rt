@@ -10,7 +10,6 @@ mod layout;
 mod opening;
 mod prepare;
 mod reader;
-mod room;
 mod store;
 #[cfg(test)]
 mod tests;

@@ -92,10 +92,7 @@ fn split_entry<'a>(bytes: &'a [u8]) -> Option<(&'a [u8], &'a [u8])>
 {
     match bytes {
         [1, a, b, c, d, after @ ..] => {
-            let size = (*a as usize) * 16_777_216
-                + (*b as usize) * 65_536
-                + (*c as usize) * 256
-                + (*d as usize);
+            let size = u32::from_be_bytes([*a, *b, *c, *d]) as usize;
             if size <= MOST_ENTRY && size <= after.len() {
                 Some((&after[..size], &after[size..]))
             } else {

@@ -12,8 +12,8 @@ use Rattle.run_journal.proofs.journal.Journal.append.Goals as goal
 
 pub invariant_of-self : goal.invariant_of-self
 invariant_of-self g c =
-    let items : c.push_in_room.new.items.items ≡ c.self.inside.items.items ++ c.args.item ∷ [] = c.push_in_room.ensures.items in
-    let whole : length (front c.push_in_room.new.items.items) ≡ length (front c.self.inside.items.items) + (5 + length c.args.item) = ap (λ (l : List (List ℕ)). length (front l)) items ∙ length-front-push c.self.inside.items.items c.args.item in
+    let items : c.push_reserved.new.self.items ≡ c.self.inside.items.items ++ c.args.item ∷ [] = c.push_reserved.ensures.items in
+    let whole : length (front c.push_reserved.new.self.items) ≡ length (front c.self.inside.items.items) + (5 + length c.args.item) = ap (λ (l : List (List ℕ)). length (front l)) items ∙ length-front-push c.self.inside.items.items c.args.item in
     let ready : c.self.inside.prepared ≡ true = ap (λ (v : JournalView). v.prepared) c.self.view_is ∙ c.requires.prepared in
     record {
       file = c.self.invariant.file;
