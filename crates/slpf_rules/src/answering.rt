@@ -1,5 +1,6 @@
 // What a filter answers to a command.
-ghost use Rattle.std.specs.Prelude.{◌≡◌, ◌≤◌, [], IfOk, OnOk, OnErr};
+ghost use Rattle.std.specs.Prelude.{◌≡◌, ◌≤◌, ℕ, [], IfOk, OnOk, OnErr};
+ghost use Rattle.slpf_rules.specs.declared.rules.Rule.{Rule};
 ghost use Rattle.oc2_msg.specs.declared.commands.Command.TheVariants as command;
 ghost use Rattle.oc2_msg.specs.declared.reasons.Reason.TheVariants as reason;
 ghost use Rattle.oc2_msg.specs.Ranges.{InRange};
@@ -80,6 +81,47 @@ impl Table {
             Command::Delete { number } => Ok(self.answer_delete(*number)),
             Command::Update { name } => Ok(self.answer_update(name)),
             Command::Query { features } => queried(self.allocator(), features),
+        }
+    }
+
+    /// The response that `answer` gives to a command, which is the same at each moment. Nothing changes.
+    pub fn foresee(&self, command: &Command) -> Result<Response, AllocError>
+        ensures { IfOk result (λ response. (moment : ℕ) → response ≡ (answer_command self.now command.now moment).0) }
+    {
+        match command {
+            Command::Rule { insert, .. } => Ok(self.foresee_put(*insert)),
+            Command::Delete { number } => Ok(self.foresee_delete(*number)),
+            Command::Update { name } => Ok(self.foresee_update(name)),
+            Command::Query { features } => queried(self.allocator(), features),
+        }
+    }
+
+    fn foresee_put(&self, insert: Option<u32>) -> Response
+        ensures { (rule : Rule) → result ≡ (puts self.now insert rule).0 }
+    {
+        match number_for(insert, self.rules()) {
+            Ok(number) => said(self.allocator(), 200, number, Reason::Empty),
+            Err(text) => said(self.allocator(), 500, 0, text),
+        }
+    }
+
+    fn foresee_delete(&self, number: u32) -> Response
+        ensures { result ≡ (answer_command self.now (command.Delete number) 0).0 }
+    {
+        if self.rules().holds(number) {
+            said(self.allocator(), 200, 0, Reason::Empty)
+        } else {
+            said(self.allocator(), 404, 0, Reason::RuleNotHeld)
+        }
+    }
+
+    fn foresee_update(&self, name: &Text) -> Response
+        ensures { result ≡ (answer_command self.now (command.Update name.now) 0).0 }
+    {
+        if name.as_str() == "empty.rules" {
+            said(self.allocator(), 200, 0, Reason::Empty)
+        } else {
+            said(self.allocator(), 500, 0, Reason::UnknownFile)
         }
     }
 

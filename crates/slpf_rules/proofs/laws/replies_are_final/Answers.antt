@@ -11,6 +11,7 @@ returns c = λ rules bytes moment.
     let fits = reply_fits rules bytes moment in
     record {
       reads_back = responses_read_back response (record { status_known = fits.0.0; rule_fits = omega (arith, fits.1) });
+      known = fits.0.0;
       final = fits.0.1;
       short = response_is_short response (omega (arith, fits.0.2)) (omega (arith, fits.1));
     }
