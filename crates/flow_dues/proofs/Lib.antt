@@ -1,0 +1,4 @@
+pub mod PairLemmas
+pub mod ListedLemmas
+pub mod FirstLemmas
+pub mod LeastLemmas
