@@ -25,7 +25,7 @@ use Rattle.flow_rules.specs.Tasks.{Here, here_at}
 use Rattle.flow_rules.specs.Changes as changes
 use Rattle.flow_rules.specs.Changes.{has_ended, is_waiting}
 use Rattle.flow_rules.specs.Moves.{delay_of}
-use Rattle.flow_rules.specs.Runs.{Next, GoesOn, after, begun, blank, first_task}
+use Rattle.flow_rules.specs.Runs.{Leads, Next, GoesOn, after, begun, blank, first_task}
 use Rattle.flow_rules.specs.Runnable.{IsRunnable, IsRunnableBook, IsRunnableStep, CanIssue, CanDo}
 use Rattle.flow_rules.specs.Sane.{IsSaneAt, IsSaneTask, IsSaneIssue, IsAwaitedBy}
 use Rattle.flow_rules.specs.Laws.{RunsAreSane}
@@ -59,10 +59,10 @@ known_next s new r k next =
       agree = subst (λ (ts : List Task). Agree ts new.issues) (sym tasks) (subst (Agree (tasks_after next.edits s.tasks)) (sym same_issues) good.agree);
     }
 
-record Sound (s : State) : Type 0 where
-  ordered : Ordered s
-  known : Known (shown s)
-  scoped : AllScoped s.scopes s.tasks
+pub record Sound (s : State) : Type 0 where
+  pub ordered : Ordered s
+  pub known : Known (shown s)
+  pub scoped : AllScoped s.scopes s.tasks
 
 sound_along : (records : List Record) (s new : State) → Sound s → GoesOn s records new → Sound new
 sound_along [] s new k g = subst Sound g k
@@ -314,6 +314,10 @@ sane_issue s n issue k is = by (is_waiting issue.phase) refl
     by false e =
         let there = get_there s.lists.tasks issue.task ((k.agree).made n issue is) in
         record { task = there.0; place = 0; task_is = there.1; awaits = λ w. absurd (no_truth (sym e ∙ w)) }
+
+-- each state of a run of what can be run
+pub runs_are_sound : (given : Given) (run : ℕ) (records : List Record) (s : State) → IsRunnable given → Leads given run records s → Sound s
+runs_are_sound given run records s runnable l = sound_along l.others l.first s (first_sound given run l.now l.first runnable l.begins) l.goes_on
 
 pub runs_are_sane : RunsAreSane
 runs_are_sane given run records s runnable l =
