@@ -1,0 +1,82 @@
+// How fast commands are read and answered.
+use crate::commands::deny_text;
+use crate::report::{Measurement, since, used};
+use crate::tables::{MOST, delete_falling, falling};
+use oc2_msg::read_command;
+use std::alloc::{AllocError, Global};
+use std::io;
+use std::time::CpuClock;
+
+/// The texts of so many denies.
+fn texts(alloc: Global, count: u32) -> Result<Vec<String>, AllocError> {
+    let mut texts = Vec::new(alloc);
+    for number in 0..count {
+        texts.push(deny_text(alloc, number)?)?;
+    }
+    Ok(texts)
+}
+
+/// Whether the text is a command.
+fn is_command(alloc: Global, text: &str) -> bool {
+    text.len() <= 1_048_576 && read_command(alloc, text.as_bytes()).is_ok()
+}
+
+/// How many of the texts are commands.
+fn read(alloc: Global, texts: &[String]) -> usize {
+    let mut count: usize = 0;
+    for text in texts {
+        if is_command(alloc, text.as_str()) {
+            count = count.saturating_add(1);
+        }
+    }
+    count
+}
+
+/// Measures the reading of commands.
+fn measure_reading<R: Print + CpuClock + AllocGlobal>(rt: &R) -> io::Result<()> {
+    let texts = texts(rt.alloc(), MOST)?;
+    let start = used(rt)?;
+    let found = read(rt.alloc(), texts.as_slice());
+    let time = since(rt, start)?;
+    Measurement {
+        what: "their commands",
+        rules: MOST,
+        count: MOST,
+        time,
+        found,
+        so: "read",
+    }
+    .say(rt)
+}
+
+/// Measures inserts in falling order of their numbers, and then as many deletes, without the reading of commands.
+fn measure_falling<R: Print + CpuClock + AllocGlobal>(rt: &R) -> io::Result<()> {
+    let start = used(rt)?;
+    let mut table = falling(rt.alloc(), MOST)?;
+    let time = since(rt, start)?;
+    let insert = Measurement {
+        what: "inserts in falling order",
+        rules: MOST,
+        count: MOST,
+        time,
+        found: table.rules().len(),
+        so: "held then",
+    };
+    insert.say(rt)?;
+    let start = used(rt)?;
+    delete_falling(&mut table, MOST)?;
+    let time = since(rt, start)?;
+    Measurement {
+        what: "deletes in falling order",
+        time,
+        found: table.rules().len(),
+        ..insert
+    }
+    .say(rt)
+}
+
+/// Measures the reading of commands, and inserts and deletes.
+pub(crate) fn measure<R: Print + CpuClock + AllocGlobal>(rt: &R) -> io::Result<()> {
+    measure_reading(rt)?;
+    measure_falling(rt)
+}
