@@ -1,0 +1,8 @@
+pub mod ActLemmas
+pub mod Damages
+pub mod DurableLemmas
+pub mod ErrorLemmas
+pub mod HandleLemmas
+pub mod KeepLemmas
+pub mod OpenLemmas
+pub mod Places

@@ -1,0 +1,66 @@
+-- What the calls of a filter do.
+use Rattle.std.specs.Prelude.{◌≡◌, ◌⊎◌, ℕ, ◌+◌, ◌<◌, ◌≤◌, length, true, List, [], ◌∷◌, ◌++◌}
+use Rattle.cacao_site.specs.declared.parcel.Parcel.{Parcel}
+use Rattle.cacao_site.specs.DiskCalls.{AllLeft, OnlyFile}
+use Rattle.cacao_site.specs.SiteCalls.{Puts}
+use Rattle.cacao_site.specs.View.{SiteView}
+use Rattle.run_records.specs.declared.act.Act.{Act}
+use Rattle.run_records.specs.Layout.{act_layout}
+use Rattle.run_records.specs.Ranges.{ActInRange}
+use Rattle.slpf_actuator.specs.declared.error.ActError.{ActError}
+use Rattle.slpf_actuator.specs.declared.error.ActError.TheVariants.{Disk, Memory}
+use Rattle.slpf_actuator.specs.ActLists.{HasActed, IsFinalReply, IsNew, length_with}
+use Rattle.slpf_actuator.specs.ActuatorView.{ActuatorView, HoldsActs, act_for, reply_parcel_of}
+use Rattle.slpf_actuator.specs.Durable.{header_calls, header_bytes}
+
+-- the image stands for the acts, or for these and one more
+abbrev pub HoldsWith : List Act → Act → List ℕ → Type 0
+HoldsWith acts act image = HoldsActs acts image ⊎ HoldsActs (acts ++ act ∷ []) image
+
+-- the filter's file alone may have changed, and each image of it at each beat stands for the acts, or for these and this one
+pub record MayAdd (v : ActuatorView) (act : Act) (old new : SiteView) : Type 0 where
+  pub file : OnlyFile v.agent old new (HoldsWith v.acts act)
+  pub calls : new.disk.calls ≤ old.disk.calls + (header_calls v.prepared + 4)
+  pub written : new.disk.written ≤ old.disk.written + (header_bytes v.prepared + (length (act_layout act) + 6))
+
+-- the act on a command of a new run and issue may have been added, and nothing else changed
+pub record Offers (v : ActuatorView) (parcel : Parcel) (moment : ℕ) (old new : SiteView) : Type 0 where
+  pub is_new : IsNew v.acts parcel.run parcel.issue
+  pub in_range : ActInRange (act_for v.acts parcel moment)
+  pub adds : MayAdd v (act_for v.acts parcel moment) old new
+
+-- the act was kept, so that it is in each image, and then its reply was put
+pub record Acts (v w : ActuatorView) (parcel : Parcel) (moment : ℕ) (old new : SiteView) : Type 0 where
+  pub between : SiteView  -- the site behind the act and before the put
+  pub offers : Offers v parcel moment old between
+  pub durable : AllLeft v.agent between.disk (HoldsActs (v.acts ++ act_for v.acts parcel moment ∷ []))
+  pub puts : Puts (reply_parcel_of v.agent parcel (act_for v.acts parcel moment).reply) between new
+  pub final : IsFinalReply (act_for v.acts parcel moment).reply
+  pub fits : length_with v.acts (act_for v.acts parcel moment) ≤ 67_108_864
+  pub view : w ≡ record v { acts = v.acts ++ act_for v.acts parcel moment ∷ []; prepared = true }
+
+-- a command that had acted: the reply of that act was put, and nothing else changed
+pub record Repeats (v w : ActuatorView) (parcel : Parcel) (old new : SiteView) : Type 0 where
+  pub act : Act
+  pub acted : HasActed v.acts parcel.run parcel.issue act
+  pub puts : Puts (reply_parcel_of v.agent parcel act.reply) old new
+  pub final : IsFinalReply act.reply
+  pub view : w ≡ v
+
+-- what each refusal may have done: nothing, but that the act may have been added where the disk failed, or where memory was
+-- wanted for a new run and issue
+abbrev pub MayHaveDone : ActError → ActuatorView → Parcel → ℕ → SiteView → SiteView → Type 0
+MayHaveDone Disk v parcel moment old new = Offers v parcel moment old new
+MayHaveDone Memory v parcel moment old new = (new ≡ old) ⊎ Offers v parcel moment old new
+MayHaveDone _ v parcel moment old new = new ≡ old
+
+-- a refusal breaks the filter; nothing else of it changed but that the header may stand
+pub record Refuses (v w : ActuatorView) (parcel : Parcel) (moment : ℕ) (error : ActError) (old new : SiteView) : Type 0 where
+  pub view : w ≡ record v { prepared = w.prepared; broken = true }
+  pub site : MayHaveDone error v parcel moment old new
+
+-- with the act on a command of a new run and issue the file would have so many bytes, which is past its limit
+pub record Overflows (v : ActuatorView) (parcel : Parcel) (moment needed : ℕ) : Type 0 where
+  pub is_new : IsNew v.acts parcel.run parcel.issue
+  pub is : needed ≡ length_with v.acts (act_for v.acts parcel moment)
+  pub past : 67_108_864 < needed

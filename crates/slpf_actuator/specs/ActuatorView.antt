@@ -1,0 +1,53 @@
+-- What contracts see of a filter.
+use Rattle.std.specs.Prelude.{◌≡◌, ℕ, ◌≤◌, max, Bool, true, false, List, length}
+use Rattle.cacao_site.specs.declared.parcel.Parcel.{Parcel}
+use Rattle.cacao_site.specs.DiskCalls.{AllLeft}
+use Rattle.cacao_site.specs.View.{SiteView}
+use Rattle.run_journal.specs.Layout.{Stands, HasLayout}
+use Rattle.run_records.specs.declared.act.Act.{Act}
+use Rattle.slpf_actuator.specs.ActLists.{IsHistory, entries_of, moment_of_last, reply_text, table_of}
+
+pub record ActuatorView : Type 0 where
+  pub agent : ℕ  -- its number, which is that of its file
+  pub acts : List Act
+  pub prepared : Bool  -- whether the header need not be written any more
+  pub broken : Bool  -- whether a call of `handle` was refused
+
+-- the image stands for the acts
+abbrev pub HoldsActs : List Act → List ℕ → Type 0
+HoldsActs acts image = Stands image (entries_of acts)
+
+-- where the header need not be written any more an image has the layout, else at most 9 bytes
+abbrev pub IsPrepared : Bool → List (List ℕ) → List ℕ → Type 0
+IsPrepared true items image = HasLayout items image
+IsPrepared false items image = length image ≤ 9
+
+-- an image of a journal between two calls
+abbrev pub IsImage : Bool → List (List ℕ) → List ℕ → Type 0
+IsImage prepared items image = Stands image items × IsPrepared prepared items image
+
+-- what holds of a filter and of its file between its calls
+pub record IsReady (v : ActuatorView) (site : SiteView) : Type 0 where
+  pub low : 1 ≤ v.agent
+  pub high : v.agent ≤ 16
+  pub history : IsHistory v.acts
+  pub images : v.broken ≡ false → AllLeft v.agent site.disk (IsImage v.prepared (entries_of v.acts))
+
+-- the moment of the next act: the one handed in, or that of the last act, if it is greater
+abbrev pub moment_for : List Act → ℕ → ℕ
+moment_for acts moment = max moment (moment_of_last acts)
+
+-- the act on a command: its run, its issue and its bytes, with the reply of the table
+abbrev pub act_for : List Act → Parcel → ℕ → Act
+act_for acts parcel moment = record {
+  run = parcel.run;
+  issue = parcel.issue;
+  moment = moment_for acts moment;
+  command = parcel.bytes;
+  reply = reply_text (table_of acts) parcel.bytes (moment_for acts moment);
+}
+
+-- what the filter of an agent sends back for a command
+abbrev pub reply_parcel_of : ℕ → Parcel → List ℕ → Parcel
+reply_parcel_of agent parcel bytes =
+    record { agent = agent; back = true; run = parcel.run; issue = parcel.issue; bytes = bytes }
