@@ -1,0 +1,168 @@
+//! A run that goes on from record to record.
+ghost use Rattle.std.specs.Prelude.{◌≡◌, ◌+◌, ◌<◌, ◌≤◌, length, None, Some, IfOk, IfSome, IfErr, OnOk, OnErr, option_map, true};
+ghost use Rattle.flow_rules.specs.Runs.{begin_of};
+ghost use Rattle.flow_rules.specs.Moves.{record_of};
+ghost use Rattle.flow_core.specs.Planned.{edits_of, AreDeclared};
+ghost use Rattle.flow_core.specs.Flows.{plan_of};
+ghost use Rattle.flow_core.specs.Views.{blank_shown, taken, taken_by, passed, IsReadyFor, Takes, Answers};
+
+use crate::flow_errors::{FlowError, LimitKind};
+use crate::limits::{MOST_EDITS, passed};
+use crate::planned::Planned;
+use crate::planning::moment_of;
+use crate::run::Run;
+use crate::setup::{Setup, setup_law};
+use crate::tables::Tables;
+use flow_rules::Move;
+use run_records::Record;
+use std::alloc::{AllocError, Global};
+use std::marker::Model;
+
+/// What a record changes that may come next, and its moment in milliseconds.
+#[derive(Drop)]
+pub(crate) struct Plan {
+    pub moment: u64,
+    pub edits: Vec<Planned>,
+}
+
+/// A run of playbooks (CACAO 2.0, section 4). It is made idle, and takes its Begin and then its other records one after
+/// another: `ready` takes the memory that a record needs, and `apply` takes the record.
+#[derive(Drop)]
+pub struct Flow {
+    pub(crate) alloc: Global,
+    pub(crate) run: Run,
+    pub(crate) count: u32,
+    plan: Option<Plan>,
+}
+
+impl Model for Flow {
+    ghost use Rattle.flow_core.specs.Views.{View};
+
+    ghost Value = { View };
+
+    ghost use Rattle.flow_core.specs.Flows.{view_of, IsSound};
+
+    ghost view = { view_of };
+
+    ghost invariant = { IsSound };
+}
+
+impl Flow {
+    /// The run of that number before its Begin. It takes no memory.
+    pub fn idle(alloc: Global, setup: Setup, run: u64) -> Flow
+        ensures count { result.count ≡ 0 }
+        ensures seen { result.seen ≡ blank_shown setup run }
+        ensures plan { result.plan ≡ None }
+    {
+        Flow {
+            alloc,
+            run: Run {
+                setup,
+                number: run,
+                moment: 0,
+                tables: Tables::new(alloc),
+            },
+            count: 0,
+            plan: None,
+        }
+    }
+
+    /// The Begin of this run at a moment, in milliseconds, with the canonical texts of its playbooks and bindings.
+    pub fn begin(&self, moment: u64) -> Result<Record, AllocError>
+        ensures { IfOk result (λ item. item ≡ begin_of self.now.seen.given self.now.seen.run moment) }
+    {
+        self.run.begin(self.alloc, moment)
+    }
+
+    /// What a record changes; None where it may not come next.
+    fn edits_for(&self, item: &Record) -> Result<Option<Vec<Planned>>, AllocError>
+        ensures edits { IfOk result (λ o. option_map (λ plan. edits_of plan.items) o ≡ taken self.now item.now) }
+        ensures declared { IfOk result (λ o. IfSome o (λ plan. AreDeclared plan.items)) }
+    {
+        if self.count == 0 {
+            return self.run.first(self.alloc, item);
+        }
+        if !self.run.has_numbers() {
+            return Err(AllocError);
+        }
+        setup_law(&self.run.setup);
+        self.run.change(self.alloc, item)
+    }
+
+    /// Keeps a plan, and takes the room for it. A refusal changes nothing.
+    fn hold(&mut self, plan: Plan) -> Result<(), FlowError>
+        requires declared { AreDeclared plan.edits.items }
+        requires few { self.old.count < 100_000_000 }
+        ensures ok { OnOk result (self.new ≡ record self.old { plan = Some (plan_of plan) }) }
+        ensures err { OnErr result (self.new ≡ self.old) }
+        ensures answers { Answers self.old result (Some (edits_of plan.edits.items)) }
+    {
+        match passed(self.run.tables.tasks.len(), plan.edits.as_slice()) {
+            Some(what) => Err(FlowError::Limit { what }),
+            None => {
+                let count = plan.edits.len();
+                if count > MOST_EDITS || !self.run.has_numbers() {
+                    return Err(FlowError::Memory);
+                }
+                self.run.tables.reserve(count as u32)?;
+                self.plan = Some(plan);
+                Ok(())
+            }
+        }
+    }
+
+    /// Takes all memory that a record needs. `NotEnabled` comes where it may not come next, `Limit` where the run would
+    /// have more than 1,000,000 tasks or a command more than 1,048,576 bytes. A refusal changes nothing.
+    pub fn ready(&mut self, item: &Record) -> Result<(), FlowError>
+        requires { self.old.count < 100_000_000 }
+        ensures ok { OnOk result (IsReadyFor self.new item.now) }
+        ensures count { self.new.count ≡ self.old.count }
+        ensures seen { self.new.seen ≡ self.old.seen }
+        ensures err { OnErr result (self.new ≡ self.old) }
+        ensures answers { Answers self.old result (taken self.old item.now) }
+    {
+        let found = self.edits_for(item)?;
+        match found {
+            Some(edits) => self.hold(Plan {
+                moment: moment_of(item),
+                edits,
+            }),
+            None => Err(FlowError::NotEnabled),
+        }
+    }
+
+    /// Takes the record that it was made ready for. It takes no memory.
+    pub fn apply(&mut self, item: &Record)
+        requires { IsReadyFor self.old item.now }
+        ensures { Takes self.old item.now self.new }
+    {
+        setup_law(&self.run.setup);
+        let Some(plan) = self.plan.take() else {
+            unreachable!()
+        };
+        self.run.tables.edit_all(&self.run.setup, plan.edits);
+        self.run.moment = plan.moment;
+        self.count += 1;
+    }
+
+    /// The record of a move at a moment, in milliseconds. It is refused as `ready` refuses that record, and where the
+    /// move has none.
+    pub fn make(&self, step: Move, moment: u64) -> Result<Record, FlowError>
+        requires { self.now.count < 100_000_000 }
+        ensures made { IfOk result (λ item. record_of self.now.seen moment step ≡ Some item) }
+        ensures answers { Answers self.now result (taken_by self.now moment step) }
+    {
+        let found = self.record_for(step, moment)?;
+        let Some(item) = found else {
+            return Err(FlowError::NotEnabled);
+        };
+        let found = self.edits_for(&item)?;
+        let Some(edits) = found else {
+            return Err(FlowError::NotEnabled);
+        };
+        match passed(self.run.tables.tasks.len(), edits.as_slice()) {
+            Some(what) => Err(FlowError::Limit { what }),
+            None => Ok(item),
+        }
+    }
+}

@@ -1,0 +1,257 @@
+//! Commands and questions: the issues that tasks make.
+ghost use Rattle.std.specs.Prelude.{◌≡◌, ◌==◌, ◌&&◌, ◌<◌, ◌≤◌, IfOk, IfSome, Some, length, option_map};
+ghost use Rattle.std.specs.Str.{bytes_eq};
+ghost use Rattle.flow_rules.specs.declared.phases.Phase.TheVariants as phase;
+ghost use Rattle.flow_rules.specs.Tasks.{here_at};
+ghost use Rattle.flow_rules.specs.Changes.{command_at, question_at, issuing, next_command, next_question, send, ask};
+ghost use Rattle.cacao_check.specs.Uses.{commands_of};
+ghost use Rattle.flow_core.specs.Planned.{edits_of, AreDeclared};
+ghost use Rattle.flow_core.specs.PlaceViews.{place_view, IsOfCommand};
+ghost use Rattle.flow_core.specs.RunFacts.{shown_of, here_of, IsWell};
+ghost use Rattle.flow_core.specs.Issuings.{made_of, new_issue, StandsThere};
+
+use crate::places::{Place, place_in};
+use crate::planned::Planned;
+use crate::run::{Run, Stand};
+use cacao_site::Bytes;
+use flow_rules::{Issue, IssuePhase, Phase, Task};
+use std::alloc::{AllocError, Global};
+
+/// A new issue, and its task as it waits for the issue's end.
+#[derive(Drop)]
+pub(crate) struct Made {
+    pub issue: Issue,
+    pub task: Task,
+}
+
+// A new issue of a task.
+fn issue_with(stand: Stand<'_>, agent: u8, bytes: Bytes) -> Issue
+    ensures { result ≡ new_issue stand.entry agent bytes }
+{
+    Issue {
+        task: stand.number,
+        agent,
+        bytes,
+        moment: stand.now,
+        phase: IssuePhase::Waiting,
+    }
+}
+
+// The edits of a new issue.
+fn planned(alloc: Global, task: u32, made: Made) -> Result<Vec<Planned>, AllocError>
+    ensures edits { IfOk result (λ plan. edits_of plan.items ≡ (made_of task made).1) }
+    ensures declared { IfOk result (λ plan. AreDeclared plan.items) }
+{
+    let mut plan = Vec::with_capacity(alloc, 2)?;
+    plan.push(Planned::Issues(made.issue))?;
+    plan.push(Planned::Moves {
+        task,
+        new: made.task,
+    })?;
+    Ok(plan)
+}
+
+impl Run {
+    /// The task with this number at a moment, if it stands at a step.
+    pub(crate) fn stand(&self, now: u64, t: u32) -> Option<Stand<'_>>
+        requires { IsWell self.now }
+        ensures here { option_map (here_of (shown_of self.now)) result ≡ here_at (shown_of self.now) now t }
+        ensures there { IfSome result (StandsThere self.now) }
+    {
+        self.here(now, t)
+    }
+
+    // How many issues there are.
+    fn issue_count(&self) -> u32
+        requires { length self.now.tables.issues.items ≤ 100_000_001 }
+        ensures { result ≡ length self.now.tables.issues.items }
+    {
+        self.tables.issues.len() as u32
+    }
+
+    // The issue of a task at a place, and the task as it waits.
+    fn made(&self, stand: Stand<'_>, place: u32, issue: Issue) -> Made
+        requires well { IsWell self.now }
+        requires place { stand.task.phase ≡ phase.Sending place }
+        ensures { made_of stand.entry.number result ≡ issuing (here_of (shown_of self.now) stand.entry) issue }
+    {
+        let number = self.issue_count();
+        let task = Task {
+            phase: Phase::Awaiting {
+                place,
+                issue: number,
+            },
+            ..stand.task
+        };
+        Made { issue, task }
+    }
+
+    // The command of a filter's place.
+    fn command_at(
+        &self,
+        alloc: Global,
+        stand: Stand<'_>,
+        place: Place<'_>,
+    ) -> Result<Option<Issue>, AllocError>
+        requires well { IsWell self.now }
+        requires stands { StandsThere self.now stand }
+        requires command { IsOfCommand (commands_of stand.step.now.kind) place }
+        ensures { IfOk result (λ o. o ≡ command_at (here_of (shown_of self.now) stand.entry) (place_view place.entry)) }
+    {
+        let Place::Filter { command, to, .. } = place else {
+            return Ok(None);
+        };
+        let Some(scope) = stand.task.step_scope else {
+            return Ok(None);
+        };
+        let Some(tree) = self
+            .setup
+            .content(stand.task.book, stand.task.step, command)
+        else {
+            return Ok(None);
+        };
+        let bytes = self.fill(alloc, tree, scope)?;
+        let agent = self.setup.filter_of(to);
+        Ok(Some(issue_with(stand, agent, bytes)))
+    }
+
+    // The question of an operator's place.
+    fn question_at(
+        &self,
+        alloc: Global,
+        stand: Stand<'_>,
+        place: Place<'_>,
+    ) -> Result<Option<Issue>, AllocError>
+        requires well { IsWell self.now }
+        requires stands { StandsThere self.now stand }
+        ensures { IfOk result (λ o. o ≡ question_at (here_of (shown_of self.now) stand.entry) (place_view place.entry)) }
+    {
+        let Place::Operator { content } = place else {
+            return Ok(None);
+        };
+        let Some(content) = content else {
+            return Ok(None);
+        };
+        let Some(scope) = stand.task.step_scope else {
+            return Ok(None);
+        };
+        let text = self.replaced(alloc, scope, content.as_str())?;
+        let bytes = Bytes::from_vec(text.into_bytes());
+        Ok(Some(issue_with(stand, 0, bytes)))
+    }
+
+    /// The command that a task sends next.
+    pub(crate) fn next_command(
+        &self,
+        alloc: Global,
+        now: u64,
+        t: u32,
+    ) -> Result<Option<Made>, AllocError>
+        requires { IsWell self.now }
+        ensures { IfOk result (λ o. option_map (made_of t) o ≡ next_command (shown_of self.now) now t) }
+    {
+        let Some(stand) = self.stand(now, t) else {
+            return Ok(None);
+        };
+        let Phase::Sending { place } = stand.task.phase else {
+            return Ok(None);
+        };
+        let Some(found) = place_in(&stand.step.kind, place) else {
+            return Ok(None);
+        };
+        let Some(issue) = self.command_at(alloc, stand, found)? else {
+            return Ok(None);
+        };
+        Ok(Some(self.made(stand, place, issue)))
+    }
+
+    /// What a task asks an operator next.
+    pub(crate) fn next_question(
+        &self,
+        alloc: Global,
+        now: u64,
+        t: u32,
+    ) -> Result<Option<Made>, AllocError>
+        requires { IsWell self.now }
+        ensures { IfOk result (λ o. option_map (made_of t) o ≡ next_question (shown_of self.now) now t) }
+    {
+        let Some(stand) = self.stand(now, t) else {
+            return Ok(None);
+        };
+        let Phase::Sending { place } = stand.task.phase else {
+            return Ok(None);
+        };
+        let Some(found) = place_in(&stand.step.kind, place) else {
+            return Ok(None);
+        };
+        let Some(issue) = self.question_at(alloc, stand, found)? else {
+            return Ok(None);
+        };
+        Ok(Some(self.made(stand, place, issue)))
+    }
+
+    // Whether a Send names the issue that comes next.
+    fn is_sent(&self, made: &Made, number: u32, agent: u8, bytes: &Bytes) -> bool
+        ensures { result ≡ ((number == length self.now.tables.issues.items) && (agent == made.now.issue.agent) && bytes_eq bytes.now made.now.issue.bytes) }
+    {
+        number as usize == self.tables.issues.len()
+            && agent == made.issue.agent
+            && *bytes == made.issue.bytes
+    }
+
+    // Whether an Ask names the issue that comes next.
+    fn is_asked(&self, made: &Made, number: u32, bytes: &Bytes) -> bool
+        ensures { result ≡ (self.now.tables.is_upgraded && (number == length self.now.tables.issues.items) && bytes_eq bytes.now made.now.issue.bytes) }
+    {
+        self.tables.is_upgraded
+            && number as usize == self.tables.issues.len()
+            && *bytes == made.issue.bytes
+    }
+
+    /// What a Send changes; `None` where it may not come next.
+    pub(crate) fn send(
+        &self,
+        alloc: Global,
+        now: u64,
+        task: u32,
+        issue: u32,
+        agent: u8,
+        bytes: &Bytes,
+    ) -> Result<Option<Vec<Planned>>, AllocError>
+        requires { IsWell self.now }
+        ensures edits { IfOk result (λ o. option_map (λ plan. edits_of plan.items) o ≡ send (shown_of self.now) now task issue agent bytes.now) }
+        ensures declared { IfOk result (λ o. IfSome o (λ plan. AreDeclared plan.items)) }
+    {
+        let Some(made) = self.next_command(alloc, now, task)? else {
+            return Ok(None);
+        };
+        if !self.is_sent(&made, issue, agent, bytes) {
+            return Ok(None);
+        }
+        let plan = planned(alloc, task, made)?;
+        Ok(Some(plan))
+    }
+
+    /// What an Ask changes; `None` where it may not come next.
+    pub(crate) fn ask(
+        &self,
+        alloc: Global,
+        now: u64,
+        task: u32,
+        issue: u32,
+        bytes: &Bytes,
+    ) -> Result<Option<Vec<Planned>>, AllocError>
+        requires { IsWell self.now }
+        ensures edits { IfOk result (λ o. option_map (λ plan. edits_of plan.items) o ≡ ask (shown_of self.now) now task issue bytes.now) }
+        ensures declared { IfOk result (λ o. IfSome o (λ plan. AreDeclared plan.items)) }
+    {
+        let Some(made) = self.next_question(alloc, now, task)? else {
+            return Ok(None);
+        };
+        if !self.is_asked(&made, issue, bytes) {
+            return Ok(None);
+        }
+        let plan = planned(alloc, task, made)?;
+        Ok(Some(plan))
+    }
+}
