@@ -1,0 +1,14 @@
+pub mod Basics
+pub mod OneList
+pub mod Shrink
+pub mod Record
+pub mod Act
+pub mod Puts
+pub mod Says
+pub mod Again
+pub mod Blank
+pub mod Fresh
+pub mod Calls
+pub mod Written
+pub mod Needed
+pub mod Foreign

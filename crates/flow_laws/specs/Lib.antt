@@ -1,0 +1,10 @@
+pub mod Acts
+pub mod Journals
+pub mod Images
+pub mod Agree
+pub mod Good
+pub mod Held
+pub mod Fresh
+pub mod Beats
+pub mod Sessions
+pub mod Since
