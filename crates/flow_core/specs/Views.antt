@@ -1,6 +1,6 @@
 -- What contracts see of a flow, and its answers.
 use Rattle.std.specs.Prelude.{◌≡◌, ℕ, suc, ◌+◌, ◌==◌, ◌&&◌, nat_lt, nat_le, nat_eq, Bool, true, false, not, List, [], length, count_by, Option, Some, None, IsSome, Result, Ok, Err, ⊤, option_and_then, if◌then◌else◌}
-use Rattle.std.specs.Str.{bytes_eq}
+use Rattle.std.specs.Str.{IsUtf8, bytes_eq}
 use Rattle.std.specs.Cmp.Lexicographic.{pointwise}
 use Rattle.std.specs.List.{list_any}
 use Rattle.run_records.specs.declared.record.Record.{Record}
@@ -24,6 +24,11 @@ pub record View : Type 0 where
   pub count : ℕ
   pub seen : Shown
   pub plan : Option (ℕ × List Edit)
+
+-- what an operator is asked is a text
+abbrev pub AsksText : Record → Type 0
+AsksText (entry.Ask task issue moment bytes) = IsUtf8 bytes
+AsksText other = ⊤
 
 -- its Begin is among them
 abbrev pub has_begun : View → Bool

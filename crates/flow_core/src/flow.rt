@@ -3,8 +3,9 @@ ghost use Rattle.std.specs.Prelude.{◌≡◌, ◌+◌, ◌<◌, ◌≤◌, leng
 ghost use Rattle.flow_rules.specs.Runs.{begin_of};
 ghost use Rattle.flow_rules.specs.Moves.{record_of};
 ghost use Rattle.flow_core.specs.Planned.{edits_of, AreDeclared};
-ghost use Rattle.flow_core.specs.Flows.{plan_of};
-ghost use Rattle.flow_core.specs.Views.{blank_shown, taken, taken_by, passed, IsReadyFor, Takes, Answers};
+ghost use Rattle.flow_core.specs.Flows.{plan_of, HasSizes, IsReached};
+ghost use Rattle.flow_core.specs.Setups.{IsSetup};
+ghost use Rattle.flow_core.specs.Views.{blank_shown, taken, taken_by, passed, AsksText, IsReadyFor, Takes, Answers};
 
 use crate::flow_errors::{FlowError, LimitKind};
 use crate::limits::{MOST_EDITS, passed};
@@ -67,6 +68,16 @@ impl Flow {
         }
     }
 
+    /// What holds of each flow: it shows the state of a run of as many records as it took, or what is before the first; its tasks,
+    /// issues and moment are within their limits; and what it was given is a setup. The call does nothing.
+    pub fn law(&self)
+        ensures reached { IsReached self.now.count self.now.seen }
+        ensures sizes { HasSizes self.now.count self.now.seen }
+        ensures setup { IsSetup self.now.seen.given }
+    {
+        setup_law(&self.run.setup);
+    }
+
     /// The Begin of this run at a moment, in milliseconds, with the canonical texts of its playbooks and bindings.
     pub fn begin(&self, moment: u64) -> Result<Record, AllocError>
         ensures { IfOk result (λ item. item ≡ begin_of self.now.seen.given self.now.seen.run moment) }
@@ -112,7 +123,8 @@ impl Flow {
     }
 
     /// Takes all memory that a record needs. `NotEnabled` comes where it may not come next, `Limit` where the run would
-    /// have more than 1,000,000 tasks or a command more than 1,048,576 bytes. A refusal changes nothing.
+    /// have more than 1,000,000 tasks, or a command or what an operator is asked more than 1,048,576 bytes. A refusal changes
+    /// nothing.
     pub fn ready(&mut self, item: &Record) -> Result<(), FlowError>
         requires { self.old.count < 100_000_000 }
         ensures ok { OnOk result (IsReadyFor self.new item.now) }
@@ -145,11 +157,12 @@ impl Flow {
         self.count += 1;
     }
 
-    /// The record of a move at a moment, in milliseconds. It is refused as `ready` refuses that record, and where the
-    /// move has none.
+    /// The record of a move at a moment, in milliseconds; what an operator is asked is UTF-8. It is refused as `ready` refuses
+    /// that record, and where the move has none.
     pub fn make(&self, step: Move, moment: u64) -> Result<Record, FlowError>
         requires { self.now.count < 100_000_000 }
         ensures made { IfOk result (λ item. record_of self.now.seen moment step ≡ Some item) }
+        ensures text { IfOk result AsksText }
         ensures answers { Answers self.now result (taken_by self.now moment step) }
     {
         let found = self.record_for(step, moment)?;

@@ -1,6 +1,6 @@
 //! Commands and questions: the issues that tasks make.
 ghost use Rattle.std.specs.Prelude.{◌≡◌, ◌==◌, ◌&&◌, ◌<◌, ◌≤◌, IfOk, IfSome, Some, length, option_map};
-ghost use Rattle.std.specs.Str.{bytes_eq};
+ghost use Rattle.std.specs.Str.{IsUtf8, bytes_eq};
 ghost use Rattle.flow_rules.specs.declared.phases.Phase.TheVariants as phase;
 ghost use Rattle.flow_rules.specs.Tasks.{here_at};
 ghost use Rattle.flow_rules.specs.Changes.{command_at, question_at, issuing, next_command, next_question, send, ask};
@@ -73,7 +73,8 @@ impl Run {
     fn made(&self, stand: Stand<'_>, place: u32, issue: Issue) -> Made
         requires well { IsWell self.now }
         requires place { stand.task.phase ≡ phase.Sending place }
-        ensures { made_of stand.entry.number result ≡ issuing (here_of (shown_of self.now) stand.entry) issue }
+        ensures made { made_of stand.entry.number result ≡ issuing (here_of (shown_of self.now) stand.entry) issue }
+        ensures issue { result.issue ≡ issue }
     {
         let number = self.issue_count();
         let task = Task {
@@ -124,7 +125,8 @@ impl Run {
     ) -> Result<Option<Issue>, AllocError>
         requires well { IsWell self.now }
         requires stands { StandsThere self.now stand }
-        ensures { IfOk result (λ o. o ≡ question_at (here_of (shown_of self.now) stand.entry) (place_view place.entry)) }
+        ensures question { IfOk result (λ o. o ≡ question_at (here_of (shown_of self.now) stand.entry) (place_view place.entry)) }
+        ensures text { IfOk result (λ o. IfSome o (λ issue. IsUtf8 issue.bytes)) }
     {
         let Place::Operator { content } = place else {
             return Ok(None);
@@ -173,7 +175,8 @@ impl Run {
         t: u32,
     ) -> Result<Option<Made>, AllocError>
         requires { IsWell self.now }
-        ensures { IfOk result (λ o. option_map (made_of t) o ≡ next_question (shown_of self.now) now t) }
+        ensures question { IfOk result (λ o. option_map (made_of t) o ≡ next_question (shown_of self.now) now t) }
+        ensures text { IfOk result (λ o. IfSome o (λ made. IsUtf8 made.issue.bytes)) }
     {
         let Some(stand) = self.stand(now, t) else {
             return Ok(None);

@@ -37,6 +37,7 @@ mod writing;
 pub use flow::Flow;
 pub use flow_dues::Dues;
 pub use flow_errors::{FlowError, LimitKind};
+pub use flow_rules::Move;
 pub use setup::{Setup, setup_law};
 pub use setup_errors::SetupError;
 pub use setup_laws::{accepted_again, accepted_is_runnable};

@@ -1,5 +1,5 @@
-//! The moves that a flow makes by itself, and what it waits for. No call here but `record_for` takes memory.
-ghost use Rattle.std.specs.Prelude.{◌≡◌, ◌<◌, IfOk, true, is_some, slice_get, option_map};
+//! The moves that a flow makes by itself, and what it waits for. No call here takes memory but those that make a record.
+ghost use Rattle.std.specs.Prelude.{◌≡◌, ◌<◌, IfOk, IfSome, true, is_some, slice_get, option_map};
 ghost use Rattle.flow_rules.specs.Moves.{enabled_move, record_of, due, asks, ready_set, deadlines, move_at};
 ghost use Rattle.flow_rules.specs.declared.moves.Move.TheVariants as does_move;
 ghost use Rattle.flow_rules.specs.Places.{places};
@@ -8,7 +8,7 @@ ghost use Rattle.flow_core.specs.MoveKinds.{is_operators};
 ghost use Rattle.flow_dues.specs.Pairs.{IsQueue, rising};
 ghost use Rattle.flow_dues.specs.Least.{sooner};
 ghost use Rattle.flow_core.specs.RunFacts.{shown_of, IsWell};
-ghost use Rattle.flow_core.specs.Views.{has_begun};
+ghost use Rattle.flow_core.specs.Views.{AsksText, has_begun};
 
 use crate::flow::Flow;
 use crate::places::{Place, place_in};
@@ -83,7 +83,8 @@ impl Run {
         moment: u64,
     ) -> Result<Option<Record>, AllocError>
         requires { IsWell self.now }
-        ensures { IfOk result (λ o. o ≡ record_of (shown_of self.now) moment (does_move.Send task)) }
+        ensures made { IfOk result (λ o. o ≡ record_of (shown_of self.now) moment (does_move.Send task)) }
+        ensures text { IfOk result (λ o. IfSome o AsksText) }
     {
         let issue = self.tables.issues.len() as u32;
         let found = self.next_command(alloc, moment, task)?;
@@ -108,7 +109,8 @@ impl Run {
         moment: u64,
     ) -> Result<Option<Record>, AllocError>
         requires { IsWell self.now }
-        ensures { IfOk result (λ o. o ≡ record_of (shown_of self.now) moment (does_move.Ask task)) }
+        ensures made { IfOk result (λ o. o ≡ record_of (shown_of self.now) moment (does_move.Ask task)) }
+        ensures text { IfOk result (λ o. IfSome o AsksText) }
     {
         let issue = self.tables.issues.len() as u32;
         let found = self.next_question(alloc, moment, task)?;
@@ -128,7 +130,8 @@ impl Run {
 impl Flow {
     /// The record of a move at a moment; None where it has none.
     pub(crate) fn record_for(&self, step: Move, moment: u64) -> Result<Option<Record>, AllocError>
-        ensures { IfOk result (λ o. o ≡ record_of self.now.seen moment step) }
+        ensures made { IfOk result (λ o. o ≡ record_of self.now.seen moment step) }
+        ensures text { IfOk result (λ o. IfSome o AsksText) }
     {
         match step {
             Move::Walk { task } => Ok(Some(Record::Walk { task, moment })),

@@ -111,7 +111,8 @@ fn content_in(contents: &[Option<Tree>], command: u32) -> Option<&Tree>
 impl Setup {
     /// What texts of 1 to 16 playbooks, the first of which is run, and a text of bindings (none where it is empty) give a run. Each has at
     /// most 1,048,576 bytes. They are refused exactly where a text has no tree, a rule of playbooks is broken in the mode of runs, or a
-    /// rule of bindings is broken, in this order, and the refusal names the first such text, the first break or the least rule.
+    /// rule of bindings is broken, in this order, and the refusal names the first such text, the first break or the least rule; or
+    /// where memory is wanted.
     pub fn read(alloc: Global, books: &[Bytes], bind: &Bytes) -> Result<Setup, SetupError>
         requires some { 1 ≤ length books.now }
         requires few { length books.now ≤ 16 }
