@@ -6,7 +6,7 @@ use Rattle.run_records.specs.declared.record.Record.TheVariants as entry
 use Rattle.cacao_check.specs.declared.breaks.Mode.TheVariants as mode
 use Rattle.cacao_check.specs.FirstBreak.{IsAccepted}
 use Rattle.cacao_check.specs.Fits.{FitsKind}
-use Rattle.flow_rules.specs.Accepted.{IsRun, IsRunOf}
+use Rattle.flow_rules.specs.Accepted.{Accepted, IsRun, IsRunOf}
 use Rattle.flow_rules.specs.Givens.{Given}
 use Rattle.flow_rules.specs.State.{State, Shown, shown}
 use Rattle.flow_rules.specs.Runs.{Next, Leads}
@@ -41,11 +41,12 @@ pub record IsSent (records : List Record) (issue agent : ℕ) (bytes : List ℕ)
 abbrev pub IsOpen : List Record → ℕ → Type 0
 IsOpen records issue = All (λ r. ¬ (ended_by r ≡ Some issue)) records
 
--- what a flow shows after these records
+-- what a flow of accepted playbooks shows after these records
 pub record IsShownAfter (records : List Record) (seen : Shown) : Type 0 where
   pub given : Given
   pub run : ℕ
   pub state : State
+  pub accepted : Accepted AreAccepted FitsKind given.texts given.bind given
   pub leads : Leads given run records state
   pub is : seen ≡ shown state
 
