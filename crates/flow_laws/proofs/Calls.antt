@@ -110,7 +110,7 @@ module _ (speech : Speech) (first : ℕ) (start old new : SiteView) (so_far : Ag
             lines = λ image records left stands bytes line said. inr (said_before old new beat beat bytes (link.said beat early) said);
           } in
           let kept = images_shrink speech first old beat new beat only had.good had.held in
-          record { good = kept.0; held = kept.1; fresh = λ run fresh. fresh_shrinks old beat new beat images (link.puts beat early) run (had.fresh run fresh) }
+          record { good = kept.0; held = kept.1; fresh = λ run own fresh. fresh_shrinks old beat new beat images (link.puts beat early) run (had.fresh run own fresh) }
       | inr late ↦ here beat late to
     ];
   }
@@ -142,7 +142,7 @@ module _ (speech : Speech) (first : ℕ) (start old new : SiteView) (so_far : Ag
           lines = λ image records left stands bytes line was. inr (said bytes was);
         } in
         let kept = images_shrink speech first old old.disk.beat new beat only now.good now.held in
-        record { good = kept.0; held = kept.1; fresh = λ run fresh. fresh_shrinks old old.disk.beat new beat images puts run (now.fresh run fresh) }
+        record { good = kept.0; held = kept.1; fresh = λ run own fresh. fresh_shrinks old old.disk.beat new beat images puts run (now.fresh run own fresh) }
 
     -- nothing was written, put or said
     pub since_quiet : GoesOn old.disk new.disk → EachStays old new → new.link.puts ≡ old.link.puts → new.link.said ≡ old.link.said → AgreedSince speech first start new
@@ -175,7 +175,7 @@ module _ (speech : Speech) (first : ℕ) (start old new : SiteView) (so_far : Ag
           further = further;
         } in
         let kept = record_is_gained speech first old old.disk.beat new beat records next gains now.good now.held in
-        record { good = kept.0; held = kept.1; fresh = λ run fresh. fresh_gains speech first old old.disk.beat new beat records next gains run (now.fresh run fresh) })
+        record { good = kept.0; held = kept.1; fresh = λ run own fresh. fresh_gains speech first old old.disk.beat new beat records next gains run (now.fresh run own fresh) })
 
     -- a filter's file gained an act, or may have
     pub since_act : (agent : ℕ) (acts : List Act) (act : Act) → IsAgent agent → OnlyFile agent old new (λ image. IsActs image acts ⊎ IsActs image (acts ++ act ∷ []))
@@ -194,7 +194,7 @@ module _ (speech : Speech) (first : ℕ) (start old new : SiteView) (so_far : Ag
         record {
           good = kept.0;
           held = kept.1;
-          fresh = λ run fresh. fresh_begun new beat (λ image left. begun image (other_stays agent 0 _ only not_zero beat from to image left)) run;
+          fresh = λ run own fresh. fresh_begun new beat (λ image left. begun image (other_stays agent 0 _ only not_zero beat from to image left)) run;
         })
 
     keeps_stay : KeepsDisk old.disk new.disk → EachStays old new
@@ -250,7 +250,7 @@ module _ (speech : Speech) (first : ℕ) (start old new : SiteView) (so_far : Ag
             record {
               good = kept.0;
               held = kept.1;
-              fresh = λ run fresh. fresh_begun new beat (λ image left.
+              fresh = λ run own fresh. fresh_begun new beat (λ image left.
                   let there = sent image (put_images beat from to 0 (omega arith) image left) in
                   record { records = there.records; are = there.are; so = begun there.records parcel.run there.so.of_run }) run;
             }
@@ -262,7 +262,7 @@ module _ (speech : Speech) (first : ℕ) (start old new : SiteView) (so_far : Ag
         | inl same ↦ put_quiet beat from to same
         | inr more ↦
             let kept = reply_is_put speech first old old.disk.beat new beat parcel (record { only = put_only beat from to more; back = reply; is_agent = is; acted = acted }) now.good now.held in
-            record { good = kept.0; held = kept.1; fresh = λ run fresh. fresh_begun new beat (λ image left. has_begun image (put_images beat from to 0 (omega arith) image left)) run }
+            record { good = kept.0; held = kept.1; fresh = λ run own fresh. fresh_begun new beat (λ image left. has_begun image (put_images beat from to 0 (omega arith) image left)) run }
       ])
 
     -- at a beat of the call a line was said before, or is the one that is said
@@ -301,4 +301,4 @@ module _ (speech : Speech) (first : ℕ) (start old new : SiteView) (so_far : Ag
           lines = λ image records left are other is_line said. line_cases line keeps.goes_on.later gained beat from to other said;
         } in
         let kept = line_is_said speech first old old.disk.beat new beat line (record { only = only; stands = stands }) now.good now.held in
-        record { good = kept.0; held = kept.1; fresh = λ run fresh. fresh_shrinks old old.disk.beat new beat images (same_puts puts beat from) run (now.fresh run fresh) })
+        record { good = kept.0; held = kept.1; fresh = λ run own fresh. fresh_shrinks old old.disk.beat new beat images (same_puts puts beat from) run (now.fresh run own fresh) })

@@ -1,4 +1,4 @@
--- What the laws ask is needed: the sites below are blank but for one parcel or one line, and each breaks agreement.
+-- What the laws ask is needed: the sites below are blank but for one parcel, one line or one image, and each breaks agreement.
 use Rattle.std.proofs.Common.{◌≡◌, inl, inr, ℕ, nat_le, true, false, List, [], ◌∷◌, ◌++◌, refl, sym, ◌∙◌, subst, arith, length}
 use Rattle.std.specs.Prelude.{Contains, Some, None, slice_get, codes}
 use Rattle.std.proofs.lemmas.Bool.{leb-true, le-leb}

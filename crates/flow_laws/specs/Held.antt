@@ -23,7 +23,7 @@ pub record Speech : Type 0 where
 abbrev pub plain : Speech
 plain = record { head = λ run. []; is_own = λ run. true }
 
--- a line that speaks of a record of this run: it looks like a record's behind what stands before it
+-- a line that speaks of a record of this run: behind what stands before it, it looks like a record's; what is said at once is one line
 pub record IsRunLine (speech : Speech) (run : Option ℕ) (bytes : List ℕ) : Type 0 where
   pub line : List ℕ
   pub looks : IsRecordLine line

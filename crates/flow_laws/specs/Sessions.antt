@@ -23,7 +23,7 @@ pub record IsRestart (old : SiteView) (beat : ℕ) (new : SiteView) : Type 0 whe
   pub puts : AreCopies old beat new
   pub said : (bytes : List ℕ) → WasSaid new new.disk.beat bytes → WasSaid old beat bytes
 
--- The same with a journal that was taken away: it is empty, and no line of a record was said on the new site.
+-- The same with a journal that was taken away: it stands for the empty list, and no line of a record was said on the new site.
 pub record IsNewRun (speech : Speech) (old : SiteView) (beat : ℕ) (new : SiteView) : Type 0 where
   pub some : HasImage old 0 beat
   pub empty : (image : List ℕ) → IsLeft new.disk 0 new.disk.beat image → Stands image []
@@ -36,7 +36,7 @@ pub record IsStart (speech : Speech) (site : SiteView) : Type 0 where
   pub good : IsGood site site.disk.beat
   pub held : IsHeldAs speech site (puts_of site) site.disk.beat
 
--- A site that no session used: each of its files is empty, no parcel was put, and no line of a record was said.
+-- A site that no session used: each of its files stands for the empty list, no parcel was put, and no line of a record was said.
 pub record IsBlank (speech : Speech) (site : SiteView) : Type 0 where
   pub empty : (file : ℕ) (image : List ℕ) → file ≤ 16 → IsLeft site.disk file site.disk.beat image → Stands image []
   pub none_put : told_list site.link.puts ≡ []

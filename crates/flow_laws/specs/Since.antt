@@ -5,11 +5,11 @@ use Rattle.flow_laws.specs.Good.{IsGood}
 use Rattle.flow_laws.specs.Held.{Speech, IsHeldAs}
 use Rattle.flow_laws.specs.Fresh.{IsFresh}
 
--- at one beat of a session: `start` is the site when it began, and `first` how many parcels had been put by then
+-- at one beat of a session: `start` is the site when it began, and `first`, which is handed in, how many parcels had been put by then
 pub record Agreed (speech : Speech) (first : ℕ) (start site : SiteView) (beat : ℕ) : Type 0 where
   pub good : IsGood site beat
   pub held : IsHeldAs speech site first beat
-  pub fresh : (run : ℕ) → IsFresh start run start.disk.beat → IsFresh site run beat
+  pub fresh : (run : ℕ) → IsTrue (speech.is_own run) → IsFresh start run start.disk.beat → IsFresh site run beat
 
 -- at each beat from the start on, where the disk is told
 pub record AgreedSince (speech : Speech) (first : ℕ) (start site : SiteView) : Type 0 where
