@@ -44,3 +44,9 @@ module _ (starts : List (List ℕ)) (log : List Call) (start calls written fault
 
   pub crash-durable : (file : ℕ) → IsDurable file disk
   crash-durable file image left = started-image files beat file (count_after beat 0) image (subst (λ (d : DiskView). IsLeft d file d.beat image) is left) ∙ sym (crash-reads file)
+
+  pub crash-image : start + length log ≤ count_after start calls → ArePicked starts log choice files → (file : ℕ) → file < length files
+      → IsLeft (disk_view starts log start calls written faults) file (count_after start calls) (disk.reads file)
+  crash-image whole picked file lt =
+      subst (λ (l : List Call). IsTrue (is_image (file_after starts l file) (disk.reads file))) (sym (take_all (count_after start calls - start) log (omega arith)))
+      (subst (λ (i : List ℕ). IsTrue (is_image (file_after starts log file) i)) (sym (crash-reads file)) (picked file lt).left)

@@ -21,7 +21,7 @@ call_of-more bytes more n (Wrote file at start end) le h = ap (wrote file at) (r
 call_of-more bytes more n (Tried file at size) le h = refl
 call_of-more bytes more n (Synced file) le h = refl
 
-calls_of-more : (bytes more : List ℕ) (n : ℕ) (entries : List Entry) → n ≤ length bytes → All (FitsIn n) entries → calls_of (bytes ++ more) entries ≡ calls_of bytes entries
+pub calls_of-more : (bytes more : List ℕ) (n : ℕ) (entries : List Entry) → n ≤ length bytes → All (FitsIn n) entries → calls_of (bytes ++ more) entries ≡ calls_of bytes entries
 calls_of-more bytes more n [] le h = refl
 calls_of-more bytes more n (entry ∷ later) le h =
     λ i. call_of-more bytes more n entry le (h 0 entry (omega arith)) i ∷ calls_of-more bytes more n later le (λ k d lt. h (suc k) d (omega arith)) i

@@ -1,11 +1,13 @@
 pub mod Beats
 pub mod EntryLemmas
 pub mod Held
+pub mod KeptLemmas
 pub mod LineLemmas
 pub mod Logged
 pub mod ParcelLemmas
 pub mod ReplayLemmas
 pub mod SiteLemmas
 pub mod Overlays
+pub mod PageLemmas
 pub mod Tears
 pub mod Crashes

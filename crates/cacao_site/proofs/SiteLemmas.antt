@@ -1,5 +1,5 @@
 -- What a put and a move of the clock do to a site whose disk stays.
-use Rattle.std.proofs.Common.{◌≡◌, inl, inr, ℕ, ◌≤◌, max, Bool, true, false, nat_lt, if◌then◌else◌, List, [], ◌∷◌, ◌++◌, replicate, refl, sym, ◌∙◌, ap, subst, arith}
+use Rattle.std.proofs.Common.{◌≡◌, inl, inr, ℕ, ◌≤◌, max, nat_lt, if◌then◌else◌, List, [], ◌∷◌, ◌++◌, replicate, refl, sym, ◌∙◌, ap, subst, arith}
 use Rattle.std.specs.Prelude.{Option, Some, None}
 use Rattle.std.proofs.lemmas.Bool.{le-ltb, lt-ltb}
 use Rattle.std.proofs.lemmas.List.{append-nil}
@@ -107,6 +107,10 @@ reaches-from moment answer more old new disk later now asked furthest shorts mis
 -- the same entries, in time up to the same beat
 pub in-time-same : {T : Type 0} (n m : ℕ) (old new : List (ℕ × T)) → n ≡ m → new ≡ old → IsInTime n (Some old) → IsInTime m (Some new)
 in-time-same n m old new e is h = subst (λ k. IsInTime k (Some new)) e (subst (λ l. IsInTime n (Some l)) (sym is) h)
+
+-- the same entries, in time up to a later beat
+pub in-time-later : {T : Type 0} (n m : ℕ) (old new : List (ℕ × T)) → n ≤ m → new ≡ old → IsInTime n (Some old) → IsInTime m (Some new)
+in-time-later {T} n m old new le e h = subst (λ (l : List (ℕ × T)). IsInTime m (Some l)) (sym e) (record { past = λ k d lt. let low = h.past k d lt in omega (arith, le, low); in_order = h.in_order })
 
 -- one entry more, with that beat
 pub in-time-push : {T : Type 0} (n at : ℕ) (old new : List (ℕ × T)) (entry : T) → at ≡ n → new ≡ old ++ (at, entry) ∷ [] → IsInTime n (Some old) → IsInTime n (Some new)

@@ -1,4 +1,4 @@
--- The calls of a `CallLog`, from its entries and the bytes of all writes.
+-- The calls of a `CallLog`, from its entries and the bytes of all writes and lines.
 use Rattle.std.specs.Prelude.{ℕ, ◌≡◌, ◌≢◌, ◌⊎◌, ◌+◌, ◌-◌, ◌<◌, ◌≤◌, List, map, take, slice_range, slice_index, length, true}
 use Rattle.cacao_site.specs.declared.entry.Entry.{Entry}
 use Rattle.cacao_site.specs.declared.entry.Entry.TheVariants.{Looked, Wrote, Tried, Synced}

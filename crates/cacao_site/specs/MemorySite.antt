@@ -22,7 +22,7 @@ abbrev pub used_of : MemorySite → ℕ
 used_of site = site.used
 
 abbrev pub view_of : MemorySite → SiteView
-view_of site = memory_view site.starts site.log.calls site.first_beat site.calls site.written site.faults (link_view site.link site.lines.lines) (clock_view site.clock)
+view_of site = memory_view site.starts site.log.calls site.first_beat site.calls site.written site.faults (link_view site.link site.log.lines) (clock_view site.clock)
 
 -- what the last sync of a file that was Ok left, or its contents at the start
 abbrev pub synced_of : MemorySite → ℕ → List ℕ
@@ -44,11 +44,12 @@ weather_of site = weather_at site.plan.weather site.turn
 abbrev pub has_room_of : MemorySite → ℕ → Bool
 has_room_of site size = nat_le (site.used + room_of (weather_of site) size) site.plan.room
 
--- the plan, the contents at the start, the lines said, the parcels and the clock stay
+-- the plan, the contents at the start, the lines said and the room for more, the parcels and the clock stay
 pub record KeepsRest (old new : MemorySite) : Type 0 where
   pub plan : new.plan ≡ old.plan
   pub starts : new.starts ≡ old.starts
-  pub lines : new.lines ≡ old.lines
+  pub lines : new.log.lines ≡ old.log.lines
+  pub line_room : new.log.most_lines ≡ old.log.most_lines
   pub first_beat : new.first_beat ≡ old.first_beat
   pub clock : new.clock ≡ old.clock
   pub link : new.link ≡ old.link

@@ -7,4 +7,4 @@ use Rattle.cacao_site.specs.SoundLemmas.{memory-sound}
 use Rattle.cacao_site.specs.declared.memory_site.MemorySite.{MemorySite}
 
 pub site-sound : (site : MemorySite) → IsSound (view_of site)
-site-sound site = memory-sound site.starts site.log.calls site.first_beat site.calls site.written site.faults site.link site.lines.lines (clock_view site.clock) (omega (arith, site.logged, site.beats)) site.said_in_time site.puts_in_time site.taken_in_time site.named
+site-sound site = memory-sound site.starts site.log.calls site.first_beat site.calls site.written site.faults site.link site.log.lines (clock_view site.clock) (omega (arith, site.logged, site.beats)) site.said_in_time site.puts_in_time site.taken_in_time site.named

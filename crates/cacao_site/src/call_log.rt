@@ -1,23 +1,26 @@
-// The record of device calls of a site in memory, in memory that was taken before.
-ghost use Rattle.std.specs.Prelude.{◌≡◌, ◌+◌, ◌^◌, ◌<◌, ◌≤◌, IfOk, IsTrue, [], ◌∷◌, ◌++◌, length};
+// The record of device calls and lines of a site in memory, in memory that was taken before.
+ghost use Rattle.std.specs.Prelude.{◌≡◌, ◌+◌, ◌^◌, ◌<◌, ◌≤◌, IfOk, OnOk, IsTrue, Some, [], ◌∷◌, ◌++◌, length, slice_get, option_map};
 ghost use Rattle.cacao_site.specs.LogView.{LogView};
 ghost use Rattle.cacao_site.specs.Replay.{looked, wrote, tried, flushed, at_rest, after_all, is_image};
 ghost use Rattle.cacao_site.specs.Entries.{IsReadAt};
 
 use crate::entry::Entry;
-use crate::replay::{fill, length_after};
+use crate::line::Line;
+use crate::replay::fill;
 use crate::room::extend_in_room;
 use crate::tear::crash_image;
 use std::alloc::{AllocError, Global};
 use std::marker::Model;
 
-/// Device calls in order, and the room for more.
+/// Device calls and lines said, each in order, with the bytes of both in one place, and the room for more.
 #[derive(Drop)]
 pub struct CallLog {
     bytes: Vec<u8>,
     entries: Vec<Entry>,
+    lines: Vec<Line>,
     room: usize,
     most: usize,
+    most_lines: usize,
 }
 
 impl Model for CallLog {
@@ -33,16 +36,110 @@ impl Model for CallLog {
 }
 
 impl CallLog {
-    /// No call, with room for `most` calls that write `room` bytes together.
-    pub fn new(alloc: Global, room: usize, most: usize) -> Result<CallLog, AllocError>
-        ensures { IfOk result (λ log. log ≡ record { calls = []; used = 0; room = room; most = most }) }
+    /// No call and no line, with room for `most` calls and `most_lines` lines of `room` bytes together.
+    pub fn new(
+        alloc: Global,
+        room: usize,
+        most: usize,
+        most_lines: usize,
+    ) -> Result<CallLog, AllocError>
+        ensures { IfOk result (λ log. log ≡ record { calls = []; lines = []; used = 0; room = room; most = most; most_lines = most_lines }) }
     {
         Ok(CallLog {
             bytes: Vec::with_capacity(alloc, room)?,
             entries: Vec::with_capacity(alloc, most)?,
+            lines: Vec::with_capacity(alloc, most_lines)?,
             room,
             most,
+            most_lines,
         })
+    }
+
+    /// The same lines and no call, with room for `most` calls, and for `most_lines` lines and `room` bytes more.
+    pub fn restart(
+        &self,
+        alloc: Global,
+        room: usize,
+        most: usize,
+        most_lines: usize,
+    ) -> Result<CallLog, AllocError>
+        ensures calls { IfOk result (λ log. log.calls ≡ []) }
+        ensures lines { IfOk result (λ log. log.lines ≡ self.now.lines) }
+        ensures room { IfOk result (λ log. log.used + room ≤ log.room) }
+        ensures most { IfOk result (λ log. log.most ≡ most) }
+        ensures most_lines { IfOk result (λ log. length log.lines + most_lines ≤ log.most_lines) }
+    {
+        let mut log = CallLog::new(alloc, 0, most, 0)?;
+        for number in 0..self.len() {
+            let said = self.line(number);
+            log.make_room(said.len(), 1)?;
+            log.say(self.beat(number), said);
+        }
+        log.make_room(room, most_lines)?;
+        Ok(log)
+    }
+
+    /// Makes room for `most_lines` lines and `room` bytes more.
+    #[tactic(auto, using(crate::proofs::LineLemmas::line_count))]
+    fn make_room(&mut self, room: usize, most_lines: usize) -> Result<(), AllocError>
+        ensures calls { self.new.calls ≡ self.old.calls }
+        ensures lines { self.new.lines ≡ self.old.lines }
+        ensures used { self.new.used ≡ self.old.used }
+        ensures most { self.new.most ≡ self.old.most }
+        ensures room { OnOk result (self.new.used + room ≤ self.new.room) }
+        ensures most_lines { OnOk result (length self.new.lines + most_lines ≤ self.new.most_lines) }
+    {
+        self.bytes.reserve(room)?;
+        self.lines.reserve(most_lines)?;
+        self.room = self.bytes.capacity();
+        self.most_lines = self.lines.capacity();
+        Ok(())
+    }
+
+    /// How many lines there are.
+    #[tactic(auto, using(crate::proofs::LineLemmas::line_count))]
+    pub fn len(&self) -> usize
+        ensures { result ≡ length self.now.lines }
+    {
+        self.lines.len()
+    }
+
+    /// The bytes of a line, by its number from 0.
+    #[tactic(auto, using(crate::proofs::LineLemmas::line_count))]
+    pub fn line(&self, number: usize) -> &[u8]
+        requires { number < length self.now.lines }
+        ensures { option_map (λ line. line.1) (slice_get self.now.lines number) ≡ Some result.now }
+    {
+        let line = self.lines[number];
+        &self.bytes[line.start..line.end]
+    }
+
+    /// The beat of a line, by its number from 0.
+    #[tactic(auto, using(crate::proofs::LineLemmas::line_count))]
+    fn beat(&self, number: usize) -> u64
+        requires { number < length self.now.lines }
+        ensures { option_map (λ line. line.0) (slice_get self.now.lines number) ≡ Some result }
+    {
+        self.lines[number].beat
+    }
+
+    /// Adds a line, for which there is room.
+    #[tactic(auto, using(crate::proofs::LineLemmas::line_count))]
+    pub fn say(&mut self, beat: u64, bytes: &[u8])
+        requires line { length self.old.lines < self.old.most_lines }
+        requires bytes { self.old.used + length bytes.now ≤ self.old.room }
+        ensures lines { self.new.lines ≡ self.old.lines ++ (beat, bytes.now) ∷ [] }
+        ensures count { length self.new.lines ≡ length self.old.lines + 1 }
+        ensures calls { self.new.calls ≡ self.old.calls }
+        ensures used { self.new.used ≡ self.old.used + length bytes.now }
+        ensures room { self.new.room ≡ self.old.room }
+        ensures most { self.new.most ≡ self.old.most }
+        ensures most_lines { self.new.most_lines ≡ self.old.most_lines }
+    {
+        let start = self.bytes.len();
+        extend_in_room(&mut self.bytes, bytes);
+        let end = self.bytes.len();
+        self.lines.push_reserved(Line { beat, start, end });
     }
 
     /// Adds a call that changed no file.
@@ -54,6 +151,8 @@ impl CallLog {
         ensures used { self.new.used ≡ self.old.used }
         ensures room { self.new.room ≡ self.old.room }
         ensures most { self.new.most ≡ self.old.most }
+        ensures lines { self.new.lines ≡ self.old.lines }
+        ensures most_lines { self.new.most_lines ≡ self.old.most_lines }
     {
         self.entries.push_reserved(Entry::Looked);
     }
@@ -69,6 +168,8 @@ impl CallLog {
         ensures used { self.new.used ≡ self.old.used + length bytes.now }
         ensures room { self.new.room ≡ self.old.room }
         ensures most { self.new.most ≡ self.old.most }
+        ensures lines { self.new.lines ≡ self.old.lines }
+        ensures most_lines { self.new.most_lines ≡ self.old.most_lines }
     {
         let start = self.bytes.len();
         extend_in_room(&mut self.bytes, bytes);
@@ -92,6 +193,8 @@ impl CallLog {
         ensures used { self.new.used ≡ self.old.used }
         ensures room { self.new.room ≡ self.old.room }
         ensures most { self.new.most ≡ self.old.most }
+        ensures lines { self.new.lines ≡ self.old.lines }
+        ensures most_lines { self.new.most_lines ≡ self.old.most_lines }
     {
         self.entries.push_reserved(Entry::Tried { file, at, size });
     }
@@ -105,15 +208,10 @@ impl CallLog {
         ensures used { self.new.used ≡ self.old.used }
         ensures room { self.new.room ≡ self.old.room }
         ensures most { self.new.most ≡ self.old.most }
+        ensures lines { self.new.lines ≡ self.old.lines }
+        ensures most_lines { self.new.most_lines ≡ self.old.most_lines }
     {
         self.entries.push_reserved(Entry::Synced { file });
-    }
-
-    /// The length of a file in bytes after the calls, from its contents at the start.
-    pub fn length(&self, file: u8, start: &[u8]) -> u64
-        ensures { result ≡ length (after_all file (at_rest start.now) self.now.calls).reads }
-    {
-        length_after(&self.bytes, &self.entries, file, start)
     }
 
     /// Fills the buffer with what a file has from place `at` on after the calls, and with zeros past its end.

@@ -5,6 +5,9 @@ use crate::bytes::Bytes;
 use std::alloc::{AllocError, Global};
 use std::marker::Model;
 
+/// How many files a site has.
+pub const FILES: u8 = 17;
+
 /// What files hold, in order of their numbers from 0.
 #[derive(Drop)]
 pub struct FileList {

@@ -29,11 +29,11 @@ impl Disk for MemorySite {
         ensures used { used_of self.new ≡ used_of self.old }
     {
         if self.fails(0) {
-            self.pass(0, self.faults.saturating_add(1));
+            self.pass_failed();
             return Err(Failed);
         }
-        let size = self.log.length(file, self.starts.file(file));
-        self.pass(0, self.faults);
+        let size = self.length_of(file);
+        self.pass();
         Ok(size)
     }
 
@@ -55,11 +55,11 @@ impl Disk for MemorySite {
         ensures used { used_of self.new ≡ used_of self.old }
     {
         if self.fails(0) {
-            self.pass(0, self.faults.saturating_add(1));
+            self.pass_failed();
             return Err(Failed);
         }
         let count = self.read_front(file, at, into);
-        self.pass(0, self.faults);
+        self.pass();
         Ok(count)
     }
 
@@ -107,7 +107,7 @@ impl Disk for MemorySite {
         ensures used { used_of self.new ≡ used_of self.old }
     {
         if self.fails(0) {
-            self.pass(0, self.faults.saturating_add(1));
+            self.pass_failed();
             return Err(Failed);
         }
         self.log_sync(file);

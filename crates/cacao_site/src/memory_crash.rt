@@ -11,15 +11,12 @@ ghost use Rattle.cacao_site.specs.Sound.{IsInTime};
 use crate::bytes::Bytes;
 use crate::call_log::CallLog;
 use crate::clock::Clock;
-use crate::file_list::FileList;
+use crate::file_list::{FILES, FileList};
+use crate::kept_files::KeptFiles;
 use crate::link::Link;
 use crate::memory_site::MemorySite;
 use crate::plan::SitePlan;
-use crate::said_lines::SaidLines;
 use std::alloc::{AllocError, Global};
-
-/// How many files a site has.
-const FILES: u8 = 17;
 
 impl MemorySite {
     ghost use Rattle.cacao_site.specs.MemorySite.{plan_of, used_of, view_of, held_of, turn_of, synced_of};
@@ -30,6 +27,9 @@ impl MemorySite {
         ensures left { IfOk result (λ site. (file : ℕ) (image : List ℕ) → file ≤ 16
             → IsLeft (view_of site).disk file (view_of site).disk.beat image
             → IsLeft (view_of self).disk file (view_of self).disk.beat image) }
+        // So is what each file of it reads as.
+        ensures image { IfOk result (λ site. (file : ℕ) → file ≤ 16
+            → IsLeft (view_of self).disk file (view_of self).disk.beat ((view_of site).disk.reads file)) }
         ensures reads { IfOk result (λ site. (file : ℕ) → file ≤ 16 → choice ≡ 0
             → (view_of site).disk.reads file ≡ (view_of self).disk.reads file) }
         ensures synced { IfOk result (λ site. (file : ℕ) → file ≤ 16 → choice ≡ 1
@@ -51,7 +51,7 @@ impl MemorySite {
     {
         let files = self.picked_files(choice)?;
         let beat = self.first_beat.saturating_add(self.calls);
-        MemorySite::restart(self.alloc, self.plan, files, self.lines, self.link, beat)
+        MemorySite::restart(self.alloc, self.plan, files, self.log, self.link, beat)
     }
 
     /// The site after a crash at this moment, where `choice` picks what each file then holds, under another plan.
@@ -66,6 +66,9 @@ impl MemorySite {
         ensures left { IfOk result (λ site. (file : ℕ) (image : List ℕ) → file ≤ 16
             → IsLeft (view_of site).disk file (view_of site).disk.beat image
             → IsLeft (view_of self).disk file (view_of self).disk.beat image) }
+        // So is what each file of it reads as.
+        ensures image { IfOk result (λ site. (file : ℕ) → file ≤ 16
+            → IsLeft (view_of self).disk file (view_of self).disk.beat ((view_of site).disk.reads file)) }
         ensures reads { IfOk result (λ site. (file : ℕ) → file ≤ 16 → choice ≡ 0
             → (view_of site).disk.reads file ≡ (view_of self).disk.reads file) }
         ensures synced { IfOk result (λ site. (file : ℕ) → file ≤ 16 → choice ≡ 1
@@ -87,7 +90,7 @@ impl MemorySite {
     {
         let files = self.picked_files(choice)?;
         let beat = self.first_beat.saturating_add(self.calls);
-        MemorySite::restart(self.alloc, plan, files, self.lines, self.link, beat)
+        MemorySite::restart(self.alloc, plan, files, self.log, self.link, beat)
     }
 
     /// What each file holds after a crash now.
@@ -105,22 +108,22 @@ impl MemorySite {
         Ok(files)
     }
 
-    /// A site that begins at a beat with these files, lines and parcels.
+    /// A site that begins at a beat with these files and parcels, and with the lines of this record.
     ///
     /// It has no memory for the record where its calls could pass the last beat.
     fn restart(
         alloc: Global,
         plan: SitePlan,
         starts: FileList,
-        mut lines: SaidLines,
+        was: CallLog,
         mut link: Link,
         beat: u64,
     ) -> Result<MemorySite, AllocError>
-        requires lines { IsInTime beat (Some lines.lines) }
+        requires lines { IsInTime beat (Some was.lines) }
         requires puts { IsInTime beat (Some link.puts.items) }
         requires taken { IsInTime beat (Some link.taken.items) }
         requires named { AreNamed link.puts.items link.pending.items link.held.items link.taken.items }
-        ensures view { IfOk result (λ site. view_of site ≡ memory_view starts [] beat 0 0 0 (link_view link lines.lines) (clock_at plan.start)) }
+        ensures view { IfOk result (λ site. view_of site ≡ memory_view starts [] beat 0 0 0 (link_view link was.lines) (clock_at plan.start)) }
         ensures held { IfOk result (λ site. held_of site ≡ all_marked_at link.puts.items link.held.items) }
         ensures turn { IfOk result (λ site. turn_of site ≡ 0) }
         ensures plan { IfOk result (λ site. plan_of site ≡ plan) }
@@ -129,16 +132,17 @@ impl MemorySite {
         if u64::MAX - beat <= u64::from(plan.calls) {
             return Err(AllocError);
         }
-        let log = CallLog::new(alloc, plan.room as usize, plan.calls as usize + 1)?;
-        lines.make_room(plan.room as usize, plan.calls as usize)?;
+        let kept = KeptFiles::new(alloc, &starts, plan.room as usize)?;
+        let calls = plan.calls as usize;
+        let log = was.restart(alloc, plan.room as usize, calls + 1, calls)?;
         link.make_room(plan.slots()?)?;
         let clock = Clock::new(plan.start);
         Ok(MemorySite {
             alloc,
             plan,
             starts,
+            kept,
             log,
-            lines,
             first_beat: beat,
             calls: 0,
             written: 0,

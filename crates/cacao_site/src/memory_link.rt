@@ -130,7 +130,7 @@ impl Site for MemorySite {
         ensures unused { OnErr result (used_of self.new ≡ used_of self.old) }
     {
         if self.fails(bytes.len()) {
-            self.pass_disk();
+            self.pass();
             self.clock.unsaid = self.clock.unsaid.saturating_add(1);
             return Err(Failed);
         }

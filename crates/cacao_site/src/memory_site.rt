@@ -3,6 +3,8 @@ ghost use Rattle.std.specs.Prelude.{◌≡◌, ◌+◌, ◌-◌, ◌*◌, vec_le
 ghost use Rattle.cacao_site.specs.Counts.{next_count, count_after, last_count};
 ghost use Rattle.cacao_site.specs.DiskCalls.{CallsOn, StaysAt, KeepsDisk, Follows, Spreads, Same, Torn, Written, IsDurable};
 ghost use Rattle.cacao_site.specs.Clock.{clock_at};
+ghost use Rattle.cacao_site.specs.Entries.{IsReadAt};
+ghost use Rattle.cacao_site.specs.KeptFiles.{AreKept};
 ghost use Rattle.std.specs.VecDeque.{deque_len, deque_capacity};
 ghost use Rattle.cacao_site.specs.MemoryView.{memory_view, no_link};
 ghost use Rattle.cacao_site.specs.Parcels.{AreNamed};
@@ -12,22 +14,23 @@ ghost use Rattle.cacao_site.specs.Sound.{IsInTime};
 use crate::call_log::CallLog;
 use crate::clock::Clock;
 use crate::file_list::FileList;
+use crate::kept_files::KeptFiles;
 use crate::link::Link;
 use crate::parcel::Parcel;
 use crate::plan::SitePlan;
-use crate::said_lines::SaidLines;
 use std::alloc::{AllocError, Global};
 
 /// A site that tells everything, at each past beat too, and fails exactly by its plan.
 ///
-/// It keeps a record of its device calls. A crash may leave what the record allows.
+/// It keeps a record of its device calls, by which a crash picks what it leaves, and beside it what each file reads
+/// as at present.
 #[derive(Drop)]
 pub struct MemorySite {
     pub(crate) alloc: Global,
     pub(crate) plan: SitePlan,
     pub(crate) starts: FileList,
+    pub(crate) kept: KeptFiles,
     pub(crate) log: CallLog,
-    pub(crate) lines: SaidLines,
     pub(crate) first_beat: u64,
     pub(crate) calls: u64,
     pub(crate) written: u64,
@@ -41,12 +44,12 @@ pub struct MemorySite {
     ghost in_room: { used ≤ plan.room },
     ghost handed: { written ≤ last_count },
     ghost beats: { first_beat + plan.calls < last_count },
+    ghost are_kept: { AreKept starts log.calls kept },
     ghost logged: { length log.calls ≡ min calls (plan.calls + 1) },
     ghost log_most: { length log.calls + (plan.calls + 1 - calls) ≤ log.most },
     ghost log_room: { log.used + (plan.room - used) ≤ log.room },
-    ghost line_most: { length lines.lines + (plan.calls - calls) ≤ lines.most },
-    ghost line_room: { lines.used + (plan.room - used) ≤ lines.room },
-    ghost said_in_time: { IsInTime (count_after first_beat calls) (Some lines.lines) },
+    ghost line_most: { length log.lines + (plan.calls - calls) ≤ log.most_lines },
+    ghost said_in_time: { IsInTime (count_after first_beat calls) (Some log.lines) },
     ghost turns: { turn ≤ length plan.weather },
     ghost put_slots: { 64 * (vec_len link.puts + (length plan.weather - turn)) + (plan.room - used) ≤ 64 * vec_capacity link.puts },
     ghost pending_slots: { 64 * (deque_len link.pending + vec_len link.held) + (plan.room - used) ≤ 64 * deque_capacity link.pending },
@@ -69,16 +72,18 @@ impl MemorySite {
         ensures plan { IfOk result (λ site. plan_of site ≡ plan) }
         ensures used { IfOk result (λ site. used_of site ≡ 0) }
     {
-        let log = CallLog::new(alloc, plan.room as usize, plan.calls as usize + 1)?;
-        let lines = SaidLines::new(alloc, plan.room as usize, plan.calls as usize)?;
+        let starts = FileList::new(alloc);
+        let kept = KeptFiles::new(alloc, &starts, plan.room as usize)?;
+        let calls = plan.calls as usize;
+        let log = CallLog::new(alloc, plan.room as usize, calls + 1, calls)?;
         let link = Link::new(alloc, plan.slots()?)?;
         let clock = Clock::new(plan.start);
         Ok(MemorySite {
             alloc,
             plan,
-            starts: FileList::new(alloc),
+            starts,
+            kept,
             log,
-            lines,
             first_beat: 0,
             calls: 0,
             written: 0,
@@ -94,7 +99,7 @@ impl MemorySite {
     pub fn line_count(&self) -> usize
         ensures { IfSome (view_of self.now).link.said (λ said. result ≡ length said) }
     {
-        self.lines.len()
+        self.log.len()
     }
 
     /// The bytes of a line said, by its number from 0.
@@ -102,7 +107,7 @@ impl MemorySite {
         requires { IfSome (view_of self.now).link.said (λ said. n < length said) }
         ensures { IfSome (view_of self.now).link.said (λ said. option_map (λ line. line.1) (slice_get said n) ≡ Some result.now) }
     {
-        self.lines.line(n)
+        self.log.line(n)
     }
 
     /// How many parcels were put, but for those that were lost for want of room.
@@ -148,8 +153,33 @@ impl MemorySite {
             || self.plan.failing.contains(self.calls as u32)
     }
 
-    /// One device call that changes no file, which was handed so many bytes; `faults` is the count after it.
-    pub(crate) fn pass(&mut self, bytes: usize, faults: u64)
+    /// One device call that changes no file and counts no fault of the disk.
+    pub(crate) fn pass(&mut self)
+        ensures call { (file : ℕ) → CallsOn file 0 (view_of self.old).disk (view_of self.new).disk }
+        ensures stays { (file : ℕ) → StaysAt (view_of self.old).disk (view_of self.new).disk file }
+        ensures keeps { KeepsDisk (view_of self.old).disk (view_of self.new).disk }
+        ensures calls { self.new.calls ≡ next_count self.old.calls }
+        ensures faults { self.new.faults ≡ self.old.faults }
+        ensures used { self.new.used ≡ self.old.used }
+        ensures rest { KeepsRest self.old self.new }
+    {
+        self.add_call(0, self.faults)
+    }
+
+    /// One call of the disk that changes no file and fails: one fault more.
+    pub(crate) fn pass_failed(&mut self)
+        ensures call { (file : ℕ) → CallsOn file 0 (view_of self.old).disk (view_of self.new).disk }
+        ensures stays { (file : ℕ) → StaysAt (view_of self.old).disk (view_of self.new).disk file }
+        ensures calls { self.new.calls ≡ next_count self.old.calls }
+        ensures faults { self.new.faults ≡ next_count self.old.faults }
+        ensures used { self.new.used ≡ self.old.used }
+        ensures rest { KeepsRest self.old self.new }
+    {
+        self.add_call(0, self.faults.saturating_add(1))
+    }
+
+    /// Adds a call that changes no file, which was handed so many bytes; `faults` is the count after it.
+    fn add_call(&mut self, bytes: usize, faults: u64)
         requires { self.old.faults ≤ faults }
         ensures call { (file : ℕ) → CallsOn file bytes (view_of self.old).disk (view_of self.new).disk }
         ensures stays { (file : ℕ) → StaysAt (view_of self.old).disk (view_of self.new).disk file }
@@ -166,17 +196,8 @@ impl MemorySite {
         }
     }
 
-    /// One device call that keeps the disk.
-    pub(crate) fn pass_disk(&mut self)
-        ensures keeps { KeepsDisk (view_of self.old).disk (view_of self.new).disk }
-        ensures calls { self.new.calls ≡ next_count self.old.calls }
-        ensures used { self.new.used ≡ self.old.used }
-        ensures rest { KeepsRest self.old self.new }
-    {
-        self.pass(0, self.faults)
-    }
-
     /// Such a call, for which the record has room.
+    #[tactic(auto, using(crate::proofs::KeptLemmas::kept_steps))]
     fn log_look(&mut self, bytes: usize, faults: u64)
         requires open { self.old.calls ≤ self.old.plan.calls }
         requires up { self.old.faults ≤ faults }
@@ -212,9 +233,11 @@ impl MemorySite {
     }
 
     /// One write that is done.
+    #[tactic(auto, using(crate::proofs::KeptLemmas::kept_steps))]
     pub(crate) fn log_write(&mut self, file: u8, at: u64, bytes: &[u8])
         requires open { self.old.calls < self.old.plan.calls }
         requires room { self.old.used + length bytes.now ≤ self.old.plan.room }
+        requires file { file ≤ 16 }
         requires fits { at + length bytes.now ≤ 67_108_864 }
         ensures call { CallsOn file (length bytes.now) (view_of self.old).disk (view_of self.new).disk }
         ensures follows { Follows file (Torn at (length bytes.now)) (view_of self.old).disk (view_of self.new).disk }
@@ -225,12 +248,14 @@ impl MemorySite {
         ensures rest { KeepsRest self.old self.new }
     {
         self.log.write(file, at, bytes);
+        self.kept.write(file, at, bytes);
         self.calls = self.calls.saturating_add(1);
         self.written = self.written.saturating_add(bytes.len() as u64);
         self.used += bytes.len() as u64;
     }
 
     /// One write that fails.
+    #[tactic(auto, using(crate::proofs::KeptLemmas::kept_steps))]
     pub(crate) fn log_failed_write(&mut self, file: u8, at: u64, size: usize)
         requires open { self.old.calls ≤ self.old.plan.calls }
         requires fits { at + size ≤ 67_108_864 }
@@ -249,6 +274,7 @@ impl MemorySite {
     }
 
     /// One sync that is done.
+    #[tactic(auto, using(crate::proofs::KeptLemmas::kept_steps))]
     pub(crate) fn log_sync(&mut self, file: u8)
         requires { self.old.calls < self.old.plan.calls }
         ensures call { CallsOn file 0 (view_of self.old).disk (view_of self.new).disk }
@@ -288,32 +314,55 @@ impl MemorySite {
         requires room { self.old.used + length bytes.now ≤ self.old.plan.room }
         ensures keeps { KeepsDisk (view_of self.old).disk (view_of self.new).disk }
         ensures calls { self.new.calls ≡ next_count self.old.calls }
-        ensures lines { self.new.lines.lines ≡ self.old.lines.lines ++ ((view_of self.new).disk.beat, bytes.now) ∷ [] }
+        ensures lines { self.new.log.lines ≡ self.old.log.lines ++ ((view_of self.new).disk.beat, bytes.now) ∷ [] }
         ensures used { self.new.used ≡ self.old.used + length bytes.now }
         ensures plan { self.new.plan ≡ self.old.plan }
         ensures clock { self.new.clock ≡ self.old.clock }
         ensures link { self.new.link ≡ self.old.link }
         ensures turn { self.new.turn ≡ self.old.turn }
     {
-        self.pass_disk();
+        self.pass();
         self.used += bytes.len() as u64;
         let beat = self.first_beat + self.calls;
-        self.lines.push(beat, bytes);
+        self.log.say(beat, bytes);
     }
 
     /// Fills the front of the buffer with what the file has from place `at` on, and answers how many bytes that is.
     pub(crate) fn read_front(&self, file: u8, at: u64, into: &mut [u8]) -> u32
-        requires { length into.old ≤ 4_096 }
+        requires file { file ≤ 16 }
+        requires size { length into.old ≤ 4_096 }
         ensures count { result ≤ length into.old }
         ensures bytes { take result into.new ≡ take (length into.old) (drop at ((view_of self.now).disk.reads file)) }
         ensures behind { drop result into.new ≡ drop result into.old }
     {
-        let start = self.starts.file(file);
-        let left = self.log.length(file, start).saturating_sub(at);
+        let left = self.length_of(file).saturating_sub(at);
         let count = left.min(into.len() as u64);
         if count > 0 {
-            self.log.fill(file, start, at, &mut into[..count as usize]);
+            self.fill(file, at, &mut into[..count as usize]);
         }
         count as u32
+    }
+
+    /// The file's length in bytes.
+    pub(crate) fn length_of(&self, file: u8) -> u64
+        requires { file ≤ 16 }
+        ensures { result ≡ length ((view_of self.now).disk.reads file) }
+    {
+        self.kept.length(file)
+    }
+
+    /// Fills the buffer with what the file has from place `at` on, and with zeros past its end.
+    ///
+    /// It goes through the record of calls only where the file is not kept.
+    fn fill(&self, file: u8, at: u64, into: &mut [u8])
+        requires file { file ≤ 16 }
+        requires end { at + length into.old < 2 ^ 64 }
+        ensures { IsReadAt ((view_of self.now).disk.reads file) at into.new }
+    {
+        if self.kept.is_whole(file) {
+            self.kept.fill(file, at, into);
+            return;
+        }
+        self.log.fill(file, self.starts.file(file), at, into);
     }
 }

@@ -7,7 +7,7 @@ use crate::entry::Entry;
 use std::alloc::{AllocError, Global};
 
 /// The length of the file in bytes after these calls, from its contents at the start.
-pub fn length_after(bytes: &[u8], entries: &[Entry], file: u8, start: &[u8]) -> u64
+fn length_after(bytes: &[u8], entries: &[Entry], file: u8, start: &[u8]) -> u64
     requires { All (FitsIn (length bytes.now)) entries.now }
     ensures { result ≡ length (after_all file (at_rest start.now) (calls_of bytes.now entries.now)).reads }
 {

@@ -9,7 +9,7 @@ use std::{fs, io};
 
 /// Why a test ends early.
 #[derive(Debug, Drop)]
-enum Ends {
+pub enum Ends {
     Failed,
     Memory,
 }

@@ -1,6 +1,5 @@
 -- The parcel joins the puts, and copies of it arrive.
 use Rattle.std.proofs.Common.{arith, refl, rules}
-use Rattle.cacao_site.specs.MemorySite.{view_of}
 use Rattle.cacao_site.proofs.SiteLemmas.{in-time-push, in-time-same, puts-carried}
 use Rattle.cacao_site.proofs.memory_site.MemorySite.carry.Goals as goal
 
@@ -13,11 +12,11 @@ invariant_of-self c = record {
   in_room = omega arith;
   handed = omega arith;
   beats = omega arith;
+  are_kept = c.args.self.now.are_kept;
   logged = search rules;
   log_most = search rules;
   log_room = omega arith;
   line_most = search rules;
-  line_room = omega arith;
   said_in_time = search rules;
   turns = omega arith;
   put_slots = omega (arith, c.next_turn-turn.ensures);

@@ -2,7 +2,7 @@
 use Rattle.std.proofs.Common.{ap, ◌∙◌, arith}
 use Rattle.cacao_site.specs.MemorySite.{view_of}
 use Rattle.cacao_site.specs.View.{SiteView}
-use Rattle.cacao_site.proofs.Crashes.{crash-left, crash-reads, crash-durable}
+use Rattle.cacao_site.proofs.Crashes.{crash-image, crash-left, crash-reads, crash-durable}
 use Rattle.cacao_site.proofs.Tears.{if_ok}
 use Rattle.cacao_site.proofs.memory_site.MemorySite.crash.Goals as goal
 
@@ -23,3 +23,8 @@ returns-clause-synced c =
 
 pub returns-clause-durable : goal.returns-clause-durable
 returns-clause-durable c = if_ok c.restart.result (λ site e. crash-durable c.args.self.starts c.args.self.log.calls c.args.self.first_beat c.args.self.calls c.args.self.written c.args.self.faults c.args.choice c.saturating_add-beat.result c.in_ok-files.files (view_of site).disk (ap (λ (v : SiteView). v.disk) e)) c.restart.ensures.view
+
+pub returns-clause-image : goal.returns-clause-image
+returns-clause-image c =
+    if_ok c.restart.result (λ site e file le. crash-image c.args.self.starts c.args.self.log.calls c.args.self.first_beat c.args.self.calls c.args.self.written c.args.self.faults c.args.choice c.saturating_add-beat.result c.in_ok-files.files (view_of site).disk (ap (λ (v : SiteView). v.disk) e) (omega arith) c.in_ok-files.ensures.picked file (omega (arith, le, c.in_ok-files.ensures.count)))
+    c.restart.ensures.view

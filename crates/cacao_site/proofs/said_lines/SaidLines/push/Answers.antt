@@ -1,9 +1,0 @@
--- The lines as they were, and the new one.
-use Rattle.std.proofs.Common.{arith, vec_len}
-use Rattle.cacao_site.proofs.LineLemmas.{lines_of-push}
-use Rattle.cacao_site.proofs.said_lines.SaidLines.push.Goals as goal
-
-pub returns-clause-lines : goal.returns-clause-lines
-returns-clause-lines c =
-    rw (c.extend_in_room.ensures.items, c.push_reserved.ensures.items, ← c.self.view_is)
-    (lines_of-push c.self.inside.text.items c.args.bytes.now (vec_len c.self.inside.text) c.self.inside.lines.items (record { beat = c.args.beat; start = c.len-start.result; end = c.len-end.result }) (omega arith) c.self.invariant.in_text (omega arith) (omega arith))
