@@ -1,7 +1,6 @@
 -- How many nets of a width an index has.
-use Rattle.std.proofs.Common.{◌≡◌, ℕ, suc, ◌+◌, ◌<◌, ◌≤◌, Bool, true, false, cond, ◌==◌, ◌&&◌, ◌||◌, List, [], ◌∷◌, length, Option, Some, None, is_some, count_by, Ordering, Less, Equal, Greater, nat_cmp, refl, sym, ap, ap₂, ◌∙◌, arith}
+use Rattle.std.proofs.Common.{◌≡◌, ℕ, ◌+◌, ◌≤◌, Bool, true, false, cond, ◌==◌, ◌&&◌, ◌||◌, List, [], ◌∷◌, length, Option, Some, None, is_some, count_by, Ordering, Less, Equal, Greater, nat_cmp, refl, sym, ap, ap₂, ◌∙◌, arith}
 use Rattle.std.specs.List.{list_any}
-use Rattle.std.specs.Cmp.{Equal-is}
 use Rattle.std.specs.Map.{keys_of, lookup, remove_entry}
 use Rattle.std.specs.Set.{remove_key}
 use Rattle.std.specs.BTreeMap.{insert_entry, is_at}
@@ -14,7 +13,6 @@ use Rattle.slpf_rules.specs.declared.any_nets.AnyNet.{AnyNet}
 use Rattle.slpf_rules.specs.AnyNets.{family, bits, width, net_cmp}
 use Rattle.slpf_rules.specs.Widths.{has_width_of}
 use Rattle.slpf_rules.specs.IndexEntries.{at}
-use Rattle.slpf_rules.proofs.NumberTests.{eq_is}
 
 -- ---- keys
 

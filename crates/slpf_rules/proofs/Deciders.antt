@@ -1,5 +1,5 @@
 -- The least number that decides, width by width.
-use Rattle.std.proofs.Common.{◌≡◌, ℕ, ◌+◌, Bool, true, false, cond, ◌||◌, ◌&&◌, List, [], filter, find, Option, Some, None, unwrap_or, refl, sym, ap, ◌∙◌}
+use Rattle.std.proofs.Common.{◌≡◌, ℕ, ◌+◌, Bool, true, false, ◌||◌, ◌&&◌, List, [], filter, find, Option, None, unwrap_or, refl, sym, ap, ◌∙◌}
 use Rattle.oc2_nets.specs.declared.flows.Flow.{Flow}
 use Rattle.oc2_nets.specs.declared.packets.Address.{Address}
 use Rattle.oc2_nets.specs.declared.packets.Packet.{Packet}
@@ -13,7 +13,7 @@ use Rattle.slpf_rules.specs.IndexEntries.{at}
 use Rattle.slpf_rules.specs.Verdicts.{decides, least}
 use Rattle.slpf_rules.specs.Deciding.{sooner, smallest, number_decides, holds, holds_below, decides_in, decides_below}
 use Rattle.slpf_rules.proofs.Indexed.{files, unwrap_listed}
-use Rattle.slpf_rules.proofs.NetWidths.{holds_below-zero, is_found, found_decides}
+use Rattle.slpf_rules.proofs.NetWidths.{holds_below-zero, found_decides}
 use Rattle.slpf_rules.proofs.Smallest.{smallest-or, smallest-same, smallest-none, first_decides, found_at, least_is_found}
 
 distribute : (a b d : Bool) → ((a && d) || (b && d)) ≡ ((a || b) && d)

@@ -1,6 +1,6 @@
 -- The map of rules by number, as the list of its rules.
-use Rattle.std.proofs.Common.{◌≡◌, ℕ, zero, suc, ◌+◌, ◌<◌, ◌≤◌, max, Bool, true, false, cond, ◌==◌, nat_lt, not, ◌||◌, List, [], ◌∷◌, length, filter, find, Option, Some, None, is_some, Ordering, Less, Equal, Greater, nat_cmp, refl, sym, ap, ap₂, subst, ◌∙◌, arith, All, slice_get, unwrap_or, option_map}
-use Rattle.std.specs.List.{list_any, AllByRecursion}
+use Rattle.std.proofs.Common.{◌≡◌, ℕ, zero, suc, ◌≤◌, Bool, true, false, cond, ◌==◌, not, List, [], ◌∷◌, Some, is_some, Ordering, Less, Equal, Greater, nat_cmp, refl, sym, ap, ap₂, subst, ◌∙◌, arith, All, slice_get, unwrap_or, option_map}
+use Rattle.std.specs.List.{AllByRecursion}
 use Rattle.std.specs.Map.{keys_of, values_of, lookup, remove_entry}
 use Rattle.std.specs.BTreeMap.{insert_entry, is_at}
 use Rattle.std.specs.Ordering.{is_eq, is_lt, match_ordering}

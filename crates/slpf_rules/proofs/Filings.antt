@@ -1,5 +1,5 @@
 -- Where the rules are filed after one was placed or taken out.
-use Rattle.std.proofs.Common.{◌≡◌, ℕ, Bool, true, false, ◌==◌, ◌&&◌, not, List, filter, Option, Some, None, is_none, nat_cmp, refl, sym, ap, ◌∙◌}
+use Rattle.std.proofs.Common.{◌≡◌, ℕ, true, false, ◌==◌, ◌&&◌, not, List, filter, Option, Some, None, is_none, nat_cmp, refl, sym, ap, ◌∙◌}
 use Rattle.std.specs.BTreeMap.{is_at}
 use Rattle.std.specs.BTreeSet.{insert_key}
 use Rattle.std.specs.Set.{remove_key}
@@ -10,7 +10,7 @@ use Rattle.slpf_rules.specs.Order.{IsRising}
 use Rattle.slpf_rules.specs.Rules.{numbers, rule_at, is_held, place, without}
 use Rattle.slpf_rules.specs.Filed.{source_net, destination_net, is_unfiled, unfiled}
 use Rattle.slpf_rules.specs.Filing.{IsIndexOf, IsFiling}
-use Rattle.slpf_rules.proofs.Rising.{IsRising-filter, IsRising-place, filter-place, filter-place_other, is_held-filter, numbers-place, numbers-without, rule_at-place, without-place, filter_swap}
+use Rattle.slpf_rules.proofs.Rising.{IsRising-filter, filter-place, filter-place_other, is_held-filter, numbers-place, numbers-without, filter_swap}
 use Rattle.slpf_rules.proofs.Indexed.{IsIndexOf-place_none, IsIndexOf-without_none, filter-without_other}
 
 abbrev Entries : Type 0

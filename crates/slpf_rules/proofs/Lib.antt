@@ -1,5 +1,6 @@
 pub mod NumberTests
 pub mod Entries
+pub mod FoundLemmas
 pub mod Zeros
 pub mod Rising
 pub mod Indexed
@@ -7,6 +8,7 @@ pub mod Counting
 pub mod Filings
 pub mod Smallest
 pub mod NetWidths
+pub mod SoleLemmas
 pub mod Deciders
 pub mod ReplyRanges
 pub mod ReplyLengths

@@ -1,5 +1,5 @@
 -- Nets of each width round an address.
-use Rattle.std.proofs.Common.{◌≡◌, ℕ, suc, ◌+◌, ◌<◌, ◌≤◌, min, Bool, true, false, cond, ◌==◌, nat_lt, not, ◌||◌, ◌&&◌, List, [], Option, Some, None, is_none, Ordering, Less, Equal, Greater, nat_cmp, refl, sym, ap, ap₂, subst, ◌∙◌, arith}
+use Rattle.std.proofs.Common.{◌≡◌, ℕ, ◌+◌, ◌≤◌, min, Bool, true, false, ◌==◌, nat_lt, ◌||◌, ◌&&◌, Option, Some, None, is_none, nat_cmp, refl, sym, ap, subst, ◌∙◌, arith}
 use Rattle.std.specs.Ordering.{is_eq, ordering_then}
 use Rattle.std.proofs.lemmas.Bool.Decides.{nat_tests}
 use Rattle.std.proofs.lemmas.Cmp.{ranked, by_ranked}
@@ -14,7 +14,7 @@ use Rattle.oc2_nets.specs.Flows.{covers}
 use Rattle.slpf_rules.specs.declared.any_nets.AnyNet.{AnyNet}
 use Rattle.slpf_rules.specs.declared.any_nets.AnyNet.TheVariants.{V4, V6}
 use Rattle.slpf_rules.specs.declared.rules.Rule.{Rule}
-use Rattle.slpf_rules.specs.AnyNets.{family, bits, width, net_cmp}
+use Rattle.slpf_rules.specs.AnyNets.{bits, width}
 use Rattle.slpf_rules.specs.Filed.{source_net, destination_net, is_net, is_unfiled}
 use Rattle.slpf_rules.specs.Verdicts.{decides}
 use Rattle.slpf_rules.specs.Deciding.{lies_in, holds, holds_below}
@@ -59,7 +59,7 @@ same_or_above c b w n ge =
     let same : n ≡ w = omega arith in
     subst (λ k. (nat_lt k (n + 1) && (c k == b)) ≡ ((nat_lt k n && (c k == b)) || ((c n == b) && (n == k)))) same (at_width c b n))
 
-equal_parts : (b nb w nw : ℕ) → is_eq (ordering_then (nat_cmp b nb) (nat_cmp w nw)) ≡ ((b == nb) && (w == nw))
+pub equal_parts : (b nb w nw : ℕ) → is_eq (ordering_then (nat_cmp b nb) (nat_cmp w nw)) ≡ ((b == nb) && (w == nw))
 equal_parts b nb w nw =
     by_ranked _ _ _ (nat_cmp b nb) (ranked b nb (nat_cmp b nb) refl)
     (λ is lt. ap (λ o. is_eq (ordering_then o (nat_cmp w nw))) is ∙ sym (ap (λ t. t && (w == nw)) (apart_from b nb lt)))

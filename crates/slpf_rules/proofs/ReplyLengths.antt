@@ -1,8 +1,8 @@
 -- How long a response is, as it is written.
-use Rattle.std.proofs.Common.{◌≡◌, ℕ, suc, ◌+◌, ◌*◌, ◌<◌, ◌≤◌, ◌^◌, Bool, true, false, cond, ◌==◌, nat_lt, List, [], ◌∷◌, ◌++◌, length, map, Option, Some, None, codes, decimal, refl, sym, ap, subst, ◌∙◌, arith, length-append}
+use Rattle.std.proofs.Common.{◌≡◌, ℕ, ◌+◌, ◌*◌, ◌<◌, ◌≤◌, ◌^◌, Bool, true, false, cond, ◌==◌, nat_lt, List, [], ◌∷◌, length, map, Option, Some, None, codes, refl, ap, arith, length-append}
 use Rattle.std.specs.Prelude.{flat_map}
 use Rattle.std.proofs.lemmas.Fmt.{length-decimal-le}
-use Rattle.serde_json.specs.Data.{Data, string, array, object, Members, no_members, member}
+use Rattle.serde_json.specs.Data.{Data, array, object, Members, no_members, member}
 use Rattle.cacao_text.specs.Canon.{canon, escaped, string_text, after_commas, joined, member_text, in_order, item_texts, named_texts}
 use Rattle.cacao_text.proofs.Sorting.{total, total-in_order}
 use Rattle.oc2_msg.specs.declared.features.Feature.{Feature}
@@ -13,8 +13,8 @@ use Rattle.oc2_msg.specs.declared.responses.Response.{Response}
 use Rattle.oc2_msg.specs.Features.{has}
 use Rattle.oc2_msg.specs.Parts.{present, object_of, whole_data, texts}
 use Rattle.oc2_msg.specs.Reasons.{reason_text}
-use Rattle.oc2_msg.specs.Least.{part_of, unless_empty, one_member}
-use Rattle.oc2_msg.specs.Responses.{flow_kinds, one_text, feature_value, value_part, rule_part, results_part, text_part, response_data, response_text}
+use Rattle.oc2_msg.specs.Least.{unless_empty, one_member}
+use Rattle.oc2_msg.specs.Responses.{flow_kinds, one_text, feature_value, value_part, rule_part, results_part, text_part, response_text}
 
 -- ---- strings
 

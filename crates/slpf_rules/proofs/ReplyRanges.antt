@@ -1,5 +1,5 @@
 -- The ranges of replies.
-use Rattle.std.proofs.Common.{◌≡◌, ◌≢◌, ℕ, suc, ◌+◌, ◌<◌, ◌≤◌, ◌^◌, Bool, true, false, cond, ◌==◌, ◌&&◌, nat_le, unwrap_or, List, [], ◌∷◌, length, Option, Some, None, Result, Ok, Err, codes, refl, sym, ap, subst, ◌∙◌, arith, leb-true, IsTrue}
+use Rattle.std.proofs.Common.{◌≡◌, ◌≢◌, ℕ, ◌+◌, ◌<◌, ◌≤◌, Bool, true, false, cond, ◌&&◌, nat_le, unwrap_or, List, [], ◌∷◌, Option, Some, None, Result, Ok, Err, codes, refl, ap, subst, arith}
 use Rattle.std.specs.Prelude.{option_and_then, option_map, bytes_eq}
 use Rattle.std.specs.Option.{ok_or}
 use Rattle.std.proofs.lemmas.Option.{option_and_then_some}
@@ -18,13 +18,13 @@ use Rattle.oc2_msg.specs.declared.refusals.Refusal.{Refusal}
 use Rattle.oc2_msg.specs.declared.responses.Response.{Response}
 use Rattle.oc2_msg.specs.declared.targets.Target.{Target}
 use Rattle.oc2_msg.specs.declared.targets.Target.TheVariants as target
-use Rattle.oc2_msg.specs.Parts.{has_only, optional, provided, whole, between, natural}
+use Rattle.oc2_msg.specs.Parts.{has_only, optional, provided, whole, natural}
 use Rattle.oc2_msg.specs.Args.{time, drop_in, direction_in, rule_number, filter_parts, filter_args_in, filter_values, request_in, are_times, arg_parts, arg_values, with_times, args_in}
 use Rattle.oc2_msg.specs.Commands.{refusal, first_row, rows, answered, command_of, command_with, action_of, target_of, args_of, answer_to}
-use Rattle.oc2_msg.specs.Ranges.{Each, IsRuleNumber, IsStatus, ResponseInRange}
+use Rattle.oc2_msg.specs.Ranges.{Each, IsRuleNumber, IsStatus}
 use Rattle.slpf_rules.specs.declared.rules.Rule.{Rule}
-use Rattle.slpf_rules.specs.Rules.{is_held, greatest, place, without}
-use Rattle.slpf_rules.specs.Replies.{said, is_full, number_for, start_of, stop_of, adds, puts, answer_command, reply_to, reply}
+use Rattle.slpf_rules.specs.Rules.{is_held, greatest}
+use Rattle.slpf_rules.specs.Replies.{is_full, number_for, start_of, stop_of, adds, answer_command, reply_to, reply}
 
 some_inside : {A : Type 0} (a b : A) → Some a ≡ Some b → a ≡ b
 some_inside a b h = cc

@@ -1,12 +1,12 @@
 -- Rules in order of number: placed, taken out, and by a test.
-use Rattle.std.proofs.Common.{◌≡◌, ℕ, zero, suc, ◌+◌, ◌<◌, ◌≤◌, Bool, true, false, cond, ◌==◌, nat_lt, not, ◌||◌, max, List, [], ◌∷◌, length, filter, find, Option, Some, None, is_some, Ordering, Less, Equal, Greater, nat_cmp, refl, sym, ap, ap₂, subst, ◌∙◌, arith}
-use Rattle.std.specs.List.{list_any, AllByRecursion}
+use Rattle.std.proofs.Common.{◌≡◌, ℕ, suc, ◌<◌, ◌≤◌, Bool, true, false, cond, ◌==◌, nat_lt, not, List, [], ◌∷◌, length, filter, Option, Some, None, Ordering, Less, nat_cmp, refl, sym, ap, ap₂, subst, ◌∙◌, arith}
+use Rattle.std.specs.List.{AllByRecursion}
 use Rattle.std.specs.List.Sorted.{IsStrictlySortedBy}
 use Rattle.std.specs.Map.{values_of}
 use Rattle.std.specs.Set.{remove_key}
 use Rattle.std.specs.BTreeMap.{is_at}
 use Rattle.std.specs.BTreeSet.{insert_key}
-use Rattle.std.specs.Ordering.{is_eq, is_lt, match_ordering}
+use Rattle.std.specs.Ordering.{match_ordering}
 use Rattle.std.proofs.lemmas.Cmp.{ranked, by_ranked}
 use Rattle.std.proofs.lemmas.Map.Keys.{sorted_head, sorted_tail}
 use Rattle.std.proofs.lemmas.Bool.Decides.{nat_tests}

@@ -1,12 +1,11 @@
 -- The least number among the rules that pass a test.
-use Rattle.std.proofs.Common.{◌≡◌, ℕ, suc, ◌+◌, ◌<◌, ◌≤◌, min, Bool, true, false, cond, ◌==◌, nat_lt, not, ◌||◌, ◌&&◌, List, [], ◌∷◌, filter, find, map, Option, Some, None, unwrap_or, option_map, refl, sym, ap, ap₂, subst, ◌∙◌, arith}
+use Rattle.std.proofs.Common.{◌≡◌, ℕ, ◌<◌, min, Bool, true, false, cond, nat_lt, ◌||◌, ◌&&◌, List, [], ◌∷◌, filter, find, Option, Some, None, unwrap_or, option_map, refl, sym, ap, ap₂, ◌∙◌, arith}
 use Rattle.std.specs.Option.{option_map_or}
 use Rattle.oc2_nets.specs.declared.packets.Packet.{Packet}
 use Rattle.slpf_rules.specs.declared.rules.Rule.{Rule}
 use Rattle.slpf_rules.specs.Order.{IsAbove, IsRising}
 use Rattle.slpf_rules.specs.Rules.{numbers, rule_at}
-use Rattle.slpf_rules.specs.Filed.{listed}
-use Rattle.slpf_rules.specs.Verdicts.{decides, lesser, least, verdict_of}
+use Rattle.slpf_rules.specs.Verdicts.{decides, lesser, least}
 use Rattle.slpf_rules.specs.Deciding.{sooner, smallest, number_decides}
 use Rattle.slpf_rules.proofs.NumberTests.{apart_from, lt_is, not_lt_is, eq_is}
 use Rattle.slpf_rules.proofs.Rising.{split}

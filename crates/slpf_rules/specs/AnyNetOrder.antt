@@ -1,6 +1,6 @@
 -- The laws of the order of nets.
-use Rattle.std.specs.Prelude.{◌≡◌, Option, Some, refl}
-use Rattle.std.specs.Ordering.{nat_cmp, on, then_cmp, eq_by_cmp, as_partial_cmp}
+use Rattle.std.specs.Prelude.{◌≡◌, refl}
+use Rattle.std.specs.Ordering.{eq_by_cmp, as_partial_cmp}
 use Rattle.std.specs.Cmp.{IsTotalOrder, IsEquivalence, IsPartialOrder, po}
 use Rattle.std.proofs.lemmas.Cmp.{nat_cmp_total, on_total, then_total, eq_by_cmp_equiv}
 use Rattle.slpf_rules.specs.declared.any_nets.AnyNet.{AnyNet}

@@ -6,7 +6,6 @@ use Rattle.std.specs.BTreeMap.{is_at}
 use Rattle.std.specs.BTreeSet.{insert_key}
 use Rattle.std.specs.Ordering.{nat_cmp}
 use Rattle.slpf_rules.specs.declared.any_nets.AnyNet.{AnyNet}
-use Rattle.slpf_rules.specs.declared.rules.Rule.{Rule}
 use Rattle.slpf_rules.specs.AnyNets.{net_cmp}
 use Rattle.slpf_rules.specs.Filed.{listed}
 

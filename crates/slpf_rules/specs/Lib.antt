@@ -2,10 +2,13 @@ pub mod AnyNets
 pub mod AnyNetOrder
 pub mod Rules
 pub mod Order
+pub mod Found
 pub mod Verdicts
 pub mod Filed
 pub mod Widths
 pub mod IndexEntries
+pub mod Soles
+pub mod Indexes
 pub mod Filing
 pub mod Deciding
 pub mod Replies

@@ -1,5 +1,5 @@
 -- What a filter answers, and which rules it then has.
-use Rattle.std.specs.Prelude.{ℕ, ◌+◌, ◌-◌, Bool, true, false, nat_le, List, [], ◌∷◌, length, fold, Option, Some, None, Result, Ok, Err, bytes_eq, codes, if◌then◌else◌}
+use Rattle.std.specs.Prelude.{ℕ, ◌+◌, ◌-◌, Bool, nat_le, List, [], length, fold, Option, Some, None, Result, Ok, Err, bytes_eq, codes, if◌then◌else◌}
 use Rattle.oc2_msg.specs.declared.commands.Command.{Command}
 use Rattle.oc2_msg.specs.declared.commands.Command.TheVariants as command
 use Rattle.oc2_msg.specs.declared.reasons.Reason.{Reason}

@@ -1,5 +1,5 @@
 -- Lists of rules.
-use Rattle.std.specs.Prelude.{ℕ, ◌+◌, max, Bool, not, ◌==◌, nat_lt, List, [], ◌∷◌, map, filter, find, length, Option, Some, None, if◌then◌else◌}
+use Rattle.std.specs.Prelude.{ℕ, max, Bool, not, ◌==◌, nat_lt, List, [], ◌∷◌, map, filter, find, Option, if◌then◌else◌}
 use Rattle.std.specs.List.{list_any}
 use Rattle.slpf_rules.specs.declared.rules.Rule.{Rule}
 

@@ -1,5 +1,5 @@
 -- What a table keeps.
-use Rattle.std.specs.Prelude.{ℕ, ◌≤◌, List, length}
+use Rattle.std.specs.Prelude.{◌≤◌, List, length}
 use Rattle.slpf_rules.specs.declared.filing.Filing.{Filing}
 use Rattle.slpf_rules.specs.declared.rules.Rule.{Rule}
 use Rattle.slpf_rules.specs.Order.{IsRising}

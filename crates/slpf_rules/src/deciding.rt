@@ -1,17 +1,20 @@
 // The least number that decides, among the rules that an index files round an address.
-ghost use Rattle.std.specs.Prelude.{◌≡◌, ◌+◌, ◌≤◌, Option, find};
+ghost use Rattle.std.specs.Prelude.{◌≡◌, ◌+◌, ◌≤◌, Option, Some, [], find, unwrap_or};
 ghost use Rattle.oc2_nets.specs.declared.flows.Flow.{Flow};
 ghost use Rattle.oc2_nets.specs.declared.packets.Address.TheVariants as kind;
 ghost use Rattle.slpf_rules.specs.declared.any_nets.AnyNet.{AnyNet};
+ghost use Rattle.slpf_rules.specs.IndexEntries.{at};
 ghost use Rattle.slpf_rules.specs.Order.{IsRising};
+ghost use Rattle.slpf_rules.specs.Soles.{IsSole};
 ghost use Rattle.slpf_rules.specs.Filing.{IsIndexOf};
 ghost use Rattle.slpf_rules.specs.Deciding.{sooner, smallest, number_decides, decides_in, decides_below};
 
+use crate::any_nets::AnyNet;
 use crate::index::Index;
 use crate::numbers::Numbers;
 use crate::rules::Rules;
 use crate::verdicts::decides;
-use oc2_nets::{Address, Packet};
+use oc2_nets::{Address, Net4, Net6, Packet};
 
 /// The lesser of two numbers, where there are two.
 pub(crate) fn sooner(a: Option<u32>, b: Option<u32>) -> Option<u32>
@@ -52,6 +55,27 @@ pub(crate) fn first_of(numbers: &Numbers, query: &Query) -> Option<u32>
         .find(|number| number_decides(query, *number))
 }
 
+/// The first number under a net whose rule decides, where the only number there is given, if that is known.
+fn first_under(index: &Index, net: &AnyNet, sole: Option<u32>, query: &Query) -> Option<u32>
+    requires { IsSole (Some sole) (at index.now net.now) }
+    ensures { result ≡ find (number_decides query.now.rules.now query.now.packet.now query.now.moment)
+        (unwrap_or (at index.now net.now) []) }
+{
+    match sole {
+        Some(number) => {
+            if number_decides(query, number) {
+                Some(number)
+            } else {
+                None
+            }
+        }
+        None => match index.under(net) {
+            Some(numbers) => first_of(numbers, query),
+            None => None,
+        },
+    }
+}
+
 /// One width more of the IPv4 nets round an address.
 fn more4(best: Option<u32>, index: &Index, address: u32, width: u8, query: &Query) -> Option<u32>
     requires { width ≤ 32 }
@@ -60,8 +84,11 @@ fn more4(best: Option<u32>, index: &Index, address: u32, width: u8, query: &Quer
         → result ≡ smallest (decides_below net_of (width + 1) (kind.V4 address) query.now.packet.now query.now.moment)
         query.now.rules.now }
 {
-    match index.under4(address, width) {
-        Some(numbers) => sooner(best, first_of(numbers, query)),
+    match index.sole4(address, width) {
+        Some(sole) => {
+            let net = AnyNet::V4(Net4::new(address, width));
+            sooner(best, first_under(index, &net, sole, query))
+        }
         None => best,
     }
 }
@@ -86,8 +113,11 @@ fn more6(best: Option<u32>, index: &Index, address: u128, width: u8, query: &Que
         → result ≡ smallest (decides_below net_of (width + 1) (kind.V6 address) query.now.packet.now query.now.moment)
         query.now.rules.now }
 {
-    match index.under6(address, width) {
-        Some(numbers) => sooner(best, first_of(numbers, query)),
+    match index.sole6(address, width) {
+        Some(sole) => {
+            let net = AnyNet::V6(Net6::new(address, width));
+            sooner(best, first_under(index, &net, sole, query))
+        }
         None => best,
     }
 }

@@ -8,12 +8,15 @@ ghost use Rattle.std.specs.BTreeSet.{insert_key};
 ghost use Rattle.std.specs.BTreeMap.{is_at, keys, btree_map_len};
 ghost use Rattle.oc2_nets.specs.Nets.{net4, net6};
 ghost use Rattle.slpf_rules.specs.AnyNets.{net_cmp};
+ghost use Rattle.slpf_rules.specs.Filed.{listed};
 ghost use Rattle.slpf_rules.specs.IndexEntries.{at, Puts, Takes};
+ghost use Rattle.slpf_rules.specs.Soles.{IsSole};
 ghost use Rattle.slpf_rules.specs.declared.any_nets.AnyNet.{AnyNet};
 ghost use Rattle.slpf_rules.specs.declared.any_nets.AnyNet.TheVariants.{V4, V6};
 
 use crate::any_nets::AnyNet;
 use crate::numbers::Numbers;
+use crate::soles::Soles;
 use crate::widths::Widths;
 use oc2_nets::{Net4, Net6};
 use std::alloc::{AllocError, Global};
@@ -21,11 +24,12 @@ use std::collections::BTreeMap;
 use std::marker::Model;
 
 /// Numbers of rules by net. Beside them it counts the nets of each width, so that a look-up of a width that no net
-/// has is left out.
+/// has is left out, and keeps the number that stands alone under a net, so that most look-ups need not search the nets.
 #[derive(Drop)]
 pub(crate) struct Index {
     nets: BTreeMap<AnyNet, Numbers>,
     widths: Widths,
+    soles: Soles,
 }
 
 impl Model for Index {
@@ -34,12 +38,11 @@ impl Model for Index {
 
     ghost Value = { List (AnyNet × List ℕ) };
 
-    ghost use Rattle.std.specs.BTreeMap.{keys};
-    ghost use Rattle.slpf_rules.specs.Widths.{CountsWidths};
+    ghost use Rattle.slpf_rules.specs.Indexes.{IsIndex};
 
     ghost view = { λ index. index.nets.entries };
 
-    ghost invariant = { λ index. CountsWidths index.widths (keys index.nets) };
+    ghost invariant = { λ index. IsIndex index.widths index.soles index.nets.entries };
 }
 
 /// Puts a number under a net that is there; false where it is not.
@@ -108,6 +111,8 @@ fn take(nets: &mut BTreeMap<AnyNet, Numbers>, net: &AnyNet, number: u32) -> bool
     ensures keys { keys nets.new
         ≡ (if result then remove_key (is_at (net_cmp net.now)) (keys nets.old) else keys nets.old) }
     ensures present { OnTrue result (IsSome (at nets.old.entries net.now)) }
+    ensures none { OnTrue result
+        (listed (remove_key (is_at (nat_cmp number)) (unwrap_or (at nets.old.entries net.now) [])) ≡ None) }
 {
     if !take_under(nets, net, number) {
         return false;
@@ -124,6 +129,7 @@ impl Index {
         Index {
             nets: BTreeMap::new(alloc),
             widths: Widths::new(),
+            soles: Soles::new(alloc),
         }
     }
 
@@ -139,9 +145,11 @@ impl Index {
         ensures ok { OnOk result (Puts self.old self.new net number) }
         ensures err { OnErr result ((other : AnyNet) → at self.new other ≡ at self.old other) }
     {
+        self.soles.hold(&net)?;
         let added = put(alloc, &mut self.nets, net, number)?;
         if added {
             self.widths.add(&net);
+            self.soles.change(&net, Some(number));
         }
         Ok(())
     }
@@ -152,28 +160,39 @@ impl Index {
     {
         if take(&mut self.nets, net, number) {
             self.widths.remove(net);
+            self.soles.leave(net);
+        } else {
+            self.soles.change(net, None);
         }
     }
 
-    /// What stands under the IPv4 net of this width round an address.
-    pub(crate) fn under4(&self, address: u32, width: u8) -> Option<&Numbers>
+    /// What stands under a net.
+    pub(crate) fn under(&self, net: &AnyNet) -> Option<&Numbers>
+        ensures { option_copied result ≡ at self.now net.now }
+    {
+        self.nets.get(net)
+    }
+
+    /// What is known of the IPv4 net of this width round an address: `None` where it has no number, and the number
+    /// within where it is alone.
+    pub(crate) fn sole4(&self, address: u32, width: u8) -> Option<Option<u32>>
         requires { width ≤ 32 }
-        ensures { option_copied result ≡ at self.now (V4 (net4 address width)) }
+        ensures { IsSole result (at self.now (V4 (net4 address width))) }
     {
         if self.widths.v4[width as usize] == 0 {
             return None;
         }
-        self.nets.get(&AnyNet::V4(Net4::new(address, width)))
+        self.soles.get(&AnyNet::V4(Net4::new(address, width)))
     }
 
-    /// What stands under the IPv6 net of this width round an address.
-    pub(crate) fn under6(&self, address: u128, width: u8) -> Option<&Numbers>
+    /// What is known of the IPv6 net of this width round an address, likewise.
+    pub(crate) fn sole6(&self, address: u128, width: u8) -> Option<Option<u32>>
         requires { width ≤ 128 }
-        ensures { option_copied result ≡ at self.now (V6 (net6 address width)) }
+        ensures { IsSole result (at self.now (V6 (net6 address width))) }
     {
         if self.widths.v6[width as usize] == 0 {
             return None;
         }
-        self.nets.get(&AnyNet::V6(Net6::new(address, width)))
+        self.soles.get(&AnyNet::V6(Net6::new(address, width)))
     }
 }

@@ -10,6 +10,7 @@ mod index;
 mod laws;
 mod numbers;
 mod rules;
+mod soles;
 mod table;
 #[cfg(test)]
 mod tests;

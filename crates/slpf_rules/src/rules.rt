@@ -9,8 +9,8 @@ ghost use Rattle.slpf_rules.specs.Order.{IsRising};
 use oc2_msg::{Direction, Drop3};
 use oc2_nets::Flow;
 use std::alloc::{AllocError, Global};
-use std::collections::BTreeMap;
 use std::collections::btree_map::Values;
+use std::collections::{BTreeMap, HashMap};
 use std::marker::Model;
 
 /// A rule of a packet filter (OpenC2 SLPF 1.0, section 2.3). Moments are in milliseconds.
@@ -27,10 +27,11 @@ pub struct Rule {
     pub stop: Option<u64>,
 }
 
-/// The rules of a table, in order of number.
+/// The rules of a table, in order of number. Beside them it keeps a copy of each rule where its number finds it at once.
 #[derive(Drop)]
 pub struct Rules {
     by_number: BTreeMap<u32, Rule>,
+    found: HashMap<u32, Rule>,
 }
 
 impl Model for Rules {
@@ -40,11 +41,11 @@ impl Model for Rules {
     ghost Value = { List Rule };
 
     ghost use Rattle.std.specs.BTreeMap.{values};
-    ghost use Rattle.slpf_rules.specs.Order.{IsNumbered};
+    ghost use Rattle.slpf_rules.specs.Found.{IsRules};
 
     ghost view = { λ rules. values rules.by_number };
 
-    ghost invariant = { λ rules. IsNumbered rules.by_number.entries };
+    ghost invariant = { λ rules. IsRules rules.found rules.by_number.entries };
 }
 
 impl Rules {
@@ -54,6 +55,7 @@ impl Rules {
     {
         Rules {
             by_number: BTreeMap::new(alloc),
+            found: HashMap::new(alloc),
         }
     }
 
@@ -76,7 +78,7 @@ impl Rules {
     pub fn find(&self, number: u32) -> Option<&Rule>
         ensures { option_copied result ≡ rule_at number self.now }
     {
-        self.by_number.get(&number)
+        self.found.get(&number)
     }
 
     /// Whether a rule has this number.
@@ -110,8 +112,14 @@ impl Rules {
         ensures ok { OnOk result (self.new ≡ place rule self.old) }
         ensures err { OnErr result (self.new ≡ self.old) }
     {
-        self.by_number.insert(rule.number, rule)?;
-        Ok(())
+        self.found.insert(rule.number, rule)?;
+        match self.by_number.insert(rule.number, rule) {
+            Ok(_) => Ok(()),
+            Err(_) => {
+                self.found.remove(&rule.number);
+                Err(AllocError)
+            }
+        }
     }
 
     /// Takes the rule of this number out, if it is held.
@@ -119,6 +127,7 @@ impl Rules {
         ensures { self.new ≡ without number self.old }
     {
         self.by_number.remove(&number);
+        self.found.remove(&number);
     }
 
     /// Takes every rule out.
@@ -126,5 +135,6 @@ impl Rules {
         ensures { self.new ≡ [] }
     {
         self.by_number.clear();
+        self.found.clear();
     }
 }

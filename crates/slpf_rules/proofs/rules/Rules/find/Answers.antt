@@ -5,5 +5,5 @@ use Rattle.slpf_rules.proofs.rules.Rules.find.Goals as goal
 
 pub returns : goal.returns
 returns c =
-    c.get.ensures.value ∙ lookup-keyed c.args.number c.self.inside.by_number.entries (is_keyed _ c.self.invariant.keyed)
+    c.get.ensures.value ∙ c.self.invariant.finds c.args.number ∙ lookup-keyed c.args.number c.self.inside.by_number.entries (is_keyed _ c.self.invariant.numbered.keyed)
     ∙ ap (rule_at c.args.number) c.self.view_is

@@ -1,7 +1,7 @@
-use Rattle.std.proofs.Common.{find, sym, ap, ap₂, ◌∙◌}
-use Rattle.slpf_rules.specs.Filed.{source_net, destination_net, unfiled}
+use Rattle.std.proofs.Common.{find, ap, ap₂, ◌∙◌}
+use Rattle.slpf_rules.specs.Filed.{source_net, destination_net}
 use Rattle.slpf_rules.specs.Verdicts.{verdict_of, verdict}
-use Rattle.slpf_rules.specs.Deciding.{sooner, smallest, number_decides, decides_in}
+use Rattle.slpf_rules.specs.Deciding.{sooner, number_decides}
 use Rattle.slpf_rules.proofs.Smallest.{found_at}
 use Rattle.slpf_rules.proofs.Deciders.{least_of_three}
 use Rattle.slpf_rules.proofs.table.Table.decide.Goals as goal

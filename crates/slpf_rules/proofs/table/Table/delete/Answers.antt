@@ -1,4 +1,4 @@
-use Rattle.std.proofs.Common.{◌≡◌, false, true, ◌==◌, Some, is_some, sym, ap, subst, ◌∙◌, arith}
+use Rattle.std.proofs.Common.{◌≡◌, ◌==◌, Some, is_some, sym, ap, subst, ◌∙◌, arith}
 use Rattle.slpf_rules.specs.Rules.{rule_at, is_held, without}
 use Rattle.slpf_rules.specs.Filing.{IsFiling}
 use Rattle.slpf_rules.specs.TableFacts.{IsTable}
