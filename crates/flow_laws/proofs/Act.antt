@@ -1,37 +1,24 @@
 -- Agreement is kept where a filter's file gains an act.
-use Rattle.std.proofs.Common.{◌≡◌, ◌≢◌, inl, inr, ℕ, ◌≤◌, List, [], ◌∷◌, ◌++◌, sym, ◌∙◌, subst, ap, arith, All}
-use Rattle.std.specs.Prelude.{take, Contains, Some, None}
-use Rattle.std.proofs.lemmas.List.{take-append-le}
-use Rattle.std.proofs.Math.Seq.{take-append_seam}
-use Rattle.std.proofs.lemmas.List.Quantifiers.{all_pairs_push}
+use Rattle.std.proofs.Common.{◌≡◌, ◌≢◌, inl, inr, ℕ, ◌≤◌, List, [], ◌∷◌, ◌++◌, sym, ◌∙◌, subst, ap, arith}
+use Rattle.std.specs.Prelude.{Contains, Some, None}
 use Rattle.std.proofs.lemmas.List.Elements.{Contains-push_cases, Contains-append_left}
 use Rattle.cacao_site.specs.View.{SiteView}
 use Rattle.cacao_site.specs.declared.parcel.Parcel.{Parcel}
 use Rattle.cacao_site.specs.DiskCalls.{IsLeft}
 use Rattle.run_records.specs.declared.record.Record.{Record}
 use Rattle.run_records.specs.declared.act.Act.{Act}
-use Rattle.flow_laws.specs.Acts.{AreActs, HasReply, IsOther, IsReplied}
+use Rattle.slpf_acts.specs.Acts.{AreActs}
+use Rattle.slpf_acts.proofs.Acts.{acts_more}
+use Rattle.flow_laws.specs.Acts.{HasReply}
 use Rattle.flow_laws.specs.Journals.{run_of, IsSent}
 use Rattle.flow_laws.specs.Images.{puts_to, IsRecords, IsActs, IsAgent}
 use Rattle.flow_laws.specs.Agree.{Agree}
 use Rattle.flow_laws.specs.Good.{IsGood, IsChoice}
 use Rattle.flow_laws.specs.Held.{Speech}
 use Rattle.flow_laws.specs.Beats.{ActIsGained, GainsAct}
-use Rattle.flow_laws.proofs.Basics.{put_at, put_at-same, put_at-other, put_at-each, same_or_not, get_push, zero_not}
+use Rattle.flow_laws.proofs.Basics.{put_at, put_at-same, put_at-other, put_at-each, same_or_not, zero_not}
 use Rattle.flow_laws.proofs.OneList.{same_acts}
 use Rattle.flow_laws.proofs.Shrink.{held_shrinks, same_lines}
-
--- the acts of a filter, with one that may follow
-pub acts_more : (acts : List Act) (act : Act) → AreActs acts → All (λ a. IsOther a act) acts → IsReplied acts act → AreActs (acts ++ act ∷ [])
-acts_more acts act was other replied = record {
-  once = all_pairs_push IsOther acts act was.once other;
-  replied = λ n x is. elim (get_push acts act n x is) [
-    | inl old ↦ subst (λ (l : List Act). IsReplied l x) (sym (take-append-le n acts (act ∷ []) (omega (arith, old.0)))) (was.replied n x old.1)
-    | inr new ↦
-        let all : take n (acts ++ act ∷ []) ≡ acts = subst (λ (k : ℕ). take k (acts ++ act ∷ []) ≡ acts) (sym new.0) (take-append_seam acts (act ∷ [])) in
-        subst (λ (l : List Act). IsReplied l x) (sym all) (subst (λ (a : Act). IsReplied acts a) new.1 replied)
-  ];
-}
 
 module _ (speech : Speech) (earlier : SiteView) (early : ℕ) (later : SiteView) (late agent : ℕ) (acts : List Act) (act : Act)
     (gains : GainsAct speech earlier early later late agent acts act) where
@@ -75,7 +62,7 @@ module _ (speech : Speech) (earlier : SiteView) (early : ℕ) (later : SiteView)
           (λ ne. agree.acts_sent a x);
       answers = λ run issue moment status rule text of has.
           let was = agree.answers run issue moment status rule text of has in
-          record { agent = was.agent; bytes = was.bytes; sent = was.sent; reply = still_replied _ _ _ _ was.reply };
+          record { agent = was.agent; bytes = was.bytes; is_agent = was.is_agent; sent = was.sent; reply = still_replied _ _ _ _ was.reply };
     }
 
   pub good_acts : IsGood earlier early → IsGood later late

@@ -1,11 +1,11 @@
 -- The first session may begin on blank files.
 use Rattle.std.proofs.Common.{◌≡◌, ℕ, List, [], subst, ap, arith}
-use Rattle.std.specs.Prelude.{Contains, Some, slice_get}
+use Rattle.std.specs.Prelude.{Contains}
 use Rattle.cacao_site.specs.View.{SiteView}
 use Rattle.cacao_site.specs.declared.parcel.Parcel.{Parcel}
 use Rattle.run_records.specs.declared.record.Record.{Record}
 use Rattle.run_records.specs.declared.act.Act.{Act}
-use Rattle.flow_laws.specs.Acts.{AreActs}
+use Rattle.slpf_acts.proofs.Acts.{none_are_acts}
 use Rattle.flow_laws.specs.Journals.{run_of}
 use Rattle.flow_laws.specs.Images.{up_to, puts_to}
 use Rattle.flow_laws.specs.Held.{Speech, IsRunLine}
@@ -17,12 +17,6 @@ use Rattle.flow_laws.proofs.Again.{none_put, no_run}
 -- nothing is in the empty list
 none_in : {T : Type 0} (x : T) → Contains [] x → ⊥
 none_in x has = absurd (omega (arith, has.1))
-
-no_act : (n : ℕ) (act : Act) → slice_get [] n ≡ Some act → ⊥
-no_act n act is = cc
-
-none_are_acts : AreActs []
-none_are_acts = record { once = λ i j d before within. absurd (omega (arith, within)); replied = λ n act is. absurd (no_act n act is) }
 
 -- on a blank site no parcel was put
 blank_puts : (speech : Speech) (site : SiteView) → IsBlank speech site → puts_to site site.disk.beat ≡ []

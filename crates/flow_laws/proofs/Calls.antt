@@ -1,7 +1,7 @@
 -- From what a call says of the site to agreement at each of its beats.
 use Rattle.std.proofs.Common.{◌≡◌, ◌≢◌, ◌⊎◌, inl, inr, ℕ, suc, ◌≤◌, ◌<◌, nat_le, Bool, true, false, List, [], ◌∷◌, ◌++◌, refl, sym, ◌∙◌, subst, ap, IsTrue, arith, All, if◌then◌else◌}
 use Rattle.std.specs.Prelude.{Contains, Option, Some, None, IfSome}
-use Rattle.std.proofs.lemmas.Bool.{cases_lt, lt-leb, le-leb}
+use Rattle.std.proofs.lemmas.Bool.{both_ways, cases_lt, lt-leb, le-leb}
 use Rattle.std.proofs.lemmas.List.{append-nil}
 use Rattle.std.proofs.lemmas.List.Elements.{filter-append, Contains-push_cases}
 use Rattle.cacao_site.specs.View.{SiteView}
@@ -14,15 +14,19 @@ use Rattle.cacao_site.proofs.Beats.{told-goes_on}
 use Rattle.run_records.specs.declared.record.Record.{Record}
 use Rattle.run_records.specs.declared.act.Act.{Act}
 use Rattle.flow_laws.specs.Acts.{HasReply, IsBytes}
-use Rattle.flow_laws.specs.Images.{up_to, told_list, puts_to, WasSaid, IsRecords, IsActs, IsAgent, HasImage, EachJournal, EachFilter, HasBegun}
+use Rattle.flow_laws.specs.Images.{up_to, told_list, puts_to, puts_of, WasSaid, IsRecords, IsActs, IsAgent, HasImage, AnyJournal, EachJournal, EachFilter, HasBegun}
 use Rattle.flow_laws.specs.Held.{Speech, IsLineOf, HasOpenSend}
 use Rattle.flow_laws.specs.Beats.{OnlyChanges, Among, GainsRecord, IsFurther, IsFurtherAct}
 use Rattle.flow_laws.specs.Since.{Agreed, AgreedSince}
-use Rattle.flow_laws.proofs.Basics.{begun}
+use Rattle.flow_laws.specs.Fresh.{IsFresh}
+use Rattle.flow_laws.specs.Journals.{run_of}
+use Rattle.flow_laws.specs.Sessions.{IsStart}
+use Rattle.flow_laws.proofs.Basics.{begun, same_entry}
 use Rattle.flow_laws.proofs.Shrink.{SamePuts, SamePast, images_shrink}
 use Rattle.flow_laws.proofs.Record.{record_is_gained}
 use Rattle.flow_laws.proofs.Act.{act_is_gained}
 use Rattle.flow_laws.proofs.Puts.{command_is_put, reply_is_put}
+use Rattle.flow_laws.proofs.Foreign.{foreign_is_put}
 use Rattle.flow_laws.proofs.Says.{line_is_said}
 use Rattle.flow_laws.proofs.Fresh.{fresh_shrinks, fresh_gains, fresh_begun}
 
@@ -79,6 +83,17 @@ gained_now beat at None None entry is le past = inr refl
 gained_now beat at (Some old) None entry is le past = absurd is
 gained_now beat at None (Some new) entry is le past = absurd is
 
+-- ---- where a session begins
+
+pub since_start : (speech : Speech) (start : SiteView) → IsTrue start.disk.told → IsStart speech start → AgreedSince speech start start
+since_start speech start told is = record {
+  told = told;
+  later = omega arith;
+  each = λ beat from to.
+      let e : start.disk.beat ≡ beat = omega (arith, from, to) in
+      subst (λ (n : ℕ). Agreed speech start start n) e (record { good = is.good; held = is.held; fresh = λ run own fresh. fresh });
+}
+
 -- ---- one call more
 
 abbrev EachStays : SiteView → SiteView → Type 0
@@ -93,9 +108,9 @@ record LinkGoesOn (old new : SiteView) : Type 0 where
 said_before : (old new : SiteView) (at beat : ℕ) (bytes : List ℕ) → up_to at (told_list new.link.said) ≡ up_to beat (told_list old.link.said) → WasSaid new at bytes → WasSaid old beat bytes
 said_before old new at beat bytes same said = record { at = said.at; has = subst (λ (l : List (ℕ × List ℕ)). Contains l (said.at, bytes)) same said.has }
 
-module _ (speech : Speech) (first : ℕ) (start old new : SiteView) (so_far : AgreedSince speech first start old) where
+module _ (speech : Speech) (start old new : SiteView) (so_far : AgreedSince speech start old) where
   -- agreement at past beats stays, so the beats of the call are left to show
-  extend : GoesOn old.disk new.disk → LinkGoesOn old new → ((beat : ℕ) → old.disk.beat ≤ beat → beat ≤ new.disk.beat → Agreed speech first start new beat) → AgreedSince speech first start new
+  extend : GoesOn old.disk new.disk → LinkGoesOn old new → ((beat : ℕ) → old.disk.beat ≤ beat → beat ≤ new.disk.beat → Agreed speech start new beat) → AgreedSince speech start new
   extend on link here = record {
     told = told-goes_on on so_far.told;
     later = omega (arith, so_far.later, on.later);
@@ -104,18 +119,18 @@ module _ (speech : Speech) (first : ℕ) (start old new : SiteView) (so_far : Ag
           let had = so_far.each beat from (omega (arith, early)) in
           let images : (file : ℕ) → file ≤ 16 → Among file old beat new beat = λ file le image left. subst IsTrue (on.past file beat image (omega (arith, early))) left in
           let only : OnlyChanges speech None None None old beat new beat = record {
-            past = λ file at image le. on.past file at image (omega (arith, le, early));
+            past = λ at image le. on.past 0 at image (omega (arith, le, early));
             images = λ file le other. images file le;
             puts = link.puts beat early;
             lines = λ image records left stands bytes line said. inr (said_before old new beat beat bytes (link.said beat early) said);
           } in
-          let kept = images_shrink speech first old beat new beat only had.good had.held in
+          let kept = images_shrink speech (puts_of start) old beat new beat only had.good had.held in
           record { good = kept.0; held = kept.1; fresh = λ run own fresh. fresh_shrinks old beat new beat images (link.puts beat early) run (had.fresh run own fresh) }
       | inr late ↦ here beat late to
     ];
   }
 
-  now : Agreed speech first start old old.disk.beat
+  now : Agreed speech start old old.disk.beat
   now = so_far.each old.disk.beat so_far.later (omega arith)
 
   same_link : new.link.puts ≡ old.link.puts → new.link.said ≡ old.link.said → LinkGoesOn old new
@@ -133,7 +148,7 @@ module _ (speech : Speech) (first : ℕ) (start old new : SiteView) (so_far : Ag
 
     -- nothing changed at a beat of the call
     quiet : SamePast old old.disk.beat new → (beat : ℕ) → ((file : ℕ) → file ≤ 16 → Among file old old.disk.beat new beat) → SamePuts old old.disk.beat new beat
-        → ((bytes : List ℕ) → WasSaid new beat bytes → WasSaid old old.disk.beat bytes) → Agreed speech first start new beat
+        → ((bytes : List ℕ) → WasSaid new beat bytes → WasSaid old old.disk.beat bytes) → Agreed speech start new beat
     quiet past beat images puts said =
         let only : OnlyChanges speech None None None old old.disk.beat new beat = record {
           past = past;
@@ -141,13 +156,13 @@ module _ (speech : Speech) (first : ℕ) (start old new : SiteView) (so_far : Ag
           puts = puts;
           lines = λ image records left stands bytes line was. inr (said bytes was);
         } in
-        let kept = images_shrink speech first old old.disk.beat new beat only now.good now.held in
+        let kept = images_shrink speech (puts_of start) old old.disk.beat new beat only now.good now.held in
         record { good = kept.0; held = kept.1; fresh = λ run own fresh. fresh_shrinks old old.disk.beat new beat images puts run (now.fresh run own fresh) }
 
     -- nothing was written, put or said
-    pub since_quiet : GoesOn old.disk new.disk → EachStays old new → new.link.puts ≡ old.link.puts → new.link.said ≡ old.link.said → AgreedSince speech first start new
+    pub since_quiet : GoesOn old.disk new.disk → EachStays old new → new.link.puts ≡ old.link.puts → new.link.said ≡ old.link.said → AgreedSince speech start new
     since_quiet on stays puts said = extend on (same_link puts said) (λ beat from to.
-        quiet on.past beat (λ file le image left. stays file le beat image from to left) (same_puts puts beat from) (same_said said beat from))
+        quiet (on.past 0) beat (λ file le image left. stays file le beat image from to left) (same_puts puts beat from) (same_said said beat from))
 
     other_stays : (file other : ℕ) (P : List ℕ → Type 0) → OnlyFile file old new P → other ≢ file → (beat : ℕ) → old.disk.beat ≤ beat → beat ≤ new.disk.beat → Among other old old.disk.beat new beat
     other_stays file other P only ne beat from to image left = subst IsTrue ((only.others other ne).images beat image from to) left
@@ -156,7 +171,7 @@ module _ (speech : Speech) (first : ℕ) (start old new : SiteView) (so_far : Ag
     only_file : (file : ℕ) (P : List ℕ → Type 0) → OnlyFile file old new P → (beat : ℕ) → old.disk.beat ≤ beat → beat ≤ new.disk.beat
         → OnlyChanges speech (Some file) None None old old.disk.beat new beat
     only_file file P only beat from to = record {
-      past = only.each.goes_on.past;
+      past = only.each.goes_on.past 0;
       images = λ other le ne. other_stays file other P only ne beat from to;
       puts = same_puts (ap (λ l. l.puts) only.rest.link) beat from;
       lines = λ image records left stands bytes line was. inr (same_said (ap (λ l. l.said) only.rest.link) beat from bytes was);
@@ -165,7 +180,7 @@ module _ (speech : Speech) (first : ℕ) (start old new : SiteView) (so_far : Ag
     -- the journal gained a record, or may have
     pub since_record : (records : List Record) (next : Record) → OnlyFile 0 old new (λ image. IsRecords image records ⊎ IsRecords image (records ++ next ∷ []))
         → HasImage old 0 old.disk.beat → ((image : List ℕ) → IsLeft old.disk 0 old.disk.beat image → IsRecords image records) → IsFurther speech old old.disk.beat records next
-        → AgreedSince speech first start new
+        → AgreedSince speech start new
     since_record records next only some before further = extend only.each.goes_on (same_link (ap (λ l. l.puts) only.rest.link) (ap (λ l. l.said) only.rest.link)) (λ beat from to.
         let gains : GainsRecord speech old old.disk.beat new beat records next = record {
           only = only_file 0 _ only beat from to;
@@ -174,16 +189,16 @@ module _ (speech : Speech) (first : ℕ) (start old new : SiteView) (so_far : Ag
           now = λ image left. only.each.each so_far.told beat image from to left;
           further = further;
         } in
-        let kept = record_is_gained speech first old old.disk.beat new beat records next gains now.good now.held in
-        record { good = kept.0; held = kept.1; fresh = λ run own fresh. fresh_gains speech first old old.disk.beat new beat records next gains run (now.fresh run own fresh) })
+        let kept = record_is_gained speech (puts_of start) old old.disk.beat new beat records next gains now.good now.held in
+        record { good = kept.0; held = kept.1; fresh = λ run own fresh. fresh_gains speech (puts_of start) old old.disk.beat new beat records next gains run (now.fresh run own fresh) })
 
     -- a filter's file gained an act, or may have
     pub since_act : (agent : ℕ) (acts : List Act) (act : Act) → IsAgent agent → OnlyFile agent old new (λ image. IsActs image acts ⊎ IsActs image (acts ++ act ∷ []))
         → HasImage old agent old.disk.beat → ((image : List ℕ) → IsLeft old.disk agent old.disk.beat image → IsActs image acts) → IsFurtherAct old old.disk.beat agent acts act
-        → HasBegun old old.disk.beat → AgreedSince speech first start new
+        → HasBegun old old.disk.beat → AgreedSince speech start new
     since_act agent acts act is only some before further begun = extend only.each.goes_on (same_link (ap (λ l. l.puts) only.rest.link) (ap (λ l. l.said) only.rest.link)) (λ beat from to.
         let not_zero : 0 ≢ agent = λ e. absurd (omega (arith, e, is.0)) in
-        let kept = act_is_gained speech first old old.disk.beat new beat agent acts act (record {
+        let kept = act_is_gained speech (puts_of start) old old.disk.beat new beat agent acts act (record {
           is_agent = is;
           only = only_file agent _ only beat from to;
           some = some;
@@ -230,23 +245,23 @@ module _ (speech : Speech) (first : ℕ) (start old new : SiteView) (so_far : Ag
       put_images : (beat : ℕ) → old.disk.beat ≤ beat → beat ≤ new.disk.beat → (file : ℕ) → file ≤ 16 → Among file old old.disk.beat new beat
       put_images beat from to file le image left = keeps_stay puts.disk.disk file le beat image from to left
 
-      put_quiet : (beat : ℕ) → old.disk.beat ≤ beat → beat ≤ new.disk.beat → SamePuts old old.disk.beat new beat → Agreed speech first start new beat
-      put_quiet beat from to same = quiet puts.disk.disk.goes_on.past beat (put_images beat from to) same (same_said puts.said beat from)
+      put_quiet : (beat : ℕ) → old.disk.beat ≤ beat → beat ≤ new.disk.beat → SamePuts old old.disk.beat new beat → Agreed speech start new beat
+      put_quiet beat from to same = quiet (puts.disk.disk.goes_on.past 0) beat (put_images beat from to) same (same_said puts.said beat from)
 
       put_only : (beat : ℕ) → old.disk.beat ≤ beat → beat ≤ new.disk.beat → puts_to new beat ≡ puts_to old old.disk.beat ++ (beat, parcel) ∷ []
           → OnlyChanges speech None (Some parcel) None old old.disk.beat new beat
       put_only beat from to more = record {
-        past = puts.disk.disk.goes_on.past;
+        past = puts.disk.disk.goes_on.past 0;
         images = λ file le other. put_images beat from to file le;
         puts = more;
         lines = λ image records left stands bytes line was. inr (same_said puts.said beat from bytes was);
       }
 
-      pub since_command : parcel.back ≡ false → EachJournal old old.disk.beat (λ records. HasOpenSend records parcel) → AgreedSince speech first start new
+      pub since_command : parcel.back ≡ false → EachJournal old old.disk.beat (λ records. HasOpenSend records parcel) → AgreedSince speech start new
       since_command command sent = extend puts.disk.disk.goes_on put_link (λ beat from to. elim (put_cases beat from to) [
         | inl same ↦ put_quiet beat from to same
         | inr more ↦
-            let kept = command_is_put speech first old old.disk.beat new beat parcel (record { only = put_only beat from to more; command = command; sent = sent }) now.good now.held in
+            let kept = command_is_put speech (puts_of start) old old.disk.beat new beat parcel (record { only = put_only beat from to more; command = command; sent = sent }) now.good now.held in
             record {
               good = kept.0;
               held = kept.1;
@@ -257,12 +272,45 @@ module _ (speech : Speech) (first : ℕ) (start old new : SiteView) (so_far : Ag
       ])
 
       pub since_reply : parcel.back ≡ true → IsAgent parcel.agent → EachFilter old old.disk.beat parcel.agent (λ acts. HasReply acts parcel.run parcel.issue (IsBytes parcel.bytes))
-          → HasBegun old old.disk.beat → AgreedSince speech first start new
+          → HasBegun old old.disk.beat → AgreedSince speech start new
       since_reply reply is acted has_begun = extend puts.disk.disk.goes_on put_link (λ beat from to. elim (put_cases beat from to) [
         | inl same ↦ put_quiet beat from to same
         | inr more ↦
-            let kept = reply_is_put speech first old old.disk.beat new beat parcel (record { only = put_only beat from to more; back = reply; is_agent = is; acted = acted }) now.good now.held in
+            let kept = reply_is_put speech (puts_of start) old old.disk.beat new beat parcel (record { only = put_only beat from to more; back = reply; is_agent = is; acted = acted }) now.good now.held in
             record { good = kept.0; held = kept.1; fresh = λ run own fresh. fresh_begun new beat (λ image left. has_begun image (put_images beat from to 0 (omega arith) image left)) run }
+      ])
+
+      -- a number that is another's stays unused
+      unused_still : (beat : ℕ) → old.disk.beat ≤ beat → beat ≤ new.disk.beat → puts_to new beat ≡ puts_to old old.disk.beat ++ (beat, parcel) ∷ []
+          → (run : ℕ) → parcel.run ≢ run → IsFresh old run old.disk.beat → IsFresh new run beat
+      unused_still beat from to more run other fresh = record {
+        unused = λ image left empty.
+            let was = fresh.unused image (put_images beat from to 0 (omega arith) image left) empty in
+            record {
+              acts = λ agent file acts act is there. was.acts agent file acts act is (put_images beat from to agent is.1 file there);
+              puts = λ at it has. elim (Contains-push_cases (puts_to old old.disk.beat) (beat, parcel) (at, it)
+                  (subst (λ (l : List (ℕ × Parcel)). Contains l (at, it)) more has)) [
+                    | inl before ↦ was.puts at it before
+                    | inr is ↦ subst (λ (p : Parcel). p.run ≢ run) (same_entry is) other
+                  ];
+            };
+      }
+
+      -- a command of another run was put, or lost
+      pub since_foreign : parcel.back ≡ false → speech.is_own parcel.run ≡ false
+          → AnyJournal old old.disk.beat (λ records. run_of records ≢ Some parcel.run) → AgreedSince speech start new
+      since_foreign command foreign others = extend puts.disk.disk.goes_on put_link (λ beat from to. elim (put_cases beat from to) [
+        | inl same ↦ put_quiet beat from to same
+        | inr more ↦
+            let kept = foreign_is_put speech (puts_of start) old old.disk.beat new beat parcel
+            (record { only = put_only beat from to more; command = command; foreign = foreign; others = others }) now.good now.held in
+            record {
+              good = kept.0;
+              held = kept.1;
+              fresh = λ run own fresh. unused_still beat from to more run
+                  (λ e. both_ways (speech.is_own run) (subst (λ (n : ℕ). speech.is_own n ≡ false) e foreign) own)
+                  (now.fresh run own fresh);
+            }
       ])
 
     -- at a beat of the call a line was said before, or is the one that is said
@@ -286,7 +334,7 @@ module _ (speech : Speech) (first : ℕ) (start old new : SiteView) (so_far : Ag
 
     -- a record's line was said
     pub since_line : (bytes : List ℕ) → KeepsDisk old.disk new.disk → new.link.puts ≡ old.link.puts → Gains old.link.said (new.disk.beat, bytes) new.link.said
-        → EachJournal old old.disk.beat (λ records. IsLineOf speech records bytes) → AgreedSince speech first start new
+        → EachJournal old old.disk.beat (λ records. IsLineOf speech records bytes) → AgreedSince speech start new
     since_line line keeps puts gained stands = extend keeps.goes_on
         (record {
           puts = λ beat lt. ap (λ (l : Option (List (ℕ × Parcel))). up_to beat (told_list l)) puts;
@@ -295,10 +343,10 @@ module _ (speech : Speech) (first : ℕ) (start old new : SiteView) (so_far : Ag
         (λ beat from to.
         let images : (file : ℕ) → file ≤ 16 → Among file old old.disk.beat new beat = λ file le image left. keeps_stay keeps file le beat image from to left in
         let only : OnlyChanges speech None None (Some line) old old.disk.beat new beat = record {
-          past = keeps.goes_on.past;
+          past = keeps.goes_on.past 0;
           images = λ file le other. images file le;
           puts = same_puts puts beat from;
           lines = λ image records left are other is_line said. line_cases line keeps.goes_on.later gained beat from to other said;
         } in
-        let kept = line_is_said speech first old old.disk.beat new beat line (record { only = only; stands = stands }) now.good now.held in
+        let kept = line_is_said speech (puts_of start) old old.disk.beat new beat line (record { only = only; stands = stands }) now.good now.held in
         record { good = kept.0; held = kept.1; fresh = λ run own fresh. fresh_shrinks old old.disk.beat new beat images (same_puts puts beat from) run (now.fresh run own fresh) })

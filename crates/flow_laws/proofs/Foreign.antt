@@ -8,22 +8,14 @@ use Rattle.cacao_site.specs.declared.parcel.Parcel.{Parcel}
 use Rattle.cacao_site.specs.DiskCalls.{IsLeft}
 use Rattle.run_records.specs.declared.record.Record.{Record}
 use Rattle.flow_laws.specs.Journals.{run_of}
-use Rattle.flow_laws.specs.Images.{puts_to, IsRecords, EachJournal}
+use Rattle.flow_laws.specs.Images.{puts_to, IsRecords}
 use Rattle.flow_laws.specs.Agree.{Agree, CommandsAreSent}
 use Rattle.flow_laws.specs.Good.{IsGood, IsChoice}
 use Rattle.flow_laws.specs.Held.{Speech, IsHeldAs, IsOwnPut}
-use Rattle.flow_laws.specs.Beats.{OnlyChanges, Among, GoesOn}
+use Rattle.flow_laws.specs.Beats.{PutsForeign, ForeignIsPut, Among}
 use Rattle.flow_laws.proofs.Basics.{in_drop_more, same_entry}
-use Rattle.flow_laws.proofs.OneList.{same_records}
 use Rattle.flow_laws.proofs.Shrink.{past_open, same_lines, all_among}
 use Rattle.flow_laws.proofs.Puts.{replies_and_command}
-
--- a command was put that is not the session's own, and of no run that an image of the journal stands for
-pub record PutsForeign (speech : Speech) (earlier : SiteView) (early : ℕ) (later : SiteView) (late : ℕ) (parcel : Parcel) : Type 0 where
-  pub only : OnlyChanges speech None (Some parcel) None earlier early later late
-  pub command : parcel.back ≡ false
-  pub foreign : speech.is_own parcel.run ≡ false
-  pub others : EachJournal earlier early (λ records. run_of records ≢ Some parcel.run)
 
 -- the commands of a run are sent, with a command more of another run
 commands_and_foreign : (records : List Record) (puts : List (ℕ × Parcel)) (late : ℕ) (parcel : Parcel) → run_of records ≢ Some parcel.run
@@ -39,9 +31,7 @@ module _ (speech : Speech) (first : ℕ) (earlier : SiteView) (early : ℕ) (lat
   among = all_among speech (Some parcel) None earlier early later late puts.only
 
   other_in : (image : List ℕ) (records : List Record) → IsLeft earlier.disk 0 early image → IsRecords image records → run_of records ≢ Some parcel.run
-  other_in image records left are =
-      let there = puts.others image left in
-      subst (λ (l : List Record). run_of l ≢ Some parcel.run) (same_records image there.records records there.are are) there.so
+  other_in image records left are = puts.others image records left are
 
   own_still : (at : ℕ) (it : Parcel) → IsOwnPut speech later first late at it → IsOwnPut speech earlier first early at it
   own_still at it own = elim (in_drop_more first (puts_to earlier early) (late, parcel) (at, it) (subst (λ (l : List (ℕ × Parcel)). Contains (drop first l) (at, it)) puts.only.puts own.has)) [
@@ -83,9 +73,8 @@ module _ (speech : Speech) (first : ℕ) (earlier : SiteView) (early : ℕ) (lat
     was_open = λ at it own. past_open speech first earlier early later puts.only.past held at it (own_still at it own);
   }
 
-pub foreign_put : (speech : Speech) (first : ℕ) (earlier : SiteView) (early : ℕ) (later : SiteView) (late : ℕ) (parcel : Parcel)
-    → PutsForeign speech earlier early later late parcel → GoesOn speech first earlier early later late
-foreign_put speech first earlier early later late parcel puts good held = (
+pub foreign_is_put : ForeignIsPut
+foreign_is_put speech first earlier early later late parcel puts good held = (
   good_foreign speech first earlier early later late parcel puts good,
   held_foreign speech first earlier early later late parcel puts held,
 )

@@ -12,3 +12,10 @@ pub mod Calls
 pub mod Written
 pub mod Needed
 pub mod Foreign
+pub mod Sites
+pub mod Quiet
+pub mod NeededActs
+pub mod NeededRecords
+pub mod NeededReplies
+pub mod NeededPuts
+pub mod NeededSessions

@@ -80,7 +80,7 @@ module _ (speech : Speech) (site : SiteView) (beat : ℕ) (next : Record) (acts 
       elim (Contains-push_cases (r ∷ records) next _ has) [
         | inl old ↦
             let answer = was run issue moment status rule text before old in
-            record { agent = answer.agent; bytes = answer.bytes; sent = sent_more (r ∷ records) next _ _ _ answer.sent; reply = answer.reply }
+            record { agent = answer.agent; bytes = answer.bytes; is_agent = answer.is_agent; sent = sent_more (r ∷ records) next _ _ _ answer.sent; reply = answer.reply }
         | inr new ↦
             let backed = further.backed run issue moment status rule text before new in
             let there = backed.acts (choice backed.agent) (each backed.agent backed.is_agent.0 backed.is_agent.1) in
@@ -88,6 +88,7 @@ module _ (speech : Speech) (site : SiteView) (beat : ℕ) (next : Record) (acts 
             record {
               agent = backed.agent;
               bytes = backed.bytes;
+              is_agent = backed.is_agent;
               sent = sent_more (r ∷ records) next _ _ _ backed.sent;
               reply = subst (λ (l : List Act). HasReply l run issue (ReadsAs status rule text)) one there.so;
             }

@@ -1,10 +1,11 @@
 -- From session to session: which sites a session may begin on.
-use Rattle.std.specs.Prelude.{◌≡◌, ℕ, ◌≤◌, List, [], None, Contains}
+use Rattle.std.specs.Prelude.{◌≡◌, ℕ, ◌≤◌, List, [], drop, None, Contains}
 use Rattle.cacao_site.specs.DiskCalls.{IsLeft}
+use Rattle.cacao_site.specs.Sound.{IsInTime}
 use Rattle.cacao_site.specs.View.{SiteView}
 use Rattle.cacao_site.specs.declared.parcel.Parcel.{Parcel}
 use Rattle.run_journal.specs.Layout.{Stands}
-use Rattle.flow_laws.specs.Images.{WasSaid, HasImage, told_list, puts_to, puts_of}
+use Rattle.flow_laws.specs.Images.{WasSaid, HasImage, up_to, told_list, puts_to, puts_of, session_puts}
 use Rattle.flow_laws.specs.Good.{IsGood}
 use Rattle.flow_laws.specs.Held.{Speech, IsHeldAs, IsRunLine}
 use Rattle.flow_laws.specs.Fresh.{IsUnused, IsFresh}
@@ -22,6 +23,13 @@ pub record IsRestart (old : SiteView) (beat : ℕ) (new : SiteView) : Type 0 whe
   pub images : (file : ℕ) → file ≤ 16 → Among file old beat new new.disk.beat
   pub puts : AreCopies old beat new
   pub said : (bytes : List ℕ) → WasSaid new new.disk.beat bytes → WasSaid old beat bytes
+
+-- what the crash of a site in memory leaves: images that its files had at its last beat, and its parcels and lines
+pub record IsCrashed (old new : SiteView) : Type 0 where
+  pub left : (file : ℕ) (image : List ℕ) → file ≤ 16 → IsLeft new.disk file new.disk.beat image
+      → IsLeft old.disk file old.disk.beat image
+  pub link : new.link ≡ old.link
+  pub beat : new.disk.beat ≡ old.disk.beat
 
 -- The same with a journal that was taken away: it stands for the empty list, and no line of a record was said on the new site.
 pub record IsNewRun (speech : Speech) (old : SiteView) (beat : ℕ) (new : SiteView) : Type 0 where
@@ -56,6 +64,15 @@ abbrev pub GoesOnAfterACrash : Type 0
 GoesOnAfterACrash =
     (speech : Speech) (old new : SiteView) (first beat : ℕ) → IsRestart old beat new → IsGood old beat
     → IsHeldAs speech old first beat → IsStart speech new × StaysFresh old beat new
+
+-- a crash of a site in memory leaves such a site, at its last beat
+abbrev pub CrashesAreRestarts : Type 0
+CrashesAreRestarts = (old new : SiteView) → IsCrashed old new → IsRestart old old.disk.beat new
+
+-- Where puts stand in the order of their beats, those of a session are the list past the first ones, up to that beat.
+abbrev pub SessionPutsArePast : Type 0
+SessionPutsArePast = (first : ℕ) (site : SiteView) (beat : ℕ) → IsInTime site.disk.beat site.link.puts
+    → session_puts first site beat ≡ up_to beat (drop first (told_list site.link.puts))
 
 -- a run may begin where another's journal was taken away, under a number that nothing carries
 abbrev pub BeginsAnew : Type 0

@@ -5,3 +5,4 @@ pub mod LayoutLaws
 pub mod Tears
 pub mod Unique
 pub mod PlaceLaws
+pub mod DurableLemmas

@@ -1,3 +1,4 @@
+pub mod Durable
 pub mod Journal
 pub mod JournalView
 pub mod Laws

@@ -122,7 +122,8 @@ impl Journal {
 
     /// How many entries there are.
     pub fn count(&self) -> u32
-        ensures { result ≡ length self.now.items }
+        ensures value { result ≡ length self.now.items }
+        ensures fits { length (front self.now.items) < 67_108_864 }
     {
         self.items.len() as u32
     }

@@ -3,6 +3,7 @@
 
 mod append;
 mod blocks;
+mod durable;
 pub mod error;
 pub mod journal;
 pub mod laws;

@@ -37,6 +37,7 @@ impl Journal {
         ensures prepared { IfOk result (λ journal. IsTrue (D.view disk.old).disk.told
             → IsTrue journal.prepared ↔ (9 < length ((D.view disk.new).disk.reads file))) }
 
+        ensures damaged_durable { (place : ℕ) → IsErrOf result (JournalError.Damaged place) → IsDurable file (D.view disk.new).disk }
         ensures damaged { (place : ℕ) → IsErrOf result (JournalError.Damaged place) → IsTrue (D.view disk.old).disk.told
             → IsDamagedAt ((D.view disk.new).disk.reads file) place }
         ensures disk { IsErrOf result JournalError.Disk → Rose (D.view disk.old).disk.faults (D.view disk.new).disk.faults }

@@ -1,9 +1,7 @@
 -- Acts, their table and their entries, one act more.
-use Rattle.std.proofs.Common.{◌≡◌, ◌⊎◌, inl, inr, ℕ, zero, suc, ◌-◌, ◌<◌, ◌≤◌, List, [], ◌∷◌, ◌++◌, map, length, fold, take, Contains, Some, slice_get, refl, sym, subst, ap, ◌∙◌, arith, length-append}
+use Rattle.std.proofs.Common.{◌≡◌, ℕ, suc, ◌-◌, ◌<◌, ◌≤◌, List, [], ◌∷◌, ◌++◌, map, length, fold, take, Contains, Some, slice_get, sym, subst, ap, ◌∙◌, arith, length-append}
 use Rattle.std.specs.List.{AllByRecursion}
-use Rattle.std.proofs.Math.Seq.{take-append_seam}
-use Rattle.std.proofs.lemmas.List.{map-append, take-append-le}
-use Rattle.std.proofs.lemmas.List.Quantifiers.{all_pairs_push}
+use Rattle.std.proofs.lemmas.List.{map-append}
 use Rattle.std.proofs.lemmas.List.Sums.{fold-append}
 use Rattle.std.proofs.lemmas.Option.{same_Some, slice_get-get_or}
 use Rattle.oc2_msg.specs.Reasons.{reason_text}
@@ -13,28 +11,12 @@ use Rattle.run_records.specs.Ranges.{ActInRange}
 use Rattle.slpf_rules.specs.declared.rules.Rule.{Rule}
 use Rattle.slpf_rules.specs.Laws.{RepliesAreFinal}
 use Rattle.slpf_rules.specs.Replies.{reply}
-use Rattle.slpf_actuator.specs.ActLists.{AreActs, IsFinalReply, IsHistory, IsOther, IsReplied, MayFollow, entries_of, moment_of_last, last_of, reply_text, table_of}
-
--- what stands at a place of a list with one item more
-pub get_push : {T : Type 0} (xs : List T) (y : T) (n : ℕ) (x : T) → slice_get (xs ++ y ∷ []) n ≡ Some x → ((n < length xs) × (slice_get xs n ≡ Some x)) ⊎ ((n ≡ length xs) × (y ≡ x))
-get_push [] y zero x is = inr (refl, cc)
-get_push [] y (suc n) x is = absurd (cc)
-get_push (z ∷ xs) y zero x is = inl (omega arith, is)
-get_push (z ∷ xs) y (suc n) x is = elim (get_push xs y n x is) [
-  | inl old ↦ inl (omega (arith, old.0), old.1)
-  | inr new ↦ inr (omega (arith, new.0), new.1)
-]
+use Rattle.slpf_acts.proofs.Acts.{acts_more}
+use Rattle.slpf_acts.specs.Acts.{AreActs, reply_text, table_of}
+use Rattle.slpf_actuator.specs.ActLists.{IsFinalReply, IsHistory, MayFollow, entries_of, moment_of_last, last_of}
 
 pub acts_push : (acts : List Act) (act : Act) → AreActs acts → MayFollow acts act → AreActs (acts ++ act ∷ [])
-acts_push acts act were follows = record {
-  once = all_pairs_push IsOther acts act were.once follows.is_new;
-  replied = λ n x is. elim (get_push acts act n x is) [
-    | inl old ↦ subst (λ (l : List Act). IsReplied l x) (sym (take-append-le n acts (act ∷ []) (omega (arith, old.0)))) (were.replied n x old.1)
-    | inr new ↦
-        let all : take n (acts ++ act ∷ []) ≡ acts = subst (λ (k : ℕ). take k (acts ++ act ∷ []) ≡ acts) (sym new.0) (take-append_seam acts (act ∷ [])) in
-        subst (λ (l : List Act). IsReplied l x) (sym all) (subst (λ (a : Act). IsReplied acts a) new.1 follows.replied)
-  ];
-}
+acts_push acts act were follows = acts_more acts act were follows.is_new follows.replied
 
 ranges_push : (acts : List Act) (act : Act) → AllByRecursion ActInRange acts → ActInRange act → AllByRecursion ActInRange (acts ++ act ∷ [])
 ranges_push [] act were is = (is, tt)

@@ -1,11 +1,10 @@
 -- What becomes of a command.
-use Rattle.std.proofs.Common.{◌≡◌, inr, ℕ, Bool, true, false, List, find, Some, Err, refl, sym, subst, ap, ap₂, ◌∙◌, IsTrue}
+use Rattle.std.proofs.Common.{◌≡◌, inr, ℕ, Bool, true, false, List, find, Some, Err, refl, sym, subst, ap, ap₂, ◌∙◌}
 use Rattle.std.specs.Prelude.{IsErrOf}
 use Rattle.cacao_site.specs.declared.parcel.Parcel.{Parcel}
 use Rattle.cacao_site.specs.SiteCalls.{Puts}
-use Rattle.cacao_site.specs.View.{DiskView, SiteView}
-use Rattle.cacao_site.specs.DiskCalls.{AllLeft, KeepsDisk}
-use Rattle.cacao_site.proofs.Beats.{left-keeps}
+use Rattle.cacao_site.specs.View.{SiteView}
+use Rattle.run_journal.proofs.DurableLemmas.{images_stay}
 use Rattle.run_journal.specs.JournalView.{JournalView}
 use Rattle.run_records.specs.declared.act.Act.{Act}
 use Rattle.slpf_rules.specs.Laws.{RepliesAreFinal}
@@ -13,7 +12,8 @@ use Rattle.slpf_actuator.specs.declared.error.ActError.{ActError}
 use Rattle.slpf_actuator.specs.declared.error.ActError.TheVariants.{Disk, Damaged, Full, Broken, Memory}
 use Rattle.slpf_actuator.specs.ActLists.{IsHistory, entries_of}
 use Rattle.slpf_actuator.specs.ActuatorCalls.{MayHaveDone, Offers, Repeats}
-use Rattle.slpf_actuator.specs.ActuatorView.{ActuatorView, IsImage, IsReady, reply_parcel_of}
+use Rattle.run_journal.specs.Durable.{IsImage}
+use Rattle.slpf_actuator.specs.ActuatorView.{ActuatorView, IsReady, reply_parcel_of}
 use Rattle.slpf_actuator.specs.History.{is_of}
 use Rattle.slpf_actuator.specs.Inside.{view_over}
 use Rattle.slpf_actuator.proofs.ActLemmas.{acts_final}
@@ -24,17 +24,13 @@ pub view_whole : (j : JournalView) (acts : List Act) (broken : Bool) → broken 
     → view_over j acts ≡ record { agent = j.file; acts = acts; prepared = j.prepared; broken = broken }
 view_whole j acts broken whole = ap (λ (b : Bool). let v : ActuatorView = record { agent = j.file; acts = acts; prepared = j.prepared; broken = b } in v) (sym whole)
 
--- a put leaves the images
-images_put : (file : ℕ) (old new : DiskView) (P : List ℕ → Type 0) → KeepsDisk old new → AllLeft file old P → AllLeft file new P
-images_put file old new P keeps here = λ told image left. here (subst IsTrue keeps.goes_on.told told) image (left-keeps keeps file image left)
-
 -- a put leaves a filter ready
 pub ready_after_put : (v : ActuatorView) (parcel : Parcel) (between new : SiteView) → IsReady v between → Puts parcel between new → IsReady v new
 ready_after_put v parcel between new ready puts = record {
   low = ready.low;
   high = ready.high;
   history = ready.history;
-  images = λ whole. images_put v.agent between.disk new.disk (IsImage v.prepared (entries_of v.acts)) puts.disk.disk (ready.images whole);
+  images = λ whole. images_stay v.agent between.disk new.disk (IsImage v.prepared (entries_of v.acts)) puts.disk.disk (ready.images whole);
 }
 
 pub repeats : RepliesAreFinal → (v : ActuatorView) (parcel : Parcel) (act : Act) (reply : Parcel) (old new : SiteView) → IsHistory v.acts

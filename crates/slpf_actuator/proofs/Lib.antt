@@ -1,6 +1,5 @@
 pub mod ActLemmas
 pub mod Damages
-pub mod DurableLemmas
 pub mod ErrorLemmas
 pub mod HandleLemmas
 pub mod KeepLemmas

@@ -1,37 +1,15 @@
--- The acts of a filter, and the table that they make.
-use Rattle.std.specs.Prelude.{◌≡◌, ◌≢◌, ℕ, ◌+◌, ◌≤◌, List, [], ◌∷◌, map, length, take, All, AllPairs, Contains, Some, slice_get}
+-- The acts that a filter holds, and which may follow.
+use Rattle.std.specs.Prelude.{◌≡◌, ◌≢◌, ℕ, ◌+◌, ◌≤◌, List, [], ◌∷◌, map, length, All, Contains, Some}
 use Rattle.std.specs.List.{AllByRecursion}
 use Rattle.oc2_msg.specs.declared.answers.Answer.{Answer}
-use Rattle.oc2_msg.specs.Responses.{response_text, answer}
+use Rattle.oc2_msg.specs.Responses.{answer}
 use Rattle.run_journal.specs.Layout.{front}
 use Rattle.run_records.specs.declared.act.Act.{Act}
 use Rattle.run_records.specs.Layout.{act_layout}
 use Rattle.run_records.specs.Ranges.{ActInRange}
-use Rattle.slpf_rules.specs.declared.rules.Rule.{Rule}
-use Rattle.slpf_rules.specs.Replies.{reply, table}
+use Rattle.slpf_acts.specs.Acts.{AreActs, IsReplied}
 
--- the canonical text of the response to the bytes of a command at a moment
-abbrev pub reply_text : List Rule → List ℕ → ℕ → List ℕ
-reply_text rules command moment = response_text (reply rules command moment).0
-
--- the rules after the acts, in order
-abbrev pub table_of : List Act → List Rule
-table_of acts = table (map (λ (act : Act). (act.command, act.moment)) acts)
-
--- two acts differ in their run or their issue
-abbrev pub IsOther : Act → Act → Type 0
-IsOther a b = a.run ≡ b.run → a.issue ≢ b.issue
-
--- the act's reply is the text of the response of the table before it
-abbrev pub IsReplied : List Act → Act → Type 0
-IsReplied before act = act.reply ≡ reply_text (table_of before) act.command act.moment
-
--- the acts of one filter: no two have one run and issue, and each reply is that of the table before it
-pub record AreActs (acts : List Act) : Type 0 where
-  pub once : AllPairs IsOther acts
-  pub replied : (n : ℕ) (act : Act) → slice_get acts n ≡ Some act → IsReplied (take n acts) act
-
--- the same of the acts that a filter holds; their fields lie in their ranges, and they can be counted
+-- the acts that a filter holds: they are acts of one filter, their fields lie in their ranges, and they can be counted
 pub record IsHistory (acts : List Act) : Type 0 where
   pub are : AreActs acts
   pub ranges : AllByRecursion ActInRange acts

@@ -11,7 +11,7 @@ use Rattle.slpf_actuator.specs.declared.error.ActError.{ActError}
 use Rattle.slpf_actuator.specs.declared.error.ActError.TheVariants.{Disk, Memory}
 use Rattle.slpf_actuator.specs.ActLists.{HasActed, IsFinalReply, IsNew, length_with}
 use Rattle.slpf_actuator.specs.ActuatorView.{ActuatorView, HoldsActs, act_for, reply_parcel_of}
-use Rattle.slpf_actuator.specs.Durable.{header_calls, header_bytes}
+use Rattle.run_journal.specs.Durable.{header_calls, header_bytes}
 
 -- the image stands for the acts, or for these and one more
 abbrev pub HoldsWith : List Act → Act → List ℕ → Type 0

@@ -3,9 +3,11 @@ use Rattle.std.specs.Prelude.{◌≡◌, ℕ, ◌≤◌, max, Bool, true, false,
 use Rattle.cacao_site.specs.declared.parcel.Parcel.{Parcel}
 use Rattle.cacao_site.specs.DiskCalls.{AllLeft}
 use Rattle.cacao_site.specs.View.{SiteView}
-use Rattle.run_journal.specs.Layout.{Stands, HasLayout}
+use Rattle.run_journal.specs.Durable.{IsImage}
+use Rattle.run_journal.specs.Layout.{Stands}
 use Rattle.run_records.specs.declared.act.Act.{Act}
-use Rattle.slpf_actuator.specs.ActLists.{IsHistory, entries_of, moment_of_last, reply_text, table_of}
+use Rattle.slpf_acts.specs.Acts.{reply_text, table_of}
+use Rattle.slpf_actuator.specs.ActLists.{IsHistory, entries_of, moment_of_last}
 
 pub record ActuatorView : Type 0 where
   pub agent : ℕ  -- its number, which is that of its file
@@ -16,15 +18,6 @@ pub record ActuatorView : Type 0 where
 -- the image stands for the acts
 abbrev pub HoldsActs : List Act → List ℕ → Type 0
 HoldsActs acts image = Stands image (entries_of acts)
-
--- where the header need not be written any more an image has the layout, else at most 9 bytes
-abbrev pub IsPrepared : Bool → List (List ℕ) → List ℕ → Type 0
-IsPrepared true items image = HasLayout items image
-IsPrepared false items image = length image ≤ 9
-
--- an image of a journal between two calls
-abbrev pub IsImage : Bool → List (List ℕ) → List ℕ → Type 0
-IsImage prepared items image = Stands image items × IsPrepared prepared items image
 
 -- what holds of a filter and of its file between its calls
 pub record IsReady (v : ActuatorView) (site : SiteView) : Type 0 where

@@ -6,7 +6,8 @@ use Rattle.std.specs.Ordering.{nat_cmp, ordering_then}
 use Rattle.std.specs.declared.cmp.Ordering.{Ordering}
 use Rattle.run_records.specs.declared.act.Act.{Act}
 use Rattle.slpf_rules.specs.declared.rules.Rule.{Rule}
-use Rattle.slpf_actuator.specs.ActLists.{IsHistory, table_of}
+use Rattle.slpf_acts.specs.Acts.{table_of}
+use Rattle.slpf_actuator.specs.ActLists.{IsHistory}
 
 abbrev pub Places : Type 0
 Places = List ((ℕ × ℕ) × ℕ)

@@ -2,7 +2,6 @@ pub mod ActLists
 pub mod ActuatorCalls
 pub mod ActuatorView
 pub mod Damage
-pub mod Durable
 pub mod Errors
 pub mod History
 pub mod Inside

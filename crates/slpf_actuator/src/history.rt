@@ -3,7 +3,8 @@ ghost use Rattle.std.specs.Prelude.{◌≡◌, ◌↔◌, ◌<◌, ℕ, [], ◌�
 ghost use Rattle.oc2_msg.specs.Commands.{answer_of};
 ghost use Rattle.oc2_msg.specs.Ranges.{InRange};
 ghost use Rattle.run_records.specs.Ranges.{ActInRange};
-ghost use Rattle.slpf_actuator.specs.ActLists.{IsHistory, MayFollow, moment_of_last, table_of};
+ghost use Rattle.slpf_acts.specs.Acts.{table_of};
+ghost use Rattle.slpf_actuator.specs.ActLists.{IsHistory, MayFollow, moment_of_last};
 ghost use Rattle.slpf_actuator.specs.History.{is_of};
 
 use crate::answering::{Asked, enact};

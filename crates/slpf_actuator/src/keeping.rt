@@ -12,7 +12,6 @@ ghost use Rattle.slpf_actuator.specs.ActuatorView.{ActuatorView, IsReady, act_fo
 ghost use Rattle.slpf_actuator.specs.Inside.{view_over};
 
 use crate::answering::{Asked, answer};
-use crate::durable::append_durably;
 use crate::error::ActError;
 use crate::history::History;
 use cacao_site::{Bytes, Disk, Parcel, Site};
@@ -125,7 +124,7 @@ fn keep<D: Disk>(
     ensures no_other { (place : ℕ) → (result ≢ Err ActError.Broken) × (result ≢ Err (ActError.Damaged place)) }
 {
     reserve(journal, &entry)?;
-    append_durably(journal, disk, entry)?;
+    journal.append_durably(disk, entry)?;
     prove!(journal.count() > 0);
     history.push(act, asked)?;
     Ok(())

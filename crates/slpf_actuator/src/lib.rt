@@ -4,7 +4,6 @@
 
 pub mod actuator;
 mod answering;
-mod durable;
 pub mod error;
 mod handling;
 mod history;

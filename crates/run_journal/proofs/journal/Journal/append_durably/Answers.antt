@@ -1,11 +1,11 @@
 use Rattle.std.proofs.Common.{◌≡◌, ◌∙◌, [], ap, false, arith, rules}
 use Rattle.run_journal.specs.JournalView.{JournalView}
-use Rattle.slpf_actuator.proofs.DurableLemmas.{appends_then, file_stays, never_full}
-use Rattle.slpf_actuator.proofs.durable.append_durably.Goals as goal
+use Rattle.run_journal.proofs.DurableLemmas.{appends_then, file_stays, items_stay, never_full}
+use Rattle.run_journal.proofs.journal.Journal.append_durably.Goals as goal
 
 pub returns-in-Ok-append-clause-appends : goal.returns-in-Ok-append-clause-appends
 returns-in-Ok-append-clause-appends g c =
-    let was = c.args.journal.now in
+    let was = c.args.self.now in
     let unprepared : was.prepared ≡ false = search rules in
     let here = c.requires.images in
     let first = c.in-Ok.ensures in
@@ -16,7 +16,7 @@ returns-in-Ok-append-clause-appends g c =
 
 pub returns-in-Err-append-clause-appends : goal.returns-in-Err-append-clause-appends
 returns-in-Err-append-clause-appends g c =
-    let was = c.args.journal.now in
+    let was = c.args.self.now in
     let unprepared : was.prepared ≡ false = search rules in
     let here = c.requires.images in
     let first = c.in-Ok.ensures in
@@ -31,10 +31,16 @@ returns-in-Err-append-clause-file g c =
     file_stays c.in-Err-append.error c.prepare.new.self c.append.new.self says.breaks (λ e. (says.broken_stays e).1) (λ needed e. (says.full_stays needed e).1) says.no_other
     ∙ ap (λ (v : JournalView). v.file) c.in-Ok.ensures.ok
 
+pub returns-in-Err-append-clause-items : goal.returns-in-Err-append-clause-items
+returns-in-Err-append-clause-items g c =
+    let says = c.in-Err-append.ensures in
+    items_stay c.in-Err-append.error c.prepare.new.self c.append.new.self says.breaks (λ e. (says.broken_stays e).1) (λ needed e. (says.full_stays needed e).1) says.no_other
+    ∙ ap (λ (v : JournalView). v.items) c.in-Ok.ensures.ok
+
 pub returns-in-Err-append-clause-full_stays : goal.returns-in-Err-append-clause-full_stays
 returns-in-Err-append-clause-full_stays g c = λ needed e.
     let full = c.in-Err-append.ensures.full needed e in
-    let unprepared : c.args.journal.now.prepared ≡ false = search rules in
+    let unprepared : c.args.self.now.prepared ≡ false = search rules in
     let none : c.prepare.new.self.items ≡ [] = ap (λ (v : JournalView). v.items) c.in-Ok.ensures.ok ∙ c.if-is_prepared.ensures.blank unprepared in
     absurd (never_full c.prepare.new.self.items c.args.item none c.requires.size (omega arith))
 
@@ -46,5 +52,5 @@ returns-in-Err-append-clause-no_other g c = λ place.
 
 pub returns-in-Err-clause-full_only : goal.returns-in-Err-clause-full_only
 returns-in-Err-clause-full_only g c = λ past.
-    let unprepared : c.args.journal.now.prepared ≡ false = search rules in
-    absurd (never_full c.args.journal.now.items c.args.item (c.if-is_prepared.ensures.blank unprepared) c.requires.size past)
+    let unprepared : c.args.self.now.prepared ≡ false = search rules in
+    absurd (never_full c.args.self.now.items c.args.item (c.if-is_prepared.ensures.blank unprepared) c.requires.size past)

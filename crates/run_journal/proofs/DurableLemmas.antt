@@ -1,14 +1,14 @@
 -- An entry behind a header that may still be to be written.
 use Rattle.std.proofs.Common.{◌≡◌, ◌≢◌, inl, ℕ, ◌+◌, ◌<◌, ◌≤◌, Bool, true, false, List, [], length, Err, refl, sym, subst, ap, ◌∙◌, arith}
-use Rattle.std.specs.Prelude.{IsErrOf}
-use Rattle.cacao_site.specs.DiskCalls.{EachBeat, SameRest, StaysAt}
-use Rattle.cacao_site.specs.View.{SiteView}
-use Rattle.cacao_site.proofs.Beats.{each-trans, each-weaken, rest-trans, stays-trans}
+use Rattle.std.specs.Prelude.{IsErrOf, IsTrue}
+use Rattle.cacao_site.specs.DiskCalls.{AllLeft, EachBeat, KeepsDisk, SameRest, StaysAt}
+use Rattle.cacao_site.specs.View.{DiskView, SiteView}
+use Rattle.cacao_site.proofs.Beats.{each-trans, each-weaken, left-keeps, rest-trans, stays-trans}
 use Rattle.run_journal.specs.declared.error.JournalError.{JournalError}
 use Rattle.run_journal.specs.declared.error.JournalError.TheVariants as journal
 use Rattle.run_journal.specs.JournalView.{JournalView}
 use Rattle.run_journal.specs.Layout.{Stands, StandsBeforeOrAfter, entries, front}
-use Rattle.slpf_actuator.specs.Durable.{MayAppend, header_bytes, header_calls}
+use Rattle.run_journal.specs.Durable.{MayAppend, header_bytes, header_calls}
 
 -- whatever an append answers, its file stays
 pub file_stays : (e : JournalError) (v w : JournalView) → (IsErrOf {T = Unit {0}} (Err e) journal.Disk → w ≡ record v { broken = true })
@@ -19,6 +19,16 @@ file_stays (journal.Damaged place) v w disk broken full other = absurd ((other p
 file_stays (journal.Full needed) v w disk broken full other = ap (λ (x : JournalView). x.file) (full needed refl)
 file_stays journal.Broken v w disk broken full other = ap (λ (x : JournalView). x.file) (broken refl)
 file_stays journal.Memory v w disk broken full other = absurd ((other 0).1 refl)
+
+-- and so do its entries
+pub items_stay : (e : JournalError) (v w : JournalView) → (IsErrOf {T = Unit {0}} (Err e) journal.Disk → w ≡ record v { broken = true })
+    → (IsErrOf {T = Unit {0}} (Err e) journal.Broken → w ≡ v) → ((needed : ℕ) → IsErrOf {T = Unit {0}} (Err e) (journal.Full needed) → w ≡ v)
+    → ((place : ℕ) → (IsErrOf {T = Unit {0}} (Err e) (journal.Damaged place) → ⊥) × (IsErrOf {T = Unit {0}} (Err e) journal.Memory → ⊥)) → w.items ≡ v.items
+items_stay journal.Disk v w disk broken full other = ap (λ (x : JournalView). x.items) (disk refl)
+items_stay (journal.Damaged place) v w disk broken full other = absurd ((other place).0 refl)
+items_stay (journal.Full needed) v w disk broken full other = ap (λ (x : JournalView). x.items) (full needed refl)
+items_stay journal.Broken v w disk broken full other = ap (λ (x : JournalView). x.items) (broken refl)
+items_stay journal.Memory v w disk broken full other = absurd ((other 0).1 refl)
 
 front_none : length (front []) ≡ 8
 unfolding front entries
@@ -48,3 +58,7 @@ appends_then v w item old mid new unprepared whole is first others rest calls wr
       calls = subst (λ (b : Bool). new.disk.calls ≤ old.disk.calls + (header_calls b + 4)) (sym unprepared) (omega (arith, calls, calls_then));
       written = subst (λ (b : Bool). new.disk.written ≤ old.disk.written + (header_bytes b + (length item + 6))) (sym unprepared) (omega (arith, written, written_then));
     }
+
+-- what leaves the disk leaves the images
+pub images_stay : (file : ℕ) (old new : DiskView) (P : List ℕ → Type 0) → KeepsDisk old new → AllLeft file old P → AllLeft file new P
+images_stay file old new P keeps here = λ told image left. here (subst IsTrue keeps.goes_on.told told) image (left-keeps keeps file image left)

@@ -3,7 +3,16 @@ use Rattle.std.specs.Prelude.{ℕ, ◌+◌, ◌≤◌, length, Bool, true, false
 use Rattle.cacao_site.specs.DiskCalls.{OnlyFile}
 use Rattle.cacao_site.specs.View.{SiteView}
 use Rattle.run_journal.specs.JournalView.{JournalView}
-use Rattle.run_journal.specs.Layout.{StandsBeforeOrAfter}
+use Rattle.run_journal.specs.Layout.{HasLayout, Stands, StandsBeforeOrAfter}
+
+-- where the header need not be written any more an image has the layout, else at most 9 bytes
+abbrev pub IsPrepared : Bool → List (List ℕ) → List ℕ → Type 0
+IsPrepared true items image = HasLayout items image
+IsPrepared false items image = length image ≤ 9
+
+-- an image of a journal between two calls
+abbrev pub IsImage : Bool → List (List ℕ) → List ℕ → Type 0
+IsImage prepared items image = Stands image items × IsPrepared prepared items image
 
 -- the device calls and the bytes of a header that is still to be written
 abbrev pub header_calls : Bool → ℕ
