@@ -19,6 +19,38 @@ const HEAD: &str =
 const DENY: &str = r#""type":"action","agent":"net-address--20",
 "commands":[{"type":"openc2-http","content":"{\"action\":\"deny\",\"target\":{\"ipv4_net\":\"10.0.0.0/8\"}}"}]"#;
 
+/// Other texts, each after those that stand for parts of it. `LONG` stands for 99 characters, one of them a quotation mark, so that
+/// inside a command they have 100 bytes; `TEXT` for 40 of these; `REFS` for 262 references to a variable `__a__`; `PAD` for 508
+/// characters, and `TAIL` for 89.
+const PARTS: [(&str, &str); 11] = [
+    ("HEAD", HEAD),
+    ("DENY", DENY),
+    (
+        "REFS",
+        "FIFTYFIFTYFIFTYFIFTYFIFTYTENS__a__:value__a__:value",
+    ),
+    ("FIFTY", "TENSTENSTENSTENSTENS"),
+    (
+        "TENS",
+        "__a__:value__a__:value__a__:value__a__:value__a__:value__a__:value__a__:value__a__:value__a__:value__a__:value",
+    ),
+    ("TEXT", "EIGHTEIGHTEIGHTEIGHTEIGHT"),
+    ("EIGHT", "LONGLONGLONGLONGLONGLONGLONGLONG"),
+    (
+        "LONG",
+        "\\\"01234567890123456789012345678901234567890123456789012345678901234567890123456789012345678901234567",
+    ),
+    ("PAD", "HUNDHUNDHUNDHUNDHUND12345678"),
+    (
+        "TAIL",
+        "01234567890123456789012345678901234567890123456789012345678901234567890123456789012345678",
+    ),
+    (
+        "HUND",
+        "0123456789012345678901234567890123456789012345678901234567890123456789012345678901234567890123456789",
+    ),
+];
+
 /// The playbooks of a run.
 #[derive(Clone, Copy)]
 pub(crate) enum Books {
@@ -26,13 +58,18 @@ pub(crate) enum Books {
     Alone(&'static str),
     /// The one that is run, and one that it calls.
     Calling(&'static str, &'static str),
+    /// The one that is run, and bindings.
+    Bound(&'static str, &'static str),
 }
 
 /// The text with its identifiers and its members whole.
 fn whole(alloc: Global, text: &str) -> Result<String, AllocError> {
-    let text = text.replace(alloc, "HEAD", HEAD)?;
-    let text = text.as_str().replace(alloc, "DENY", DENY)?;
-    text.as_str().replace(alloc, "--", MIDDLE)
+    let mut text = text.replace(alloc, "--", MIDDLE)?;
+    for (short, part) in PARTS {
+        let part = part.replace(alloc, "--", MIDDLE)?;
+        text = text.as_str().replace(alloc, short, part.as_str())?;
+    }
+    Ok(text)
 }
 
 /// The text with its identifiers cut.
@@ -58,7 +95,7 @@ pub(crate) fn alone(alloc: Global, text: &str) -> Result<Setup, SetupError> {
     Setup::read(alloc, &texts, &bind)
 }
 
-/// The setup of these playbooks, without bindings.
+/// The setup of these playbooks.
 pub(crate) fn setup(alloc: Global, books: Books) -> Result<Setup, SetupError> {
     let bind = Bytes::from_slice(alloc, b"")?;
     match books {
@@ -68,6 +105,11 @@ pub(crate) fn setup(alloc: Global, books: Books) -> Result<Setup, SetupError> {
         }
         Books::Calling(text, called) => {
             let texts = [bytes_of(alloc, text)?, bytes_of(alloc, called)?];
+            Setup::read(alloc, &texts, &bind)
+        }
+        Books::Bound(text, bindings) => {
+            let texts = [bytes_of(alloc, text)?];
+            let bind = bytes_of(alloc, bindings)?;
             Setup::read(alloc, &texts, &bind)
         }
     }

@@ -1,5 +1,5 @@
 //! Runs of playbooks on this machine. `flow_bench cases` plays worked runs, and prints for each its title, its records, and what
-//! is shown of it at its end. `flow_bench measure` prints a line for each measurement, with what was counted and the processor
+//! is shown of it at its end; then it reads setups, and prints which are refused. `flow_bench measure` prints a line for each measurement, with what was counted and the processor
 //! time that it took. Other words print how it is called. In what is printed an identifier is cut to its type and its last
 //! two digits: `end--13` stands for `end--00000000-0000-4000-8000-000000000013`.
 #![tactic(auto)]
@@ -9,13 +9,16 @@ mod branches;
 mod calls;
 mod commands;
 mod failures;
+mod limits;
 mod lines;
 mod loops;
 mod measures;
 mod operators;
+mod places;
 mod played;
 mod report;
 mod scripts;
+mod setups;
 mod trees;
 
 use std::{env, io};
@@ -27,7 +30,10 @@ fn cases(rt: &(impl Print + AllocGlobal)) -> io::Result<()> {
     loops::cases(rt)?;
     calls::cases(rt)?;
     failures::cases(rt)?;
-    operators::cases(rt)
+    operators::cases(rt)?;
+    places::cases(rt)?;
+    limits::cases(rt)?;
+    setups::cases(rt)
 }
 
 fn main(rt: HostRuntime) -> io::Result<()> {

@@ -45,6 +45,10 @@ pub(crate) enum Next {
     Command {
         issue: u32,
     },
+    /// A line that tells how many bytes an issue has.
+    Length {
+        issue: u32,
+    },
 }
 
 /// A reply of 200 to an issue at the moment 0, with a rule's number.
@@ -82,6 +86,9 @@ pub(crate) fn say_refusal(rt: &impl Print, error: FlowError) -> io::Result<()> {
         FlowError::Limit {
             what: LimitKind::Tasks,
         } => "limit tasks",
+        FlowError::Limit {
+            what: LimitKind::Command,
+        } => "limit command",
         FlowError::Limit { .. } => "limit",
         FlowError::Memory => "memory",
     };
@@ -187,12 +194,19 @@ fn say_command(rt: &(impl Print + AllocGlobal), played: &Played, issue: u32) -> 
     println!(rt; "bytes {issue} {text}")
 }
 
+/// Prints how many bytes an issue has.
+fn say_length(rt: &impl Print, played: &Played, issue: u32) -> io::Result<()> {
+    let length = played.bytes_of(issue).len();
+    println!(rt; "length {issue} {length}")
+}
+
 /// Does what comes next.
 fn go(rt: &(impl Print + AllocGlobal), played: &mut Played, next: Next) -> io::Result<()> {
     match next {
         Next::Moves { moment } => take_moves(rt, played, moment),
         Next::Due => say_due(rt, played),
         Next::Command { issue } => say_command(rt, played, issue),
+        Next::Length { issue } => say_length(rt, played, issue),
         _ => take_reply(rt, played, next),
     }
 }

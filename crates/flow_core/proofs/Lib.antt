@@ -1,6 +1,7 @@
 pub mod AddingLemmas
 pub mod AddressLemmas
 pub mod AnswerLemmas
+pub mod BoundLemmas
 pub mod CountLemmas
 pub mod DeclaredLemmas
 pub mod DueFacts
@@ -32,6 +33,7 @@ pub mod SetupRunnable
 pub mod SetupSearch
 pub mod SetupWhole
 pub mod ShapedLemmas
+pub mod SizeLemmas
 pub mod StandLemmas
 pub mod TableLemmas
 pub mod TableReads

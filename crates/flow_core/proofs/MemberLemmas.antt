@@ -84,23 +84,23 @@ through x (member l d ms) s t w =
 
 -- ---- tests of names
 
-differs : (k l : List ℕ) → (k ≡ l → ⊥) → bytes_eq k l ≡ false
+pub differs : (k l : List ℕ) → (k ≡ l → ⊥) → bytes_eq k l ≡ false
 differs k l h = by (bytes_eq k l) refl
   where
     by : (b : Bool) → bytes_eq k l ≡ b → b ≡ false
     by true e = absurd (h ((bytes_eq-Decides k l).0 e))
     by false e = refl
 
-itself : (k : List ℕ) → bytes_eq k k ≡ true
+pub itself : (k : List ℕ) → bytes_eq k k ≡ true
 itself k = (bytes_eq-Decides k k).1 refl
 
-other_name : (k l : List ℕ) → bytes_eq k l ≡ false → k ≡ l → ⊥
+pub other_name : (k l : List ℕ) → bytes_eq k l ≡ false → k ≡ l → ⊥
 other_name k l e same = cc (sym ((bytes_eq-Decides k l).1 same) ∙ e)
 
-without_other : (k l : List ℕ) (d : Data) (ms : Members) → (k ≡ l → ⊥) → without k (member l d ms) ≡ member l d (without k ms)
+pub without_other : (k l : List ℕ) (d : Data) (ms : Members) → (k ≡ l → ⊥) → without k (member l d ms) ≡ member l d (without k ms)
 without_other k l d ms h = ap (λ b. if b then without k ms else member l d (without k ms)) (differs k l h)
 
-without_itself : (k : List ℕ) (d : Data) (ms : Members) → without k (member k d ms) ≡ without k ms
+pub without_itself : (k : List ℕ) (d : Data) (ms : Members) → without k (member k d ms) ≡ without k ms
 without_itself k d ms = ap (λ b. if b then without k ms else member k d (without k ms)) (itself k)
 
 pub without_lacking : (k : List ℕ) (ms : Members) → Lacks k ms → without k ms ≡ ms
@@ -110,10 +110,10 @@ without_lacking k (member l d ms) w = without_other k l d ms w.0 ∙ ap (member 
 get_by : (o : Ordering) (k l : List ℕ) (d : Data) (ms : Members) → compare k l ≡ o → get_member k (member l d ms) ≡ match_ordering o (get_member k ms) (Some d) (get_member k ms)
 get_by o k l d ms h = ap (λ o. match_ordering o (get_member k ms) (Some d) (get_member k ms)) h
 
-get_itself : (k : List ℕ) (d : Data) (ms : Members) → get_member k (member k d ms) ≡ Some d
+pub get_itself : (k : List ℕ) (d : Data) (ms : Members) → get_member k (member k d ms) ≡ Some d
 get_itself k d ms = get_by Equal k k d ms (tied_itself nat_list_cmp_total k)
 
-get_other : (k l : List ℕ) (d : Data) (ms : Members) → (k ≡ l → ⊥) → get_member k (member l d ms) ≡ get_member k ms
+pub get_other : (k l : List ℕ) (d : Data) (ms : Members) → (k ≡ l → ⊥) → get_member k (member l d ms) ≡ get_member k ms
 get_other k l d ms h = by (compare k l) refl
   where
     by : (o : Ordering) → compare k l ≡ o → get_member k (member l d ms) ≡ get_member k ms
@@ -121,10 +121,10 @@ get_other k l d ms h = by (compare k l) refl
     by Equal e = absurd (h (exact_bytes k l e))
     by Greater e = get_by Greater k l d ms e
 
-with_itself : (k : List ℕ) (f : Data → Data) (new d : Data) (ms : Members) → with_member k f new (member k d ms) ≡ member k (f d) ms
+pub with_itself : (k : List ℕ) (f : Data → Data) (new d : Data) (ms : Members) → with_member k f new (member k d ms) ≡ member k (f d) ms
 with_itself k f new d ms = ap (λ b. if b then member k (f d) ms else member k d (with_member k f new ms)) (itself k)
 
-with_other : (k l : List ℕ) (f : Data → Data) (new d : Data) (ms : Members) → (l ≡ k → ⊥) → with_member k f new (member l d ms) ≡ member l d (with_member k f new ms)
+pub with_other : (k l : List ℕ) (f : Data → Data) (new d : Data) (ms : Members) → (l ≡ k → ⊥) → with_member k f new (member l d ms) ≡ member l d (with_member k f new ms)
 with_other k l f new d ms h = ap (λ b. if b then member l (f d) ms else member l d (with_member k f new ms)) (differs l k h)
 
 -- ---- a member that is set as the rules say

@@ -16,6 +16,7 @@ pub mod SetupLaws
 pub mod SetupReading
 pub mod Setups
 pub mod Sights
+pub mod Sizes
 pub mod Stands
 pub mod TableFacts
 pub mod Truths

@@ -85,7 +85,12 @@ impl Run {
     }
 
     // The whole number that a text stands for that is one whole reference.
-    fn whole_number(&self, alloc: Global, scope: u32, text: &str) -> Result<Option<i64>, AllocError>
+    pub(crate) fn whole_number(
+        &self,
+        alloc: Global,
+        scope: u32,
+        text: &str,
+    ) -> Result<Option<i64>, AllocError>
         requires well { IsWell self.now }
         requires there { scope < length self.now.tables.scopes.items }
         ensures { IfOk result (λ number. number ≡ option_and_then (number_of (lists_of self.now.tables) scope) (whole_reference text.now)) }

@@ -158,13 +158,16 @@ impl Flow {
     }
 
     /// The record of a move at a moment, in milliseconds; what an operator is asked is UTF-8. It is refused as `ready` refuses
-    /// that record, and where the move has none.
+    /// that record, and where the move has none. No memory is taken for a command, or a question, that is too long.
     pub fn make(&self, step: Move, moment: u64) -> Result<Record, FlowError>
         requires { self.now.count < 100_000_000 }
         ensures made { IfOk result (λ item. record_of self.now.seen moment step ≡ Some item) }
         ensures text { IfOk result AsksText }
         ensures answers { Answers self.now result (taken_by self.now moment step) }
     {
+        if self.is_long(step, moment)? {
+            return Err(self.why_long(step, moment));
+        }
         let found = self.record_for(step, moment)?;
         let Some(item) = found else {
             return Err(FlowError::NotEnabled);

@@ -211,7 +211,7 @@ impl Run {
             && *bytes == made.issue.bytes
     }
 
-    /// What a Send changes; `None` where it may not come next.
+    /// What a Send changes; `None` where it may not come next. A command that is longer than the record's is not filled.
     pub(crate) fn send(
         &self,
         alloc: Global,
@@ -225,6 +225,9 @@ impl Run {
         ensures edits { IfOk result (λ o. option_map (λ plan. edits_of plan.items) o ≡ send (shown_of self.now) now task issue agent bytes.now) }
         ensures declared { IfOk result (λ o. IfSome o (λ plan. AreDeclared plan.items)) }
     {
+        if self.next_command_reaches(alloc, now, task, bytes.as_slice().len() + 1)? {
+            return Ok(None);
+        }
         let Some(made) = self.next_command(alloc, now, task)? else {
             return Ok(None);
         };
@@ -235,7 +238,7 @@ impl Run {
         Ok(Some(plan))
     }
 
-    /// What an Ask changes; `None` where it may not come next.
+    /// What an Ask changes; `None` where it may not come next. A question that is longer than the record's is not made.
     pub(crate) fn ask(
         &self,
         alloc: Global,
@@ -248,6 +251,9 @@ impl Run {
         ensures edits { IfOk result (λ o. option_map (λ plan. edits_of plan.items) o ≡ ask (shown_of self.now) now task issue bytes.now) }
         ensures declared { IfOk result (λ o. IfSome o (λ plan. AreDeclared plan.items)) }
     {
+        if self.next_question_reaches(alloc, now, task, bytes.as_slice().len() + 1)? {
+            return Ok(None);
+        }
         let Some(made) = self.next_question(alloc, now, task)? else {
             return Ok(None);
         };

@@ -4,6 +4,7 @@
 mod addressing;
 mod answers;
 mod bindings;
+mod bounding;
 mod branching;
 mod entering;
 mod filling;
@@ -26,6 +27,7 @@ mod setup;
 mod setup_errors;
 mod setup_laws;
 mod setup_reading;
+mod sizing;
 mod tables;
 mod tables_edits;
 mod tables_parts;

@@ -15,7 +15,7 @@ const MOST_TASKS: usize = 1_000_000;
 pub(crate) const MOST_EDITS: usize = 1_000_000;
 
 /// The most bytes of a command, or of what an operator is asked.
-const MOST_COMMAND: usize = 1_048_576;
+pub(crate) const MOST_COMMAND: usize = 1_048_576;
 
 fn is_makes(edit: &Planned) -> bool
     ensures { result ≡ is_makes (edit_of edit.now) }

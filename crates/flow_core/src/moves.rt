@@ -4,6 +4,7 @@ ghost use Rattle.flow_rules.specs.Moves.{enabled_move, record_of, due, asks, rea
 ghost use Rattle.flow_rules.specs.declared.moves.Move.TheVariants as does_move;
 ghost use Rattle.flow_rules.specs.Places.{places};
 ghost use Rattle.flow_rules.specs.Sane.{IsNotStuck};
+ghost use Rattle.flow_rules.specs.Waiting.{AlwaysWaits};
 ghost use Rattle.flow_core.specs.MoveKinds.{is_operators};
 ghost use Rattle.flow_dues.specs.Pairs.{IsQueue, rising};
 ghost use Rattle.flow_dues.specs.Least.{sooner};
@@ -174,10 +175,12 @@ impl Flow {
     }
 
     /// The least moment, in milliseconds, at which a delay or a deadline that stands runs out. A run that goes on and has no
-    /// move waits for one, or for an operator.
+    /// move waits for one, or for an operator; so does one in which no task walks, sends or asks at a moment, nor asks once
+    /// the run is upgraded then.
     pub fn due(&self) -> Option<u64>
         ensures due { result ≡ due self.now.seen }
         ensures never_stuck { has_begun self.now ≡ true → IsNotStuck self.now.seen }
+        ensures always_waits { has_begun self.now ≡ true → AlwaysWaits self.now.seen }
     {
         setup_law(&self.run.setup);
         sooner(

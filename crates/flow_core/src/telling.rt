@@ -7,6 +7,7 @@ ghost use Rattle.flow_rules.specs.Lines.{key_of};
 ghost use Rattle.flow_rules.specs.Moves.{deadline_of};
 
 use crate::flow::Flow;
+use crate::setup::Setup;
 use cacao_vars::{Name, Word};
 use flow_rules::IssuePhase;
 use std::collections::BTreeMap;
@@ -69,6 +70,37 @@ impl Flow {
         match self.run.tables.deadlines.get(issue) {
             Some(moment) => moment,
             None => unreachable!(),
+        }
+    }
+
+    /// The number of the run.
+    pub fn run(&self) -> u64
+        ensures { result ≡ self.now.seen.run }
+    {
+        self.run.number
+    }
+
+    /// The moment of the last record, in milliseconds; 0 where there is none.
+    pub fn moment(&self) -> u64
+        ensures { result ≡ self.now.seen.moment }
+    {
+        self.run.moment
+    }
+
+    /// What the run is given.
+    pub fn setup(&self) -> &Setup
+        ensures { result.now ≡ self.now.seen.given }
+    {
+        &self.run.setup
+    }
+
+    /// The numbers of the playbook and of the step at which a task stands; None where there is no such task.
+    pub fn stand_of(&self, task: u32) -> Option<(u32, u32)>
+        ensures { result ≡ option_map (λ one. (one.book, one.step)) (slice_get self.now.seen.lists.tasks task) }
+    {
+        match self.run.tables.tasks.get(task as usize) {
+            Some(found) => Some((found.book, found.step)),
+            None => None,
         }
     }
 

@@ -25,3 +25,5 @@ pub mod SaneRuns
 pub mod CanEndLemmas
 pub mod RangeLemmas
 pub mod MoveLemmas
+pub mod KeepLemmas
+pub mod WaitingLemmas

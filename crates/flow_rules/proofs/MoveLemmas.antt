@@ -27,7 +27,7 @@ use Rattle.flow_rules.specs.Laws.{HasRecord, MovesAreEnabled, NoMoveIsNoRecord}
 use Rattle.flow_rules.proofs.HereLemmas.{here_of}
 use Rattle.flow_rules.proofs.NotStuck.{no-move, none_of}
 
-clash : (b : Bool) → b ≡ true → b ≡ false → ⊥
+pub clash : (b : Bool) → b ≡ true → b ≡ false → ⊥
 clash true x y = cc
 clash false x y = cc
 
@@ -42,19 +42,19 @@ none_known : {A : Type 0} (o : Option A) → is_some o ≡ false → o ≡ None
 none_known None e = refl
 none_known (Some x) e = absurd (clash true refl e)
 
-same_number : (n : ℕ) → (n == n) ≡ true
+pub same_number : (n : ℕ) → (n == n) ≡ true
 same_number n = grind arith
 
-same_bytes : (bytes : List ℕ) → bytes_eq bytes bytes ≡ true
+pub same_bytes : (bytes : List ℕ) → bytes_eq bytes bytes ≡ true
 same_bytes bytes = (bytes_eq-Decides bytes bytes).1 refl
 
-three : (a b c : Bool) → a ≡ true → b ≡ true → c ≡ true → (a && b && c) ≡ true
+pub three : (a b c : Bool) → a ≡ true → b ≡ true → c ≡ true → (a && b && c) ≡ true
 three true true true e f g = refl
 three true true false e f g = g
 three true false c e f g = f
 three false b c e f g = e
 
-taken : (b : Bool) (edits : List Edit) → b ≡ true → is_some (cond b (Some edits) None) ≡ true
+pub taken : (b : Bool) (edits : List Edit) → b ≡ true → is_some (cond b (Some edits) None) ≡ true
 taken true edits e = refl
 taken false edits e = e
 

@@ -202,6 +202,19 @@ IssuesHaveRecords =
     → Leads given run records s
     → slice_get s.issues n ≡ Some issue → HasRecords records n issue
 
+-- What a record does to issues: the one that it ends, if it ends one, stands so, all others that were there stay, and one that it
+-- sent or asked waits.
+pub record KeepsIssues (s new : State) (r : Record) : Type 0 where
+  pub others : (n : ℕ) (issue : Issue) → slice_get s.issues n ≡ Some issue → ¬ (ended_by r ≡ Some n)
+      → slice_get new.issues n ≡ Some issue
+  pub ended : (n : ℕ) (issue : Issue) (end : IssuePhase) → slice_get s.issues n ≡ Some issue → ended_by r ≡ Some n
+      → end_by r ≡ Some end → slice_get new.issues n ≡ Some (record issue { phase = end })
+  pub issued : (n : ℕ) → issued_by r ≡ Some n
+      → (issue : Issue) × (slice_get new.issues n ≡ Some issue) × (is_waiting issue.phase ≡ true)
+
+abbrev pub RecordsKeepIssues : Type 0
+RecordsKeepIssues = (s new : State) (r : Record) → Next s r new → KeepsIssues s new r
+
 -- ---- moves and records
 
 -- the record of a move is of that moment, and may come next

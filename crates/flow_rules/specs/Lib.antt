@@ -16,3 +16,4 @@ pub mod Runnable
 pub mod Sane
 pub mod Earlier
 pub mod Laws
+pub mod Waiting

@@ -2,8 +2,9 @@
 ghost use Rattle.flow_rules.specs.Laws.{ValuesAreShown, EditsAreShown, RecordsAreShown, FirstRecordIsShown, ConditionsAreSpelled};
 ghost use Rattle.flow_rules.specs.Laws.{NextIsOne, EnabledHasNext, RunLeadsToOne, RunsAreOne, OneRecordIsBegin, RunsGoOn};
 ghost use Rattle.flow_rules.specs.Laws.{EndedIsOver, SaneIsNotStuck, RunsAreSane, WaitingCanEnd, EndedIsAllOver, EarlierRunsAreRuns};
-ghost use Rattle.flow_rules.specs.Laws.{IssuesAreNew, IssuesHaveRecords, MovesAreEnabled, NoMoveIsNoRecord};
+ghost use Rattle.flow_rules.specs.Laws.{IssuesAreNew, IssuesHaveRecords, RecordsKeepIssues, MovesAreEnabled, NoMoveIsNoRecord};
 ghost use Rattle.flow_rules.specs.Laws.{MovesAreInRange, EnabledAreInRange, BeginsAreInRange, RecordsHaveLines, LinesFixRecords, OthersAreNoRecords};
+ghost use Rattle.flow_rules.specs.Waiting.{SaneAlwaysWaits, NoRecordIsNoMove};
 
 /// What is shown of a state is all that its next records rest on: values, each edit and each record change what is shown
 /// by what was shown before.
@@ -43,6 +44,11 @@ pub fn sane_is_not_stuck()
     ensures { SaneIsNotStuck }
 {}
 
+/// While it goes on, and no task walks, sends or asks, nor asks once it is upgraded, it waits for a moment or for an operator.
+pub fn sane_always_waits()
+    ensures { SaneAlwaysWaits }
+{}
+
 /// Each state of a run of accepted playbooks is sane.
 pub fn runs_are_sane()
     ensures { RunsAreSane }
@@ -69,10 +75,16 @@ pub fn issues_have_records()
     ensures records { IssuesHaveRecords }
 {}
 
-/// A move that is enabled has its record, which may come next; where there is no move, no task walks, sends or asks.
+/// A record ends one issue at most, leaves all others as they were, and one that it sends or asks waits.
+pub fn records_keep_issues()
+    ensures { RecordsKeepIssues }
+{}
+
+/// A move that is enabled has its record, which may come next; there is no move exactly where no task walks, sends or asks.
 pub fn moves_have_records()
     ensures some { MovesAreEnabled }
     ensures none { NoMoveIsNoRecord }
+    ensures only { NoRecordIsNoMove }
 {}
 
 /// The record of a move that is enabled has its fields in range, and so has each record that may come next, and the Begin.

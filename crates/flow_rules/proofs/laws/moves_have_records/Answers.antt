@@ -1,4 +1,5 @@
 use Rattle.flow_rules.proofs.MoveLemmas.{moves_are_enabled, no_move_is_no_record}
+use Rattle.flow_rules.proofs.WaitingLemmas.{no_record_is_no_move}
 use Rattle.flow_rules.proofs.laws.moves_have_records.Goals as goal
 
 pub returns-clause-some : goal.returns-clause-some
@@ -6,3 +7,6 @@ returns-clause-some c = moves_are_enabled
 
 pub returns-clause-none : goal.returns-clause-none
 returns-clause-none c = no_move_is_no_record
+
+pub returns-clause-only : goal.returns-clause-only
+returns-clause-only c = no_record_is_no_move

@@ -1,0 +1,185 @@
+//! Whether a command, or what an operator is asked, has so many bytes or more. It is told before memory is taken for them.
+ghost use Rattle.std.specs.Prelude.{◌≡◌, IfOk, true};
+ghost use Rattle.flow_rules.specs.Changes.{command_at, question_at, next_command, next_question};
+ghost use Rattle.cacao_check.specs.Uses.{commands_of};
+ghost use Rattle.flow_core.specs.PlaceViews.{place_view, IsOfCommand};
+ghost use Rattle.flow_core.specs.RunFacts.{shown_of, here_of, IsWell};
+ghost use Rattle.flow_core.specs.Issuings.{StandsThere};
+ghost use Rattle.flow_core.specs.Sizes.{reaches, next_reaches, is_long_move};
+ghost use Rattle.flow_core.specs.Views.{taken_by, Refuses};
+
+use crate::flow::Flow;
+use crate::flow_errors::{FlowError, LimitKind};
+use crate::limits::MOST_COMMAND;
+use crate::places::{Place, place_in};
+use crate::run::{Run, Stand};
+use crate::setup::setup_law;
+use flow_rules::{Move, Phase};
+use std::alloc::{AllocError, Global};
+
+impl Run {
+    // Whether the command of a filter's place has so many bytes or more.
+    fn command_reaches(
+        &self,
+        alloc: Global,
+        stand: Stand<'_>,
+        place: Place<'_>,
+        bytes: usize,
+    ) -> Result<bool, AllocError>
+        requires well { IsWell self.now }
+        requires stands { StandsThere self.now stand }
+        requires command { IsOfCommand (commands_of stand.step.now.kind) place }
+        ensures { IfOk result (λ long. long ≡ reaches bytes (command_at (here_of (shown_of self.now) stand.entry) (place_view place.entry))) }
+    {
+        let Place::Filter { command, .. } = place else {
+            return Ok(false);
+        };
+        let Some(scope) = stand.task.step_scope else {
+            return Ok(false);
+        };
+        let Some(tree) = self
+            .setup
+            .content(stand.task.book, stand.task.step, command)
+        else {
+            return Ok(false);
+        };
+        let mut left = bytes;
+        self.take_command(alloc, &mut left, scope, tree)?;
+        Ok(left == 0)
+    }
+
+    // Whether the question of an operator's place has so many bytes or more.
+    fn question_reaches(
+        &self,
+        alloc: Global,
+        stand: Stand<'_>,
+        place: Place<'_>,
+        bytes: usize,
+    ) -> Result<bool, AllocError>
+        requires well { IsWell self.now }
+        requires stands { StandsThere self.now stand }
+        ensures { IfOk result (λ long. long ≡ reaches bytes (question_at (here_of (shown_of self.now) stand.entry) (place_view place.entry))) }
+    {
+        let Place::Operator { content } = place else {
+            return Ok(false);
+        };
+        let Some(content) = content else {
+            return Ok(false);
+        };
+        let Some(scope) = stand.task.step_scope else {
+            return Ok(false);
+        };
+        let mut left = bytes;
+        self.take_replaced(alloc, &mut left, scope, content.as_str(), false)?;
+        Ok(left == 0)
+    }
+
+    /// Whether the command that a task sends next has so many bytes or more.
+    pub(crate) fn next_command_reaches(
+        &self,
+        alloc: Global,
+        now: u64,
+        t: u32,
+        bytes: usize,
+    ) -> Result<bool, AllocError>
+        requires { IsWell self.now }
+        ensures { IfOk result (λ long. long ≡ next_reaches bytes (next_command (shown_of self.now) now t)) }
+    {
+        let Some(stand) = self.stand(now, t) else {
+            return Ok(false);
+        };
+        let Phase::Sending { place } = stand.task.phase else {
+            return Ok(false);
+        };
+        let Some(found) = place_in(&stand.step.kind, place) else {
+            return Ok(false);
+        };
+        let long = self.command_reaches(alloc, stand, found, bytes)?;
+        Ok(long)
+    }
+
+    /// Whether what a task asks an operator next has so many bytes or more.
+    pub(crate) fn next_question_reaches(
+        &self,
+        alloc: Global,
+        now: u64,
+        t: u32,
+        bytes: usize,
+    ) -> Result<bool, AllocError>
+        requires { IsWell self.now }
+        ensures { IfOk result (λ long. long ≡ next_reaches bytes (next_question (shown_of self.now) now t)) }
+    {
+        let Some(stand) = self.stand(now, t) else {
+            return Ok(false);
+        };
+        let Phase::Sending { place } = stand.task.phase else {
+            return Ok(false);
+        };
+        let Some(found) = place_in(&stand.step.kind, place) else {
+            return Ok(false);
+        };
+        let long = self.question_reaches(alloc, stand, found, bytes)?;
+        Ok(long)
+    }
+
+    fn is_long(&self, alloc: Global, step: Move, moment: u64) -> Result<bool, AllocError>
+        requires { IsWell self.now }
+        ensures { IfOk result (λ long. long ≡ is_long_move (shown_of self.now) moment step) }
+    {
+        match step {
+            Move::Walk { .. } => Ok(false),
+            Move::Upgrade => Ok(false),
+            Move::Send { task } => {
+                let long = self.next_command_reaches(alloc, moment, task, MOST_COMMAND + 1)?;
+                Ok(long)
+            }
+            Move::Ask { task } => {
+                let long = self.next_question_reaches(alloc, moment, task, MOST_COMMAND + 1)?;
+                Ok(long)
+            }
+        }
+    }
+}
+
+impl Flow {
+    /// Whether a move's command, or what it asks an operator, is longer than 1,048,576 bytes.
+    pub(crate) fn is_long(&self, step: Move, moment: u64) -> Result<bool, AllocError>
+        ensures { IfOk result (λ long. long ≡ is_long_move self.now.seen moment step) }
+    {
+        if self.count == 0 {
+            return Ok(false);
+        }
+        if !self.run.has_numbers() {
+            return Err(AllocError);
+        }
+        setup_law(&self.run.setup);
+        self.run.is_long(self.alloc, step, moment)
+    }
+
+    /// Why such a move is refused: it may not come next, or its command is too long.
+    pub(crate) fn why_long(&self, step: Move, moment: u64) -> FlowError
+        requires { is_long_move self.now.seen moment step ≡ true }
+        ensures { Refuses self.now result (taken_by self.now moment step) }
+    {
+        if self.count == 0 {
+            return FlowError::NotEnabled;
+        }
+        if !self.run.is_in_time(moment) {
+            return FlowError::NotEnabled;
+        }
+        match step {
+            Move::Ask { .. } => {
+                if self.run.tables.is_upgraded {
+                    FlowError::Limit {
+                        what: LimitKind::Command,
+                    }
+                } else {
+                    FlowError::NotEnabled
+                }
+            }
+            _ => FlowError::Limit {
+                what: LimitKind::Command,
+            },
+        }
+    }
+}

@@ -1,0 +1,339 @@
+//! How many bytes filled texts have, told before memory is taken for them.
+//!
+//! `left` are the bytes that are left of a limit. Each function takes from them the bytes of a part, and where there are
+//! fewer, all.
+ghost use Rattle.std.specs.Prelude.{◌≡◌, ◌-◌, ◌<◌, ◌==◌, OnOk, length, flat_map, option_map, if◌then◌else◌};
+ghost use Rattle.serde_json.specs.Data.{array};
+ghost use Rattle.serde_json.specs.Find.{of_integer};
+ghost use Rattle.cacao_json.specs.Tree.{data_of};
+ghost use Rattle.cacao_text.specs.Canon.{escaped, whole_text, canon};
+ghost use Rattle.flow_rules.specs.Values.{text_at};
+ghost use Rattle.flow_rules.specs.Filled.{replaced, filled_string, filled, filled_items, filled_members, addressed};
+ghost use Rattle.flow_core.specs.TableFacts.{lists_of};
+ghost use Rattle.flow_core.specs.RunFacts.{IsWell};
+ghost use Rattle.flow_core.specs.Completed.{completed_args};
+ghost use Rattle.flow_core.specs.Sizes.{text_bytes, is_set, member_bytes, members_bytes, id_bytes};
+
+use crate::run::{Run, Sight};
+use cacao_json::{Items, Pair, Pairs, Tree, member};
+use cacao_vars::{Name, find_reference, references_go_on};
+use itoa::Buffer;
+use std::alloc::{AllocError, Global};
+
+/// Members of an object whose values the rules set, whatever stands there: they are counted apart.
+#[derive(Clone, Copy)]
+pub(crate) enum Setting {
+    /// None.
+    Nothing,
+    /// The identifier and the arguments of a command.
+    Command,
+    /// What the arguments ask for.
+    Args,
+}
+
+// The bytes of `{"response_requested":"complete"}`.
+const COMPLETE: usize = 33;
+
+// The bytes of `"command_id":".",` and of `"args":,`.
+const ID: usize = 17;
+
+const ARGS: usize = 8;
+
+fn take(left: &mut usize, bytes: usize)
+    ensures { left.new ≡ left.old - bytes }
+{
+    *left = left.saturating_sub(bytes);
+}
+
+// How many bytes stand for a byte inside a string.
+#[tactic(auto, unfolding(cacao_text::specs::Canon::escaped))]
+fn width(byte: u8) -> usize
+    ensures { result ≡ length (escaped byte) }
+{
+    match byte {
+        8 | 9 | 10 | 12 | 13 | 34 | 92 => 2,
+        0..=31 => 6,
+        _ => 1,
+    }
+}
+
+fn take_quoted(left: &mut usize, text: &[u8])
+    ensures { left.new ≡ left.old - length (flat_map escaped text.now) }
+{
+    for byte in text {
+        if *left == 0 {
+            return;
+        }
+        take(left, width(*byte));
+    }
+}
+
+fn take_text(left: &mut usize, text: &str, quoted: bool)
+    ensures { left.new ≡ left.old - text_bytes quoted text.now }
+{
+    if quoted {
+        take_quoted(left, text.as_bytes());
+    } else {
+        take(left, text.len());
+    }
+}
+
+fn take_whole(left: &mut usize, number: i64)
+    ensures { left.new ≡ left.old - length (whole_text (of_integer number)) }
+{
+    let mut buffer = Buffer::new();
+    take(left, buffer.format(number).len());
+}
+
+// The identifier of a command, with its name and a comma.
+fn take_id(left: &mut usize, run: u64, issue: u32)
+    ensures { left.new ≡ left.old - id_bytes run issue }
+{
+    take(left, ID);
+    let mut buffer = Buffer::new();
+    take_text(left, buffer.format(run), true);
+    let mut buffer = Buffer::new();
+    take_text(left, buffer.format(issue), true);
+}
+
+// The brackets of so many parts, where each part has a comma or a bracket behind it.
+fn brackets(parts: usize) -> usize
+    ensures { result ≡ (if parts == 0 then 2 else 1) }
+{
+    if parts == 0 { 2 } else { 1 }
+}
+
+impl Setting {
+    fn has(self, name: &str) -> bool
+        ensures { result ≡ is_set self name.now }
+    {
+        match self {
+            Setting::Nothing => false,
+            Setting::Command => name == "command_id" || name == "args",
+            Setting::Args => name == "response_requested",
+        }
+    }
+}
+
+impl Run {
+    fn take_value(&self, left: &mut usize, scope: u32, name: &Name, quoted: bool)
+        requires well { IsWell self.now }
+        requires there { scope < length self.now.tables.scopes.items }
+        ensures { left.new ≡ left.old - text_bytes quoted (text_at (lists_of self.now.tables) scope name.now) }
+    {
+        let sight = Sight {
+            opening: None,
+            scope,
+        };
+        let Some(text) = self.value(sight, name) else {
+            return;
+        };
+        take_text(left, text.text(), quoted);
+    }
+
+    /// A text whose references are replaced, inside a string or as it is.
+    pub(crate) fn take_replaced(
+        &self,
+        alloc: Global,
+        left: &mut usize,
+        scope: u32,
+        text: &str,
+        quoted: bool,
+    ) -> Result<(), AllocError>
+        requires well { IsWell self.now }
+        requires there { scope < length self.now.tables.scopes.items }
+        ensures { OnOk result (left.new ≡ left.old - text_bytes quoted (replaced (lists_of self.now.tables) scope text.now)) }
+    {
+        references_go_on();
+        let mut rest = text;
+        while let Some(found) = find_reference(rest) {
+            take_text(left, found.before, quoted);
+            let name = Name::new(alloc, found.name)?;
+            self.take_value(left, scope, &name, quoted);
+            rest = found.rest;
+        }
+        take_text(left, rest, quoted);
+        Ok(())
+    }
+
+    fn take_filled_text(
+        &self,
+        alloc: Global,
+        left: &mut usize,
+        scope: u32,
+        text: &str,
+    ) -> Result<(), AllocError>
+        requires well { IsWell self.now }
+        requires there { scope < length self.now.tables.scopes.items }
+        ensures { OnOk result (left.new ≡ left.old - length (canon (filled_string (lists_of self.now.tables) scope text.now))) }
+    {
+        match self.whole_number(alloc, scope, text)? {
+            Some(number) => {
+                take_whole(left, number);
+                Ok(())
+            }
+            None => {
+                take(left, 2);
+                self.take_replaced(alloc, left, scope, text, true)?;
+                Ok(())
+            }
+        }
+    }
+
+    #[cycle(sizing)]
+    fn take_filled(
+        &self,
+        alloc: Global,
+        left: &mut usize,
+        scope: u32,
+        tree: &Tree,
+    ) -> Result<(), AllocError>
+        requires well { IsWell self.now }
+        requires there { scope < length self.now.tables.scopes.items }
+        ensures { OnOk result (left.new ≡ left.old - length (canon (filled (lists_of self.now.tables) scope (data_of tree.now)))) }
+    {
+        match tree {
+            Tree::Null => {
+                take(left, 4);
+                Ok(())
+            }
+            Tree::Flag(flag) => {
+                take(left, if *flag { 4 } else { 5 });
+                Ok(())
+            }
+            Tree::Whole(number) => {
+                take_whole(left, *number);
+                Ok(())
+            }
+            Tree::Text(text) => {
+                self.take_filled_text(alloc, left, scope, text.as_str())?;
+                Ok(())
+            }
+            Tree::List(items) => {
+                self.take_items(alloc, left, scope, items)?;
+                Ok(())
+            }
+            Tree::Members(pairs) => {
+                take(left, brackets(pairs.as_slice().len()));
+                self.take_pairs(alloc, left, scope, pairs, Setting::Nothing)?;
+                Ok(())
+            }
+        }
+    }
+
+    #[cycle(sizing)]
+    fn take_items(
+        &self,
+        alloc: Global,
+        left: &mut usize,
+        scope: u32,
+        items: &Items,
+    ) -> Result<(), AllocError>
+        requires well { IsWell self.now }
+        requires there { scope < length self.now.tables.scopes.items }
+        ensures { OnOk result (left.new ≡ left.old - length (canon (array (filled_items (lists_of self.now.tables) scope items.now)))) }
+    {
+        let trees = items.as_slice();
+        take(left, brackets(trees.len()));
+        for tree in trees {
+            take(left, 1);
+            self.take_filled(alloc, left, scope, tree)?;
+        }
+        Ok(())
+    }
+
+    #[cycle(sizing)]
+    fn take_pair(
+        &self,
+        alloc: Global,
+        left: &mut usize,
+        scope: u32,
+        pair: &Pair,
+        setting: Setting,
+    ) -> Result<(), AllocError>
+        requires well { IsWell self.now }
+        requires there { scope < length self.now.tables.scopes.items }
+        ensures { OnOk result (left.new ≡ left.old - member_bytes setting pair.now.name (filled (lists_of self.now.tables) scope (data_of pair.now.tree))) }
+    {
+        if setting.has(pair.name.as_str()) {
+            return Ok(());
+        }
+        take(left, 4);
+        take_text(left, pair.name.as_str(), true);
+        self.take_filled(alloc, left, scope, &pair.tree)?;
+        Ok(())
+    }
+
+    #[cycle(sizing)]
+    fn take_pairs(
+        &self,
+        alloc: Global,
+        left: &mut usize,
+        scope: u32,
+        pairs: &Pairs,
+        setting: Setting,
+    ) -> Result<(), AllocError>
+        requires well { IsWell self.now }
+        requires there { scope < length self.now.tables.scopes.items }
+        ensures { OnOk result (left.new ≡ left.old - members_bytes setting (filled_members (lists_of self.now.tables) scope pairs.now)) }
+    {
+        let members = pairs.as_slice();
+        for pair in members {
+            self.take_pair(alloc, left, scope, pair, setting)?;
+        }
+        Ok(())
+    }
+
+    // The arguments of a command by those that it has, if it has any.
+    fn take_args(
+        &self,
+        alloc: Global,
+        left: &mut usize,
+        scope: u32,
+        args: Option<&Tree>,
+    ) -> Result<(), AllocError>
+        requires well { IsWell self.now }
+        requires there { scope < length self.now.tables.scopes.items }
+        ensures { OnOk result (left.new ≡ left.old
+            - length (canon (completed_args (option_map (λ tree. filled (lists_of self.now.tables) scope (data_of tree.now)) args.entry)))) }
+    {
+        let Some(tree) = args else {
+            take(left, COMPLETE);
+            return Ok(());
+        };
+        let Tree::Members(pairs) = tree else {
+            self.take_filled(alloc, left, scope, tree)?;
+            return Ok(());
+        };
+        let _ = pairs.as_slice();
+        take(left, COMPLETE);
+        self.take_pairs(alloc, left, scope, pairs, Setting::Args)?;
+        Ok(())
+    }
+
+    /// The command with this content, for the next issue.
+    pub(crate) fn take_command(
+        &self,
+        alloc: Global,
+        left: &mut usize,
+        scope: u32,
+        tree: &Tree,
+    ) -> Result<(), AllocError>
+        requires well { IsWell self.now }
+        requires there { scope < length self.now.tables.scopes.items }
+        ensures { OnOk result (left.new ≡ left.old - length (canon (addressed self.now.number (length self.now.tables.issues.items)
+            (filled (lists_of self.now.tables) scope (data_of tree.now))))) }
+    {
+        let Tree::Members(pairs) = tree else {
+            self.take_filled(alloc, left, scope, tree)?;
+            return Ok(());
+        };
+        let _ = pairs.as_slice();
+        take(left, 1);
+        take_id(left, self.number, self.tables.issues.len() as u32);
+        take(left, ARGS);
+        self.take_args(alloc, left, scope, member(tree, "args"))?;
+        self.take_pairs(alloc, left, scope, pairs, Setting::Command)?;
+        Ok(())
+    }
+}
