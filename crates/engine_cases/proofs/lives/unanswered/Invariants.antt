@@ -1,0 +1,5 @@
+use Rattle.flow_engine.specs.EngineView.{IsReady}
+use Rattle.engine_cases.proofs.lives.unanswered.Given as goal
+
+abbrev pub invariant-loop-put : goal.invariant-loop-put
+invariant-loop-put g l = IsReady l.engine.history (g.S.Disk.view l.site)

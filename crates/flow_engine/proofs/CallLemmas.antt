@@ -1,0 +1,144 @@
+-- What calls of an engine offer, add and refuse.
+use Rattle.std.proofs.Common.{◌≡◌, ◌≢◌, ℕ, zero, suc, ◌==◌, ◌<◌, Bool, true, false, cond, not, List, [], ◌∷◌, ◌++◌, length, Option, Some, None, Result, Ok, Err, IfErr, OnOk, refl, sym, ap, subst, ◌∙◌, arith}
+use Rattle.std.specs.Prelude.{slice_get}
+use Rattle.std.proofs.lemmas.Option.{slice_get_within}
+use Rattle.cacao_site.specs.View.{SiteView}
+use Rattle.run_records.specs.declared.record.Record.{Record}
+use Rattle.flow_rules.specs.declared.issues.Issue.{Issue}
+use Rattle.flow_rules.specs.Changes.{change, moment_of}
+use Rattle.flow_rules.specs.Edits.{Edit, all_edited, all_shown_edited, edited, shown_edited, changed_at, closed}
+use Rattle.flow_rules.specs.Edits.Edit.{opens, writes, makes, moves, issues, closes, upgrades}
+use Rattle.flow_rules.specs.Laws.{KeepsIssues, RecordsKeepIssues, ended_by}
+use Rattle.flow_rules.specs.Runs.{Next, after, shown_after}
+use Rattle.flow_rules.specs.State.{Lists, Shown, State, shown}
+use Rattle.flow_core.specs.Flows.{IsReached, IsStateOf}
+use Rattle.flow_core.specs.Views.{View, begins, taken}
+use Rattle.flow_engine.specs.EngineCalls.{Adds, Appends, Is, IsStanding, MayCome, Offers, PassesLimit, Refused, Refuses}
+use Rattle.flow_engine.specs.EngineView.{EngineView, HistoryView, flow_of}
+use Rattle.flow_engine.specs.OpenIssues.{ArePut, OpenIssues, without_ended}
+use Rattle.flow_engine.specs.declared.error.EngineError.{EngineError}
+use Rattle.flow_engine.specs.declared.error.EngineError.TheVariants as refused
+use Rattle.flow_engine.proofs.EndedPuts.{KeepsOthers, puts_stay}
+
+-- ---- one record, and one of a kind
+
+module _ (IsNext : Record → Type 0) (next : Record) (is_next : IsNext next) (old new : SiteView) where
+  comes_as : (h : HistoryView) → MayCome h (Is next) → MayCome h IsNext
+  comes_as h c = record { next = c.next; edits = c.edits; is = subst IsNext (sym c.is) is_next; takes = c.takes }
+
+  offers_as : (h : HistoryView) → Offers h (Is next) old new → Offers h IsNext old new
+  unfolding comes_as
+  offers_as h o = record {
+    comes = comes_as h o.comes;
+    in_range = o.in_range;
+    within = o.within;
+    whole = o.whole;
+    file = o.file;
+    calls = o.calls;
+    written = o.written;
+  }
+
+  appends_as : (v w : EngineView) → Appends v w (Is next) old new → Appends v w IsNext old new
+  unfolding comes_as offers_as
+  appends_as v w a = record {
+    adds = record { offers = offers_as v.history (a.adds).offers; view = (a.adds).view };
+    puts = a.puts;
+  }
+
+  refuses_as : (h k : HistoryView) (error : EngineError) → Refuses h k (Is next) error old new → Refuses h k IsNext error old new
+  unfolding comes_as
+  refuses_as h k refused.Disk r = (offers_as h r.0, r.1, r.2)
+  refuses_as h k (refused.Damaged place) r = r
+  refuses_as h k (refused.OtherRun held asked) r = r
+  refuses_as h k (refused.OtherBook index) r = r
+  refuses_as h k (refused.Limit what) r = (record { comes = comes_as h (r.0).comes; passes = (r.0).passes; whole = (r.0).whole }, r.1, r.2)
+  refuses_as h k refused.Broken r = r
+  refuses_as h k refused.Memory r = r
+
+  pub ok_as : (v w : EngineView) (result : Result (Unit {0}) EngineError) → OnOk result (Appends v w (Is next) old new) → OnOk result (Appends v w IsNext old new)
+  ok_as v w (Ok x) a = appends_as v w a
+  ok_as v w (Err e) a = tt
+
+  pub done_as : (v w : EngineView) → Appends v w (Is next) old new → Appends v w IsNext old new
+  done_as v w a = appends_as v w a
+
+  pub refused_as : (v w : EngineView) (error : EngineError) → Refused v w (Is next) error old new → Refused v w IsNext error old new
+  refused_as v w error r = (refuses_as v.history w.history error r.0, r.1)
+
+  pub err_as : (v w : EngineView) (result : Result (Unit {0}) EngineError) → IfErr result (λ error. Refused v w (Is next) error old new)
+      → IfErr result (λ error. Refused v w IsNext error old new)
+  err_as v w (Ok x) r = tt
+  err_as v w (Err e) r = refused_as v w e r
+
+  pub err_through : (v w : EngineView) (result : Result Bool EngineError) (f : EngineError) → (e : EngineError) × (result ≡ Err e) × (e ≡ f) → Refused v w (Is next) f old new
+      → IfErr result (λ error. Refused v w IsNext error old new)
+  err_through v w result f (e, is, same) r =
+      subst (λ (x : Result Bool EngineError). IfErr x (λ error. Refused v w IsNext error old new)) (sym is)
+      (subst (λ (x : EngineError). Refused v w IsNext x old new) (sym same) (refused_as v w f r))
+
+-- an append to the parts of an engine is one to the engine
+pub appends_made : (v : EngineView) (h k : HistoryView) (p q : OpenIssues) (next : Record) (old new : SiteView) → (let here : EngineView = record { history = h; puts = p } in here) ≡ v
+    → Adds h k (Is next) old new → q ≡ without_ended p next → Appends v (record { history = k; puts = q }) (Is next) old new
+appends_made v h k p q next old new is adds ended =
+    subst (λ (x : EngineView). Appends x (record { history = k; puts = q }) (Is next) old new) is
+    (record { adds = adds; puts = ended ∙ ap (λ (r : Record). without_ended p r) (sym ((adds.offers).comes).is) })
+
+-- ---- the issues that were put
+
+same_issues : (edits : List Edit) (s : State) (l : Lists) → s.issues ≡ l.issues → (all_edited edits s).issues ≡ (all_shown_edited edits l).issues
+same_issues [] s l e = e
+same_issues (opens parent vars ∷ edits) s l e = same_issues edits (edited (opens parent vars) s) (shown_edited (opens parent vars) l) e
+same_issues (writes scope name text ∷ edits) s l e = same_issues edits (edited (writes scope name text) s) (shown_edited (writes scope name text) l) e
+same_issues (makes task ∷ edits) s l e = same_issues edits (edited (makes task) s) (shown_edited (makes task) l) e
+same_issues (moves n task ∷ edits) s l e = same_issues edits (edited (moves n task) s) (shown_edited (moves n task) l) e
+same_issues (issues issue ∷ edits) s l e = same_issues edits (edited (issues issue) s) (shown_edited (issues issue) l) (ap (λ (xs : List Issue). xs ++ issue ∷ []) e)
+same_issues (closes n end ∷ edits) s l e = same_issues edits (edited (closes n end) s) (shown_edited (closes n end) l) (ap (λ (xs : List Issue). changed_at n (closed end) xs) e)
+same_issues (upgrades ∷ edits) s l e = same_issues edits (edited upgrades s) (shown_edited upgrades l) e
+
+not_zero : (n : ℕ) → (suc n == 0) ≡ false
+not_zero n = grind arith
+
+-- a record leaves the issues that it doesn't end
+keeps_others : RecordsKeepIssues → (n : ℕ) (v : View) (r : Record) (edits : List Edit) → v.count ≡ n → IsReached n v.seen → taken v r ≡ Some edits
+    → KeepsOthers v.seen (shown_after (moment_of r) edits v.seen) r
+keeps_others law zero v r edits count blank takes = record {
+  others = λ n issue there apart. absurd (none_there n issue (subst (λ (s : Shown). slice_get s.lists.issues n ≡ Some issue) blank there));
+}
+  where
+    none_there : (n : ℕ) (issue : Issue) → slice_get [] n ≡ Some issue → ⊥
+    none_there n issue h = cc
+keeps_others law (suc n) v r edits count state takes =
+    let now : change v.seen r ≡ Some edits = subst (λ b. cond (not b) (change v.seen r) (begins v.seen r) ≡ Some edits) (ap (λ k. k == 0) count ∙ not_zero n) takes in
+    let s : State = state.state in
+    let next : Next s r (after (moment_of r) edits s) =
+    record { edits = edits; change_is = subst (λ (x : Shown). change x r ≡ Some edits) (sym state.shown_is) now; new_is = refl } in
+    let keeps : KeepsIssues s (after (moment_of r) edits s) r = law s (after (moment_of r) edits s) r next in
+    let same : s.issues ≡ v.seen.lists.issues = ap (λ (x : Shown). x.lists.issues) state.shown_is in
+    record {
+      others = λ k issue there apart.
+          subst (λ (xs : List Issue). slice_get xs k ≡ Some issue) (same_issues edits s v.seen.lists same)
+          (keeps.others k issue (subst (λ (xs : List Issue). slice_get xs k ≡ Some issue) (sym same) there) apart);
+    }
+
+pub puts_appended : RecordsKeepIssues → (h k : HistoryView) (next : Record) (open_issues : OpenIssues) (old new : SiteView) → IsStanding h → Adds h k (Is next) old new → ArePut h.seen open_issues
+    → ArePut k.seen (without_ended open_issues next)
+puts_appended law h k next open_issues old new is adds puts =
+    let c : MayCome h (Is next) = (adds.offers).comes in
+    let seen : shown_after (moment_of c.next) c.edits h.seen ≡ k.seen = ap (λ (x : HistoryView). x.seen) (sym adds.view) in
+    let keeps : KeepsOthers h.seen (shown_after (moment_of c.next) c.edits h.seen) c.next = keeps_others law (length h.records) (flow_of h) c.next c.edits refl is.reached c.takes in
+    subst (λ (s : Shown). ArePut s (without_ended open_issues next)) seen
+    (subst (λ (r : Record). ArePut (shown_after (moment_of c.next) c.edits h.seen) (without_ended open_issues r)) c.is
+    (puts_stay h.seen (shown_after (moment_of c.next) c.edits h.seen) c.next open_issues keeps puts))
+
+pub run_appended : (h k : HistoryView) (IsNext : Record → Type 0) (old new : SiteView) → Adds h k IsNext old new → k.seen.run ≡ h.seen.run
+run_appended h k IsNext old new adds = ap (λ (x : HistoryView). x.seen.run) adds.view
+
+-- a refusal leaves what is shown
+pub seen_refused : (h k : HistoryView) (IsNext : Record → Type 0) (error : EngineError) (old new : SiteView) → Refuses h k IsNext error old new → k.seen ≡ h.seen
+seen_refused h k IsNext refused.Disk old new r = ap (λ (x : HistoryView). x.seen) r.1
+seen_refused h k IsNext (refused.Damaged place) old new r = absurd r
+seen_refused h k IsNext (refused.OtherRun held asked) old new r = absurd r
+seen_refused h k IsNext (refused.OtherBook index) old new r = absurd r
+seen_refused h k IsNext (refused.Limit what) old new r = ap (λ (x : HistoryView). x.seen) r.1
+seen_refused h k IsNext refused.Broken old new r = ap (λ (x : HistoryView). x.seen) r.1
+seen_refused h k IsNext refused.Memory old new r = ap (λ (x : HistoryView). x.seen) r.1
