@@ -1,0 +1,13 @@
+pub mod Agreement
+pub mod Appends
+pub mod Causes
+pub mod Handled
+pub mod Link
+pub mod Ready
+pub mod Sides
+pub mod Steps
+pub mod Sums
+pub mod Turns
+pub mod Waits
+pub mod Whole
+pub mod Worlds

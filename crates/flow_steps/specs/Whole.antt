@@ -1,0 +1,51 @@
+-- All that a session adds up to, from the opening of its files on.
+use Rattle.std.specs.Prelude.{◌≡◌, ℕ, ◌+◌, ◌*◌, ◌≤◌, List, [], length, None}
+use Rattle.cacao_site.specs.Counts.{DidNotRise}
+use Rattle.flow_engine.specs.declared.answers.OperatorAnswer.{OperatorAnswer}
+use Rattle.flow_steps.specs.Handled.{Handles}
+use Rattle.flow_steps.specs.Link.{PutsAreCounted, PutsNoted, PutsOrLost, RepliesFew}
+use Rattle.flow_steps.specs.Ready.{FiltersStand, JournalStands}
+use Rattle.flow_steps.specs.Sides.{AreFilters, IsWhole}
+use Rattle.flow_steps.specs.Steps.{Steps}
+use Rattle.flow_steps.specs.Sums.{Adds, AsksOnly, SameGiven, Speaks, owed_lines}
+use Rattle.flow_steps.specs.Turns.{most_ignored}
+use Rattle.flow_steps.specs.Waits.{Waits}
+use Rattle.flow_steps.specs.Worlds.{Notes, World, opened}
+
+-- a session that may append so many records, with these answers of operators, and has done nothing
+abbrev pub blank_notes : ℕ → List OperatorAnswer → Notes
+blank_notes most answers =
+    record { answers = answers; left = most; unsure = None; acted = []; unsure_act = None; put = []; ignored = 0; asked = None }
+
+-- a world where a session begins: the journal of this run and the files of the sixteen filters are open, and nothing was done
+pub record IsOpened (w : World) (run most : ℕ) (answers : List OperatorAnswer) : Type 0 where
+  pub phase : w.phase ≡ opened
+  pub whole : IsWhole w.engine w.site
+  pub of_run : w.engine.history.seen.run ≡ run
+  pub no_puts : w.engine.puts ≡ []
+  pub filters : AreFilters w.filters w.site
+  pub notes : w.notes ≡ blank_notes most answers
+
+-- From there on: records and lines, what is asked of the clock, what is put, what becomes of parcels, what the files hold, and
+-- what is under way. At most as many records are appended as may be.
+pub record AddsUp (a b : World) (most : ℕ) : Type 0 where
+  pub adds : Adds a b
+  pub budget : length adds.added + b.notes.left ≡ most
+  pub given : SameGiven a b
+  pub speaks : Speaks a b
+  pub asks_only : AsksOnly a b
+  pub handles : Handles a b
+  pub noted : PutsNoted a b
+  pub counted : PutsAreCounted b
+  pub puts_or_lost : PutsOrLost a b
+  pub replies_few : RepliesFew a b
+  pub ignored : b.notes.ignored ≤ most_ignored
+  pub journal : JournalStands b
+  pub filters : FiltersStand b
+  pub waits : DidNotRise a.site.clock.mishaps b.site.clock.mishaps → Waits b
+  pub calls : b.site.disk.calls + owed_lines b.phase
+      ≤ a.site.disk.calls + 2 * 17 + 5 * length adds.added + 4 * length b.notes.acted + 5
+
+abbrev pub EachAddsUp : Type 0
+EachAddsUp =
+    (a b : World) (run most : ℕ) (answers : List OperatorAnswer) → IsOpened a run most answers → Steps a b → AddsUp a b most
