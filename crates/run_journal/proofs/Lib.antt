@@ -6,3 +6,4 @@ pub mod Tears
 pub mod Unique
 pub mod PlaceLaws
 pub mod DurableLemmas
+pub mod ImageLemmas

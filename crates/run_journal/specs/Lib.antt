@@ -1,4 +1,5 @@
 pub mod Durable
+pub mod Image
 pub mod Journal
 pub mod JournalView
 pub mod Laws

@@ -11,7 +11,7 @@ use std::alloc::Global;
 const BLOCK: usize = 4_096;
 
 /// The first `size` bytes of the file. Where a read gives fewer than were asked for, the file ends there.
-pub fn read_image<D: Disk>(
+pub fn read_blocks<D: Disk>(
     alloc: Global,
     disk: &mut D,
     file: u8,

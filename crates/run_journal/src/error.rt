@@ -1,4 +1,4 @@
-// Why a journal refuses.
+// Why a journal refuses, and why an image is not read.
 use std::alloc::{AllocError, AllocFailed};
 use thiserror::Error;
 
@@ -19,6 +19,27 @@ pub enum JournalError {
     Broken,
     #[error("out of memory")]
     Memory,
+}
+
+/// Why the entries of an image were not read.
+#[derive(Clone, Copy, Debug, Drop, Error, PartialEq, Eq)]
+pub enum ImageError {
+    /// The bytes stand for no list of entries.
+    #[error("damaged at {place}")]
+    Damaged { place: u64 },
+    #[error("out of memory")]
+    Memory,
+}
+
+impl From<AllocError> for ImageError {
+    ghost use Rattle.std.specs.Prelude.{◌≡◌};
+    ghost use Rattle.run_journal.specs.declared.error.ImageError.TheVariants.{Memory};
+
+    ghost from_gives = { λ _ e. e ≡ Memory };
+
+    fn from(_refused: AllocError) -> ImageError {
+        ImageError::Memory
+    }
 }
 
 impl From<AllocError> for JournalError {

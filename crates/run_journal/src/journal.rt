@@ -4,7 +4,6 @@ ghost use Rattle.run_journal.specs.Layout.{front, IsShort};
 ghost use Rattle.run_journal.specs.JournalView.{JournalView};
 
 use crate::error::JournalError;
-use crate::reader::Found;
 use cacao_site::Bytes;
 use std::alloc::Global;
 use std::marker::Model;
@@ -69,19 +68,19 @@ impl Journal {
     }
 
     /// The journal of a file with these entries. Takes no memory.
-    pub(crate) fn found(alloc: Global, file: u8, found: Found) -> Journal
+    pub(crate) fn found(alloc: Global, file: u8, items: Vec<Bytes>, gate: u64) -> Journal
         requires file { file ≤ 16 }
-        requires gate { found.gate ≡ length (front found.items.items) }
-        requires fits { found.gate < 67_108_864 }
-        requires short { All IsShort found.items.items }
-        ensures { result ≡ record { file = file; items = found.items.items; broken = false; prepared = true; spare = 0 } }
+        requires gate { gate ≡ length (front items.items) }
+        requires fits { gate < 67_108_864 }
+        requires short { All IsShort items.items }
+        ensures { result ≡ record { file = file; items = items.items; broken = false; prepared = true; spare = 0 } }
     {
         Journal {
             file,
-            gate: found.gate,
+            gate,
             broken: false,
             prepared: true,
-            items: found.items,
+            items,
             block: Vec::new(alloc),
             spare: 0,
         }

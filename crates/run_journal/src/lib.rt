@@ -4,7 +4,9 @@
 mod append;
 mod blocks;
 mod durable;
+pub mod entries;
 pub mod error;
+pub mod image;
 pub mod journal;
 pub mod laws;
 mod layout;
@@ -15,6 +17,8 @@ mod store;
 #[cfg(test)]
 mod tests;
 
-pub use error::JournalError;
+pub use entries::{Entries, Entry};
+pub use error::{ImageError, JournalError};
+pub use image::read_image;
 pub use journal::Journal;
 pub use laws::layout_law;

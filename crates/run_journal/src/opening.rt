@@ -3,13 +3,13 @@ ghost use Rattle.std.specs.Prelude.{◌≡◌, ◌≢◌, ◌↔◌, ◌+◌, �
 ghost use Rattle.cacao_site.specs.Counts.{Rose};
 ghost use Rattle.cacao_site.specs.DiskCalls.{StaysAt, SameRest, EachBeat, AllLeft, IsLeft, IsDurable};
 ghost use Rattle.run_journal.specs.JournalView.{JournalView};
-ghost use Rattle.run_journal.specs.Layout.{Stands, IsDamagedAt};
+ghost use Rattle.run_journal.specs.Layout.{HasLayout, IsDamagedAt, Stands};
 
-use crate::blocks::read_image;
-use crate::error::JournalError;
+use crate::blocks::read_blocks;
+use crate::error::{ImageError, JournalError};
 use crate::journal::Journal;
 use crate::layout::MOST_IMAGE;
-use crate::reader::read_list;
+use crate::reader::{Found, items_of, read_list};
 use cacao_site::Disk;
 use std::alloc::Global;
 
@@ -52,16 +52,36 @@ impl Journal {
         if size > MOST_IMAGE {
             return Err(JournalError::Damaged { place: MOST_IMAGE });
         }
-        let image = match read_image(alloc, disk, file, size) {
+        let image = match read_blocks(alloc, disk, file, size) {
             Ok(image) => image,
             Err(error) => return Err(error),
         };
         if image.len() <= 9 {
             return Ok(Journal::blank(alloc, file));
         }
-        match read_list(alloc, image.as_slice()) {
-            Ok(found) => Ok(Journal::found(alloc, file, found)),
+        match found_in(alloc, file, image.as_slice()) {
+            Ok(journal) => Ok(journal),
             Err(error) => Err(error),
         }
     }
+}
+
+/// The journal of a file with this image, of more than 9 bytes.
+fn found_in(alloc: Global, file: u8, image: &[u8]) -> Result<Journal, JournalError>
+    requires file { file ≤ 16 }
+    requires low { 9 < length image.now }
+    requires high { length image.now ≤ 67_108_864 }
+    ensures layout { IfOk result (λ journal. HasLayout journal.items image.now) }
+    ensures file { IfOk result (λ journal. journal.file ≡ file) }
+    ensures state { IfOk result (λ journal. (journal.broken ≡ false) × (journal.prepared ≡ true) × (journal.spare ≡ 0)) }
+    ensures damaged { (place : ℕ) → IsErrOf result (JournalError.Damaged place) → IsDamagedAt image.now place }
+    ensures no_other { (needed : ℕ) → (result ≢ Err JournalError.Disk) × (result ≢ Err JournalError.Broken) × (result ≢ Err (JournalError.Full needed)) }
+{
+    let Found { entries, gate } = match read_list(alloc, image) {
+        Ok(found) => found,
+        Err(ImageError::Damaged { place }) => return Err(JournalError::Damaged { place }),
+        Err(ImageError::Memory) => return Err(JournalError::Memory),
+    };
+    let items = items_of(alloc, entries)?;
+    Ok(Journal::found(alloc, file, items, gate))
 }

@@ -1,8 +1,10 @@
 // The entries of an image.
-ghost use Rattle.std.specs.Prelude.{◌≡◌, ◌≢◌, ◌≤◌, ◌<◌, ◌*◌, ◌+◌, ◌-◌, ◌∷◌, ◌++◌, List, ℕ, length, take, slice_index, IfOk, IfSome, IfNone, IsErrOf, Err, true, false};
+ghost use Rattle.std.specs.Prelude.{◌≡◌, ◌≢◌, ◌≤◌, ◌<◌, ◌*◌, ◌+◌, ◌-◌, ◌∷◌, ◌++◌, List, ℕ, length, take, map, slice_index, IfOk, IfSome, IfNone, IsErrOf, true, false};
+ghost use Rattle.run_journal.specs.Image.{ArePlaced, bytes_of};
 ghost use Rattle.run_journal.specs.Layout.{Entries, HasLayout, IsBroken, IsDamagedAt, front, header, length_of, length_field, most_entry};
 
-use crate::error::JournalError;
+use crate::entries::Entry;
+use crate::error::ImageError;
 use crate::layout::{HEADER, MOST_ENTRY};
 use cacao_site::Bytes;
 use std::alloc::{AllocError, Global};
@@ -10,31 +12,39 @@ use std::alloc::{AllocError, Global};
 /// The entries of an image, and the place of its closed gate.
 #[derive(Drop)]
 pub struct Found {
-    pub items: Vec<Bytes>,
+    pub entries: Vec<Entry>,
     pub gate: u64,
 }
 
 /// The entries of an image of more than 9 bytes, if it stands for a list.
-pub fn read_list(alloc: Global, image: &[u8]) -> Result<Found, JournalError>
+pub fn read_list(alloc: Global, image: &[u8]) -> Result<Found, ImageError>
     requires low { 9 < length image.now }
     requires high { length image.now ≤ 67_108_864 }
-    ensures layout { IfOk result (λ found. HasLayout found.items.items image.now) }
-    ensures gate { IfOk result (λ found. (found.gate ≡ length (front found.items.items)) × (found.gate < length image.now)) }
-    ensures damaged { (place : ℕ) → IsErrOf result (JournalError.Damaged place) → IsDamagedAt image.now place }
-    ensures no_other { (needed : ℕ) → (result ≢ Err JournalError.Disk) × (result ≢ Err JournalError.Broken) × (result ≢ Err (JournalError.Full needed)) }
+    ensures layout { IfOk result (λ found. HasLayout (bytes_of found.entries.items) image.now) }
+    ensures placed { IfOk result (λ found. ArePlaced found.entries.items) }
+    ensures gate { IfOk result (λ found. (found.gate ≡ length (front (bytes_of found.entries.items)))
+        × (found.gate < length image.now)) }
+    ensures damaged { (place : ℕ) → IsErrOf result (ImageError.Damaged place) → IsDamagedAt image.now place }
 {
     if let Some(place) = header_break(image) {
-        return Err(JournalError::Damaged { place });
+        return Err(ImageError::Damaged { place });
     }
     let split = read_entries(alloc, &image[8..])?;
     let gate = (image.len() - split.rest.len()) as u64;
     if split.broken {
-        return Err(JournalError::Damaged { place: gate });
+        return Err(ImageError::Damaged { place: gate });
     }
     Ok(Found {
-        items: split.items,
+        entries: split.entries,
         gate,
     })
+}
+
+/// The bytes of the entries.
+pub fn items_of(alloc: Global, entries: Vec<Entry>) -> Result<Vec<Bytes>, AllocError>
+    ensures { IfOk result (λ items. items.items ≡ bytes_of entries.items) }
+{
+    entries.into_iter().map(|entry| entry.bytes).collect(alloc)
 }
 
 /// The first byte that differs from the header.
@@ -55,22 +65,27 @@ fn header_break(image: &[u8]) -> Option<u64>
 /// Whole entries, what stands behind them, and whether that is no closed gate.
 #[derive(Drop)]
 struct Split<'a> {
-    items: Vec<Bytes>,
+    entries: Vec<Entry>,
     rest: &'a [u8],
     broken: bool,
 }
 
-/// Reads whole entries up to the first that is none.
+/// Reads whole entries behind the header, up to the first that is none.
 fn read_entries<'a>(alloc: Global, bytes: &'a [u8]) -> Result<Split<'a>, AllocError>
-    ensures entries { IfOk result (λ split. Entries bytes.now split.items.items split.rest.now) }
+    requires { length bytes.now ≤ 67_108_864 }
+    ensures entries { IfOk result (λ split. Entries bytes.now (bytes_of split.entries.items) split.rest.now) }
+    ensures placed { IfOk result (λ split. ArePlaced split.entries.items) }
     ensures broken { IfOk result (λ split. split.broken ≡ true → IsBroken split.rest.now) }
     ensures closed { IfOk result (λ split. split.broken ≡ false
         → (gate : ℕ) × (rest : List ℕ) × (split.rest.now ≡ gate ∷ rest) × (gate ≢ 1)) }
 {
-    let mut items = Vec::new(alloc);
+    let mut entries = Vec::new(alloc);
     let mut rest = bytes;
     while let Some((item, after)) = split_entry(rest) {
-        items.push(Bytes::from_slice(alloc, item)?)?;
+        entries.push(Entry {
+            place: (8 + bytes.len() - rest.len()) as u64,
+            bytes: Bytes::from_slice(alloc, item)?,
+        })?;
         rest = after;
     }
     let broken = match rest {
@@ -78,7 +93,7 @@ fn read_entries<'a>(alloc: Global, bytes: &'a [u8]) -> Result<Split<'a>, AllocEr
         [_, ..] => false,
     };
     Ok(Split {
-        items,
+        entries,
         rest,
         broken,
     })

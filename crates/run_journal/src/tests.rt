@@ -3,7 +3,7 @@ ghost use Rattle.cacao_site.specs.DiskCalls.{AllLeft};
 ghost use Rattle.run_journal.specs.JournalView.{JournalView};
 ghost use Rattle.run_journal.specs.Layout.{Stands};
 
-use crate::{Journal, JournalError};
+use crate::{ImageError, Journal, JournalError, read_image};
 use cacao_site::{Bytes, CallList, Disk, Failed, MemorySite, SitePlan, WeatherList};
 use std::alloc::{AllocError, Global};
 
@@ -56,6 +56,49 @@ fn files_open_with_their_entries_or_are_damaged(rt: HostRuntime) -> Result<(), J
         (b"CACAOJ1\n\0\0\0\0\x02AB\0".as_slice(), Ok(0)),
     ] {
         assert!(rt; count(alloc, bytes) == want);
+    }
+    Ok(())
+}
+
+#[test]
+fn an_image_is_read_with_the_places_of_its_gates(rt: HostRuntime) -> Result<(), ImageError> {
+    let alloc = rt.alloc();
+    let image = b"CACAOJ1\n\x01\0\0\0\x02AB\x01\0\0\0\0\x01\0\0\0\x03CDE\0\x01".as_slice();
+    let entries = read_image(alloc, image)?;
+    assert!(rt; entries.len() == 3);
+    for (number, place, bytes) in [
+        (0usize, 8u64, b"AB".as_slice()),
+        (1, 15, b"".as_slice()),
+        (2, 20, b"CDE".as_slice()),
+    ] {
+        if let Some(entry) = entries.as_slice().get(number) {
+            assert!(rt; entry.place == place && entry.bytes.as_slice() == bytes);
+        }
+    }
+    Ok(())
+}
+
+/// How many entries the image has.
+fn count_read(alloc: Global, bytes: &[u8]) -> Result<usize, ImageError> {
+    let entries = read_image(alloc, bytes)?;
+    Ok(entries.len())
+}
+
+#[test]
+fn an_image_has_its_entries_or_is_damaged(rt: HostRuntime) -> Result<(), ImageError> {
+    let alloc = rt.alloc();
+    let damaged = |place: u64| Err(ImageError::Damaged { place });
+    for (bytes, want) in [
+        (b"".as_slice(), Ok(0)),
+        (b"XXXXXXXXX".as_slice(), Ok(0)),
+        (b"XXXXXXXXXX".as_slice(), damaged(0)),
+        (b"CACAOX1\n\x01\0\0\0\x02AB\0".as_slice(), damaged(5)),
+        (b"CACAOJ1\n\0anything".as_slice(), Ok(0)),
+        (b"CACAOJ1\n\x01\0\0\0\x02AB\0".as_slice(), Ok(1)),
+        (b"CACAOJ1\n\x01\0\0\0\x02AB".as_slice(), damaged(15)),
+        (b"CACAOJ1\n\x01\x02\0\0\x02AB\0".as_slice(), damaged(8)),
+    ] {
+        assert!(rt; count_read(alloc, bytes) == want);
     }
     Ok(())
 }

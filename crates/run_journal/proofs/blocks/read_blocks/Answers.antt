@@ -2,7 +2,7 @@
 use Rattle.std.proofs.Common.{◌≡◌, ◌+◌, List, ℕ, length, take, IsTrue, subst, sym, ap, ◌∙◌, arith}
 use Rattle.cacao_site.proofs.Beats.{goes_on-trans, stays-trans, rest-trans}
 use Rattle.run_journal.proofs.BlockLemmas.{take_self, block_step}
-use Rattle.run_journal.proofs.blocks.read_image.Goals as goal
+use Rattle.run_journal.proofs.blocks.read_blocks.Goals as goal
 
 pub returns-in_err-end-clause-stays : goal.returns-in_err-end-clause-stays
 returns-in_err-end-clause-stays g c = λ any. stays-trans c.loop-block.invariant.goes_on c.read_block.ensures.goes_on (c.loop-block.invariant.stays any) (c.read_block.ensures.stays any)
