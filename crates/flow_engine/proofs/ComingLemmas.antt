@@ -6,6 +6,7 @@ use Rattle.std.specs.Cmp.Lexicographic.{pointwise, lists_equiv, nat_list_eq_equi
 use Rattle.std.specs.List.{AllByRecursion, list_any}
 use Rattle.std.specs.Option.{option_or}
 use Rattle.std.specs.Str.{IsUtf8, bytes_eq, is_utf8}
+use Rattle.std.proofs.lemmas.Bool.{and_from}
 use Rattle.std.proofs.lemmas.List.{length-map}
 use Rattle.std.proofs.lemmas.Map.Views.{Contains-from_lookup}
 use Rattle.std.proofs.lemmas.Option.{slice_get_within}
@@ -21,7 +22,7 @@ use Rattle.run_records.specs.Ranges.{BeginsInRange, InRange, IsShort, last_momen
 use Rattle.flow_rules.specs.declared.issues.Issue.{Issue}
 use Rattle.flow_rules.specs.declared.moves.Move.{Move}
 use Rattle.flow_rules.specs.declared.moves.Move.TheVariants as move
-use Rattle.flow_rules.specs.Changes.{Issuing, change, is_answer, is_final, is_in_time, is_waiting, next_command, next_question, outcome, upgrade}
+use Rattle.flow_rules.specs.Changes.{Issuing, change, is_answer, is_final, is_in_time, is_waiting, moment_of, next_command, next_question, outcome, upgrade}
 use Rattle.flow_rules.specs.Edits.{Edit}
 use Rattle.flow_rules.specs.Edits.Edit.{opens, writes, makes, issues, upgrades}
 use Rattle.flow_rules.specs.Givens.{Given}
@@ -38,7 +39,9 @@ use Rattle.flow_core.specs.declared.flow_errors.LimitKind.{LimitKind}
 use Rattle.flow_core.specs.declared.flow_errors.LimitKind.TheVariants as limit
 use Rattle.flow_core.proofs.FlowLemmas.{reached_state}
 use Rattle.flow_engine.specs.declared.puts.Puts.{Puts}
-use Rattle.flow_engine.specs.EngineCalls.{IsComing, IsMove, IsStanding, IsWaiting, PassesLimit}
+use Rattle.flow_engine.specs.Answers.{IsOperatorAnswer}
+use Rattle.flow_engine.specs.declared.answers.OperatorAnswer.{OperatorAnswer}
+use Rattle.flow_engine.specs.EngineCalls.{IsComing, IsMove, IsStanding, IsWaiting, PassesLimit, with_record}
 use Rattle.flow_engine.specs.EngineView.{HistoryView, entries_of, flow_of, length_with}
 use Rattle.flow_engine.specs.Histories.{IsHistory}
 use Rattle.flow_engine.specs.OpenIssues.{ArePut, IsPut, OpenIssues, puts_of}
@@ -190,6 +193,29 @@ told_comes ranges h issue moment status text is some = by (length h.records) ref
     by (suc n) e =
         let begun : length h.records ≢ 0 = λ none. absurd (omega (arith, e, none)) in
         coming ranges h (entry.Told issue moment status text) is begun (subst IsSome (taken_is (length h.records) (flow_of h) (entry.Told issue moment status text) refl begun) some) tt
+
+-- an operator's answer comes next for an issue that waits, once the run is upgraded
+pub answer_comes : RunsAreSane → WaitingCanEnd → (h : HistoryView) (issue moment : ℕ) (it : Issue) (told : OperatorAnswer) → IsStanding h → slice_get h.seen.lists.issues issue ≡ Some it
+    → is_waiting it.phase ≡ true → h.seen.lists.is_upgraded ≡ true → is_in_time h.seen moment ≡ true → IsOperatorAnswer told
+    → IsSome (taken (flow_of h) (entry.Told issue moment told.status told.text))
+answer_comes runs ends h issue moment it told is there waits upgraded timely good =
+    let begun : length h.records ≢ 0 = has_begun_with h issue it is there in
+    let can : CanEnd h.seen issue it = ends h.seen issue it (sane runs h is begun) there waits in
+    let answers : is_answer told.status told.text ≡ true =
+    all_true (is_final told.status) (is_utf8 told.text) (nat_le (length told.text) 4_096) good.final (is_utf8-from_IsUtf8 told.text good.is_text) (le_true (length told.text) 4_096 good.short) in
+    subst IsSome (sym (taken_is (length h.records) (flow_of h) (entry.Told issue moment told.status told.text) refl begun))
+    (can.told moment told.status told.text timely answers upgraded)
+
+-- ---- moments
+
+-- a record is in time from the moment of the last one on, up to the last moment
+pub in_time : (s : Shown) (moment : ℕ) → s.moment ≤ moment → moment ≤ last_moment → is_in_time s moment ≡ true
+in_time s moment early late = and_from (nat_le s.moment moment) (nat_le moment last_moment) (le_true s.moment moment early) (le_true moment last_moment late)
+
+-- also where that one was added just now, as an Upgrade before a Told
+pub in_time_after : (h : HistoryView) (next : Record) (edits : List Edit) (moment : ℕ) → moment_of next ≤ moment → moment ≤ last_moment
+    → is_in_time (with_record h next edits).seen moment ≡ true
+in_time_after h next edits moment early late = in_time (with_record h next edits).seen moment early late
 
 -- ---- Begin
 

@@ -1,11 +1,12 @@
 -- The lines of a text of answers, one after another.
 use Rattle.std.proofs.Common.{◌≡◌, ◌≢◌, ◌∙◌, ◌<◌, ◌≤◌, ℕ, ◌+◌, zero, suc, List, [], ◌∷◌, ◌++◌, length, Some, None, refl, ap, sym, subst, arith, length-append}
-use Rattle.std.specs.List.{slice_get}
+use Rattle.std.specs.List.{All, filter, slice_get}
+use Rattle.std.specs.Prelude.{◌==◌}
 use Rattle.std.proofs.lemmas.List.{append_assoc, append-nil, map-append}
-use Rattle.std.proofs.lemmas.List.Elements.{All-cons, All-nil, All-append, filter-append}
+use Rattle.std.proofs.lemmas.List.Elements.{All-cons, All-nil, All-append, All-filter, All-map, All-same, filter-append}
 use Rattle.std.proofs.lemmas.Option.{same_Some, none-some, option_and_then_some}
 use Rattle.flow_engine.specs.declared.answers.OperatorAnswer.{OperatorAnswer}
-use Rattle.flow_engine.specs.Answers.{Tells, IsOneLine, joined, AreTold, of_run, Answers, IsFirstBadLine}
+use Rattle.flow_engine.specs.Answers.{Tells, IsOneLine, IsOperatorAnswer, joined, AreTold, of_run, Answers, IsFirstBadLine}
 use Rattle.flow_engine.specs.AnswerReading.{cut, line_told, first_told}
 use Rattle.flow_engine.proofs.CutLemmas.{cut_is, cut_first}
 use Rattle.flow_engine.proofs.AnswerLemmas.{line_is, line_again}
@@ -142,3 +143,25 @@ read_bad text run rest number list h some e = record {
   some = some;
   bad = λ line after run it is one tells. stuck_at rest e line after run it is one tells;
 }
+
+-- ---- Each answer may end an issue
+
+abbrev IsGood : ℕ × OperatorAnswer → Type 0
+IsGood it = IsOperatorAnswer it.1
+
+line_good : (line : List ℕ) (run : ℕ) (told : OperatorAnswer) → Tells line run told → IsOperatorAnswer told
+line_good line run told h = record { final = h.final; is_text = h.is_text; short = h.short }
+
+each_good : (lines : List (List ℕ)) (told : List (ℕ × OperatorAnswer)) → length lines ≡ length told → EachTells lines told → All IsGood told
+each_good [] [] many each = All-nil IsGood
+each_good [] (it ∷ told) many each = absurd (omega arith)
+each_good (line ∷ lines) [] many each = All-nil IsGood
+each_good (line ∷ lines) (it ∷ told) many each =
+    All-cons IsGood it told (line_good line it.0 it.1 (each zero line it refl refl)) (each_good lines told (omega arith) (λ n. each (suc n)))
+
+pub read_good : (text : List ℕ) (run : ℕ) (rest : List ℕ) (number : ℕ) (list : List OperatorAnswer) → IsReadUpTo text run rest number list → All IsOperatorAnswer list
+read_good text run rest number list h =
+    let each : All IsGood h.told = each_good h.lines h.told h.are.many h.are.each in
+    All-same IsOperatorAnswer list (of_run run h.told) h.list_is
+    (All-map IsOperatorAnswer (λ (it : ℕ × OperatorAnswer). it.1) (filter (λ (it : ℕ × OperatorAnswer). it.0 == run) h.told)
+    (All-filter (λ (it : ℕ × OperatorAnswer). it.0 == run) IsGood h.told each))

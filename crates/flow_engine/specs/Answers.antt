@@ -11,6 +11,12 @@ use Rattle.flow_engine.specs.declared.answers.OperatorAnswer.{OperatorAnswer}
 abbrev pub last_run : ℕ
 last_run = 9_007_199_254_740_991
 
+-- how an issue may end: a final status, and a text of at most 4,096 bytes of UTF-8
+pub record IsOperatorAnswer (told : OperatorAnswer) : Type 0 where
+  pub final : is_final told.status ≡ true
+  pub is_text : IsUtf8 told.text
+  pub short : length told.text ≤ most_status_text
+
 -- A line, without its line feed, tells this of a run: the run's number, the issue's and the status in decimal, with a space between
 -- them, and behind one more space a text of at most 4,096 bytes of UTF-8; or the three numbers alone, and the text is empty.
 pub record Tells (line : List ℕ) (run : ℕ) (told : OperatorAnswer) : Type 0 where

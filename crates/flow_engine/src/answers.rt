@@ -1,6 +1,6 @@
 //! Answers of operators.
-ghost use Rattle.std.specs.Prelude.{◌≡◌, ◌==◌, ◌≤◌, ◌++◌, ◌∷◌, [], ℕ, Err, IfOk, OnOk, find, length, option_copied};
-ghost use Rattle.flow_engine.specs.Answers.{Answers as TellAnswers, IsFirstBadLine, of_run};
+ghost use Rattle.std.specs.Prelude.{◌≡◌, ◌==◌, ◌≤◌, ◌++◌, ◌∷◌, [], ℕ, All, Err, IfOk, IfSome, OnOk, find, length, option_copied};
+ghost use Rattle.flow_engine.specs.Answers.{Answers as TellAnswers, IsFirstBadLine, IsOperatorAnswer, of_run};
 ghost use Rattle.flow_engine.specs.AnswerLaws.{AnswersAreOne, FirstBadLineIsOne, BadLinesTellNothing, EachTextIsOneOfBoth};
 ghost use Rattle.flow_engine.specs.AnswerReading.{told_of};
 
@@ -44,25 +44,31 @@ pub struct Answers {
 }
 
 impl Model for Answers {
-    ghost use Rattle.std.specs.Prelude.{List};
+    ghost use Rattle.std.specs.Prelude.{All, List};
     ghost use Rattle.flow_engine.specs.declared.answers.OperatorAnswer.{OperatorAnswer};
 
     ghost Value = { List OperatorAnswer };
 
+    ghost use Rattle.flow_engine.specs.Answers.{IsOperatorAnswer};
+
     ghost view = { λ answers. answers.list.items };
+
+    ghost invariant = { λ answers. All IsOperatorAnswer answers.list.items };
 }
 
 impl Answers {
     /// The answers in order.
     pub fn as_slice(&self) -> &[OperatorAnswer]
-        ensures { result.now ≡ self.now }
+        ensures items { result.now ≡ self.now }
+        ensures good { All IsOperatorAnswer self.now }
     {
         self.list.as_slice()
     }
 
     /// The first answer for an issue.
     pub fn first(&self, issue: u32) -> Option<&OperatorAnswer>
-        ensures { option_copied result ≡ find (λ told. told.issue == issue) self.now }
+        ensures found { option_copied result ≡ find (λ told. told.issue == issue) self.now }
+        ensures good { IfSome result (λ told. IsOperatorAnswer told.now) }
     {
         self.list.iter().find(|told| told.issue == issue)
     }

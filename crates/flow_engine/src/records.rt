@@ -5,14 +5,16 @@ ghost use Rattle.oc2_msg.specs.declared.answers.Answer.{Answer};
 ghost use Rattle.oc2_msg.specs.Ranges.{AnswerInRange};
 ghost use Rattle.run_records.specs.Ranges.{InRange, last_moment};
 ghost use Rattle.run_records.specs.declared.record.Record.TheVariants as entry;
-ghost use Rattle.flow_rules.specs.Changes.{is_in_time, outcome};
+ghost use Rattle.flow_rules.specs.Changes.{is_in_time, is_waiting, outcome};
 ghost use Rattle.flow_rules.specs.Moves.{deadline_of, enabled_move};
 ghost use Rattle.flow_rules.specs.declared.issues.Issue.{Issue};
 ghost use Rattle.flow_core.specs.Views.{taken};
+ghost use Rattle.flow_engine.specs.Answers.{IsOperatorAnswer};
 ghost use Rattle.flow_engine.specs.EngineCalls.{Appends, Is, IsBeginning, IsComing, IsFinal, IsFromFilter, IsMove, IsReply, IsReplyTo, IsStanding, IsWaiting, Refused, Refuses};
 ghost use Rattle.flow_engine.specs.EngineView.{EngineView, IsReady, flow_of};
 ghost use Rattle.flow_engine.specs.OpenIssues.{puts_of};
 
+use crate::answers::OperatorAnswer;
 use crate::engine::Engine;
 use crate::error::EngineError;
 use cacao_site::{Bytes, Disk, Parcel, Site};
@@ -320,6 +322,22 @@ impl Engine {
         self.may_upgrade(moment);
         let next = Record::Upgrade { version: 2, moment };
         self.append(site, &next)
+    }
+
+    /// The answer of an operator may end an issue that waits, of a filter or of an operator, once the run is upgraded. A moment is in
+    /// time from that of the last record on, up to 9,000,000,000,000,000; so that of an Upgrade is for the answer behind it. The
+    /// call does nothing.
+    pub fn can_tell(&self, issue: u32, told: &OperatorAnswer, moment: u64)
+        requires waits { (it : Issue) × (slice_get self.now.history.seen.lists.issues issue ≡ Some it)
+            × (is_waiting it.phase ≡ true) }
+        requires upgraded { self.now.history.seen.lists.is_upgraded ≡ true }
+        requires in_time { is_in_time self.now.history.seen moment ≡ true }
+        requires good { IsOperatorAnswer told.now }
+        ensures { IsSome (taken (flow_of self.now.history) (entry.Told issue moment told.now.status told.now.text)) }
+    {
+        self.stand();
+        runs_are_sane();
+        waiting_can_end();
     }
 
     /// Appends what an operator told of an issue, with a status other than 102 and a text of at most 4,096 bytes of UTF-8, where

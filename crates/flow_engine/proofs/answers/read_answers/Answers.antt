@@ -2,7 +2,7 @@ use Rattle.std.proofs.Common.{◌≡◌, ◌≢◌, false, [], ℕ, List, length
 use Rattle.flow_engine.specs.declared.answers.OperatorAnswer.{OperatorAnswer}
 use Rattle.flow_engine.specs.Answers.{IsFirstBadLine}
 use Rattle.flow_engine.specs.AnswerReading.{told_of}
-use Rattle.flow_engine.proofs.ToldLines.{IsReadUpTo, read_none, read_more, read_bad, first_shorter}
+use Rattle.flow_engine.proofs.ToldLines.{IsReadUpTo, read_none, read_more, read_bad, read_good, first_shorter}
 use Rattle.flow_engine.proofs.answers.read_answers.Goals as goal
 
 pub loop-rest-init : goal.loop-rest-init
@@ -25,3 +25,6 @@ loop-rest-smaller c = first_shorter c.loop-rest.rest.now (told_of c.in-Some.told
 pub loop-rest-preserved : goal.loop-rest-preserved
 loop-rest-preserved c = read_more c.args.bytes.now c.args.run c.loop-rest.rest.now c.loop-rest.number c.loop-rest.list.items c.add.new.list.items
     (told_of c.in-Some.told, c.in-Some.behind.now) c.loop-rest.invariant (sym c.in-Some.ensures) c.in_ok-add.ensures
+
+pub invariant_of-result : goal.invariant_of-result
+invariant_of-result c = read_good c.args.bytes.now c.args.run c.loop-rest.rest.now c.loop-rest.number c.loop-rest.list.items c.loop-rest.invariant
