@@ -27,6 +27,7 @@ use Rattle.flow_steps.specs.Steps.Step.{puts_first, resends, takes, finds_none, 
 use Rattle.flow_steps.specs.Steps.Steps.{nothing, and_then}
 use Rattle.flow_steps.specs.Sums.{Adds, EachAdds, EachSameGiven, IsBetween, SameGiven}
 use Rattle.flow_steps.specs.Worlds.{Notes, World}
+use Rattle.flow_steps.proofs.Failing.{fails_notes}
 
 -- ---- moments of records
 
@@ -130,7 +131,7 @@ step_adds old new (ignores_reply beat parcel is) = adds_none old new (records_sa
 step_adds old new (acts_on beat parcel v w is) = adds_none old new (records_same old new is.engine) (acts_now old new beat parcel v w is) (ap (λ (n : Notes). n.left) is.notes)
 step_adds old new (repeats_reply beat parcel v w is) = adds_none old new (records_same old new is.ignores.engine) (same_now old.site new.site is.repeats.puts.time.now) (ap (λ (n : Notes). n.left) is.ignores.notes)
 step_adds old new (fails_to_act beat parcel v w error cause is) = adds_none old new (records_same old new is.engine) (same_now old.site new.site (ap (λ (c : ClockView). c.now) (fails_clock v parcel old.site.clock.now old.site new.site error is.refuses.site)))
-    (ap (λ (n : Notes). n.left) is.notes)
+    (ap (λ (n : Notes). n.left) (fails_notes error parcel v old new is.notes))
 step_adds old new (wants_memory_now is) = adds_none old new (records_same old new is.only.sides.engine) (now_of old.site new.site is.only.site) (left_of old new is.only.notes)
 
 within : {T : Type 0} (P Q : T → Type 0) (xs : List T) → ((x : T) → P x → Q x) → All P xs → All Q xs
@@ -201,7 +202,7 @@ step_given old new (replies beat parcel is) = given_tried _ old new is.tries
 step_given old new (ignores_reply beat parcel is) = given_same old new (seen_of old.engine new.engine is.ignores.engine) (ap (λ (n : Notes). n.answers) is.ignores.notes)
 step_given old new (acts_on beat parcel v w is) = given_same old new (seen_of old.engine new.engine is.engine) (ap (λ (n : Notes). n.answers) is.notes)
 step_given old new (repeats_reply beat parcel v w is) = given_same old new (seen_of old.engine new.engine is.ignores.engine) (ap (λ (n : Notes). n.answers) is.ignores.notes)
-step_given old new (fails_to_act beat parcel v w error cause is) = given_same old new (seen_of old.engine new.engine is.engine) (ap (λ (n : Notes). n.answers) is.notes)
+step_given old new (fails_to_act beat parcel v w error cause is) = given_same old new (seen_of old.engine new.engine is.engine) (ap (λ (n : Notes). n.answers) (fails_notes error parcel v old new is.notes))
 step_given old new (wants_memory_now is) = given_same old new (seen_of old.engine new.engine is.only.sides.engine) (ap (λ (n : Notes). n.answers) is.only.notes)
 
 pub steps_same_given : EachSameGiven

@@ -16,6 +16,7 @@ use Rattle.flow_steps.specs.Sums.{AsksOnly, EachAsksOnly, IgnoresFew}
 use Rattle.flow_steps.specs.Turns.{ComesNext, most_ignored}
 use Rattle.flow_steps.specs.Worlds.{World, Phase, Cause, Notes, opened, rests, looked, owes, waits, refused, past}
 use Rattle.flow_steps.proofs.Adding.{fails_clock}
+use Rattle.flow_steps.proofs.Failing.{fails_notes}
 
 -- ---- no step leads back to an opening
 
@@ -47,7 +48,7 @@ tried_not IsNext old new (done is) = not_opened new.phase owes owes_not is.phase
 tried_not IsNext old new (failed is) = not_opened new.phase _ (refused_not _ _) is.phase
 tried_not IsNext old new (limited what is) = not_opened new.phase _ (refused_not _ _) is.phase
 
-step_not_opened : (old new : World) → Step old new → new.phase ≡ opened → ⊥
+pub step_not_opened : (old new : World) → Step old new → new.phase ≡ opened → ⊥
 step_not_opened old new (opens_clock answer is) = reached_not new.phase _ answer is.goes.phase
 step_not_opened old new (finds_run_used agent is) = not_opened new.phase _ (refused_not _ _) is.only.phase
 step_not_opened old new (asks_clock moment answer is) = reached_not new.phase moment answer is.goes.phase
@@ -177,7 +178,7 @@ step_ignores old new few (replies beat parcel is) = same_ignored old new (tried_
 step_ignores old new few (ignores_reply beat parcel is) = one_more old new is.ignores.calm is.ignores.notes
 step_ignores old new few (acts_on beat parcel v w is) = same_ignored old new (ap (λ (n : Notes). n.ignored) is.notes) few
 step_ignores old new few (repeats_reply beat parcel v w is) = one_more old new is.ignores.calm is.ignores.notes
-step_ignores old new few (fails_to_act beat parcel v w error cause is) = same_ignored old new (ap (λ (n : Notes). n.ignored) is.notes) few
+step_ignores old new few (fails_to_act beat parcel v w error cause is) = same_ignored old new (ap (λ (n : Notes). n.ignored) (fails_notes error parcel v old new is.notes)) few
 step_ignores old new few (wants_memory_now is) = same_ignored old new (ap (λ (n : Notes). n.ignored) is.only.notes) few
 
 pub steps_ignore_few : IgnoresFew

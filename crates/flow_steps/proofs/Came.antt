@@ -14,6 +14,7 @@ use Rattle.flow_steps.specs.Steps.Steps.{nothing, and_then}
 use Rattle.flow_steps.specs.Sums.{EachCame}
 use Rattle.flow_steps.specs.Causes.{EachActed}
 use Rattle.flow_steps.specs.Worlds.{Notes, World}
+use Rattle.flow_steps.proofs.Failing.{fails_notes}
 
 -- one act more, or none
 GrownBy : List (ℕ × Act) → List (ℕ × Act) → Type 0
@@ -60,7 +61,7 @@ step_grows old new (fails_to_act beat parcel v w error cause is) = same_records 
 step_grows old new (wants_memory_now is) = same_records old.engine new.engine is.only.sides.engine
 
 -- two lists that are equal with their last ones
-same_last : {T : Type 0} (xs ys : List T) (x y : T) → xs ++ x ∷ [] ≡ ys ++ y ∷ [] → (xs ≡ ys) × (x ≡ y)
+pub same_last : {T : Type 0} (xs ys : List T) (x y : T) → xs ++ x ∷ [] ≡ ys ++ y ∷ [] → (xs ≡ ys) × (x ≡ y)
 same_last [] [] x y e = (refl, cc)
 same_last {T} [] (z ∷ ys) x y e = let long = ap (λ (l : List T). length l) e in absurd (omega (arith, long, length-append ys (y ∷ [])))
 same_last {T} (z ∷ xs) [] x y e = let long = ap (λ (l : List T). length l) e in absurd (omega (arith, long, length-append xs (x ∷ [])))
@@ -71,7 +72,7 @@ same_last (z ∷ xs) (w ∷ ys) x y e =
     (ap (λ l. z ∷ l) is.0 ∙ ap (λ h. h ∷ ys) head, is.1)
 
 -- a list is empty, or has a last one
-last_of : {T : Type 0} (xs : List T) → (xs ≡ []) ⊎ ((front : List T) × (x : T) × (xs ≡ front ++ x ∷ []))
+pub last_of : {T : Type 0} (xs : List T) → (xs ≡ []) ⊎ ((front : List T) × (x : T) × (xs ≡ front ++ x ∷ []))
 last_of [] = inl refl
 last_of (x ∷ xs) = elim (last_of xs) [
   | inl none ↦ inr ([], x, ap (λ l. x ∷ l) none)
@@ -137,7 +138,7 @@ step_acts old new (replies beat parcel is) = tried_acts _ old new is.tries
 step_acts old new (ignores_reply beat parcel is) = inl (ap (λ (n : Notes). n.acted) is.ignores.notes)
 step_acts old new (acts_on beat parcel v w is) = inr ((parcel.agent, act_for v.acts parcel old.site.clock.now), ap (λ (n : Notes). n.acted) is.notes)
 step_acts old new (repeats_reply beat parcel v w is) = inl (ap (λ (n : Notes). n.acted) is.ignores.notes)
-step_acts old new (fails_to_act beat parcel v w error cause is) = inl (ap (λ (n : Notes). n.acted) is.notes)
+step_acts old new (fails_to_act beat parcel v w error cause is) = inl (ap (λ (n : Notes). n.acted) (fails_notes error parcel v old new is.notes))
 step_acts old new (wants_memory_now is) = same_acts old new is.only.notes
 
 too_long_acts : (a front back : List (ℕ × Act)) (r : ℕ × Act) → a ≡ (a ++ front) ++ r ∷ back → ⊥

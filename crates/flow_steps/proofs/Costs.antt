@@ -22,6 +22,7 @@ use Rattle.flow_steps.specs.Steps.Step.{puts_first, resends, takes, finds_none, 
 use Rattle.flow_steps.specs.Steps.Steps.{nothing, and_then}
 use Rattle.flow_steps.specs.Sums.{Costs, EachCosts, headers, if_going, one_if, owed_lines, slack, total}
 use Rattle.flow_steps.specs.Worlds.{World, Phase, Cause, Notes, IsGoing, opened, rests, looked, owes, holds, waits, refused, past, owes_line}
+use Rattle.flow_steps.proofs.Failing.{fails_notes}
 
 -- ---- sums over the filters
 
@@ -180,7 +181,7 @@ fails old new beat parcel v w error cause is =
     let was = like_holds old.phase (headers old) beat parcel is.holds_command.phase in
     let now = like_refused new.phase (headers new) cause false is.phase in
     let part = sum_part calls_of old.filters (parcel.agent - 1) v is.holds_command.there in
-    let acted : length new.notes.acted ≡ length old.notes.acted = ap (λ (n : Notes). length n.acted) is.notes in
+    let acted : length new.notes.acted ≡ length old.notes.acted = ap (λ (n : Notes). length n.acted) (fails_notes error parcel v old new is.notes) in
     let calls = fails_calls v parcel old.site.clock.now old.site new.site error is.refuses.site in
     record { calls = omega (arith, was.left_is, was.owed_is, now.left_is, now.owed_is, now.over_is, part, long_of old.engine new.engine is.engine, acted, calls) }
 

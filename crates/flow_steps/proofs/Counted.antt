@@ -12,20 +12,20 @@ use Rattle.flow_rules.specs.State.{Shown}
 use Rattle.flow_rules.specs.declared.issues.Issue.{Issue}
 use Rattle.flow_laws.proofs.Basics.{same_or_not, same_some}
 use Rattle.flow_engine.specs.EngineView.{EngineView, HistoryView}
-use Rattle.flow_engine.specs.Histories.{IsHistory}
 use Rattle.flow_engine.specs.OpenIssues.{ArePut, IsNextPut, OpenIssues, count_of, most_puts, puts_of, resend_of, with_put, without_ended}
 use Rattle.flow_engine.specs.declared.puts.Puts.{Puts}
 use Rattle.flow_steps.specs.Appends.{Tries}
 use Rattle.flow_steps.specs.Appends.Tries.{done, failed, limited}
 use Rattle.flow_steps.specs.Link.{EachCountsFew, PutsAreCounted}
-use Rattle.flow_steps.specs.Sides.{times}
+use Rattle.flow_steps.specs.Sides.{IsWhole, times}
 use Rattle.flow_steps.specs.Steps.{PutsCommand, Step}
 use Rattle.flow_steps.specs.Steps.Step.{opens_clock, finds_run_used, asks_clock, finds_late, begins, moves, upgrades, tells, expires, says, fails_to_say}
 use Rattle.flow_steps.specs.Steps.Step.{puts_first, resends, takes, finds_none, fails_to_take, drops, replies, ignores_reply, acts_on, repeats_reply, fails_to_act, wants_memory_now}
 use Rattle.flow_steps.specs.Steps.Steps.{nothing, and_then}
 use Rattle.flow_steps.specs.Worlds.{Notes, World}
-use Rattle.flow_steps.proofs.Issues.{KeepsShown, below, counted_other, counted_same, eq_apart, is_ended, keeps_shown, puts_kept}
+use Rattle.flow_steps.proofs.Issues.{KeepsShown, below, counted_other, counted_same, eq_apart, eq_itself, is_ended, keeps_shown, puts_kept, puts_were}
 use Rattle.flow_steps.proofs.Put.{times_more}
+use Rattle.flow_steps.proofs.Failing.{fails_notes}
 
 -- ---- nothing was put, and the engine stays
 
@@ -35,6 +35,7 @@ same old new seen puts notes is = record {
   counted = λ issue it there waits.
       let had = is.counted issue it (subst (λ (s : Shown). slice_get s.lists.issues issue ≡ Some it) seen there) waits in
       omega (arith, ap (times issue) notes, ap (λ (o : OpenIssues). count_of o issue) puts, had);
+  noted = λ issue. omega (arith, ap (times issue) notes, ap (λ (o : OpenIssues). count_of o issue) puts, is.noted issue);
   later = λ issue past.
       let long : length new.engine.history.seen.lists.issues ≡ length old.engine.history.seen.lists.issues = ap (λ (s : Shown). length s.lists.issues) seen in
       ap (times issue) notes ∙ is.later issue (omega (arith, past, long));
@@ -55,12 +56,25 @@ count_kept next puts r n are apart = by (puts_of puts n) refl
         let kept = ap (λ (o : Option Puts). option_map_or (λ (q : Puts). q.count) o 0) (puts_kept next puts r n p are e apart) in
         omega (arith, kept)
 
+-- no count is more than it was
+count_left : (seen : Shown) (puts : OpenIssues) (r : Record) (n : ℕ) → ArePut seen puts → count_of (without_ended puts r) n ≤ count_of puts n
+count_left seen puts r n are = by (puts_of (without_ended puts r) n) refl
+  where
+    by : (o : Option Puts) → puts_of (without_ended puts r) n ≡ o → option_map_or (λ (p : Puts). p.count) o 0 ≤ count_of puts n
+    by None e = omega arith
+    by (Some p) e =
+        let was = ap (λ (o : Option Puts). option_map_or (λ (q : Puts). q.count) o 0) (puts_were seen puts r n p are e) in
+        omega (arith, was)
+
 -- the puts noted stay, and what waits was there and waited, or is new
-appended : (old new : World) (r : Record) → KeepsShown old.engine.history.seen new.engine.history.seen r → ArePut new.engine.history.seen new.engine.puts
+appended : (old new : World) (r : Record) → ArePut old.engine.history.seen old.engine.puts → KeepsShown old.engine.history.seen new.engine.history.seen r → ArePut new.engine.history.seen new.engine.puts
     → new.engine.puts ≡ without_ended old.engine.puts r → new.notes.put ≡ old.notes.put → PutsAreCounted old → PutsAreCounted new
-appended old new r keeps are puts notes is = record {
+appended old new r are_old keeps are puts notes is = record {
   few = λ issue. omega (arith, ap (times issue) notes, is.few issue);
   counted = λ issue it there waits. by issue it there waits (slice_get old.engine.history.seen.lists.issues issue) refl;
+  noted = λ issue.
+      let fewer = count_left old.engine.history.seen old.engine.puts r issue are_old in
+      omega (arith, ap (times issue) notes, ap (λ (o : OpenIssues). count_of o issue) puts, fewer, is.noted issue);
   later = λ issue past. ap (times issue) notes ∙ is.later issue (omega (arith, past, keeps.longer));
 }
   where
@@ -86,14 +100,14 @@ appended old new r keeps are puts notes is = record {
           omega (arith, ap (times issue) notes, had, kept, ap (λ (o : OpenIssues). count_of o issue) puts)
     ]
 
-tried : (IsNext : Record → Type 0) (old new : World) → IsHistory old.engine.history → Tries IsNext old new → PutsAreCounted old → PutsAreCounted new
-tried IsNext old new history (done is) =
+tried : (IsNext : Record → Type 0) (old new : World) → IsWhole old.engine old.site → Tries IsNext old new → PutsAreCounted old → PutsAreCounted new
+tried IsNext old new up (done is) =
     let comes = is.appends.adds.offers.comes in
     let seen : new.engine.history.seen ≡ shown_after (moment_of comes.next) comes.edits old.engine.history.seen = ap (λ (h : HistoryView). h.seen) is.appends.adds.view in
-    appended old new comes.next (subst (λ (s : Shown). KeepsShown old.engine.history.seen s comes.next) (sym seen) (keeps_shown old.engine.history IsNext history comes))
+    appended old new comes.next up.engine.put (subst (λ (s : Shown). KeepsShown old.engine.history.seen s comes.next) (sym seen) (keeps_shown old.engine.history IsNext up.engine.history comes))
     is.engine.put is.appends.puts (ap (λ (n : Notes). n.put) is.notes)
-tried IsNext old new history (failed is) = same old new (ap (λ (h : HistoryView). h.seen) is.refuses.0.1) is.refuses.1 (ap (λ (n : Notes). n.put) is.notes)
-tried IsNext old new history (limited what is) = same old new (ap (λ (h : HistoryView). h.seen) is.refuses.0.1) is.refuses.1 (ap (λ (n : Notes). n.put) is.notes)
+tried IsNext old new up (failed is) = same old new (ap (λ (h : HistoryView). h.seen) is.refuses.0.1) is.refuses.1 (ap (λ (n : Notes). n.put) is.notes)
+tried IsNext old new up (limited what is) = same old new (ap (λ (h : HistoryView). h.seen) is.refuses.0.1) is.refuses.1 (ap (λ (n : Notes). n.put) is.notes)
 
 -- ---- a command was put
 
@@ -128,6 +142,7 @@ put old new issue is left was =
     let other : (i : ℕ) → i ≢ issue → times i new.notes.put ≡ times i old.notes.put = λ i ne.
     let no : ◌≡◌ {A = ℕ} (if nat_eq issue i then 1 else 0) 0 = ap (λ (b : Bool). if b then 1 else 0) (eq_apart issue i (λ e. ne (sym e))) in
     omega (arith, now i, no) in
+    let itself : ◌≡◌ {A = ℕ} (if nat_eq issue issue then 1 else 0) 1 = ap (λ (b : Bool). if b then 1 else 0) (eq_itself issue) in
     let own : times issue new.notes.put ≤ times issue old.notes.put + 1 = omega (arith, now issue, one_at_most (nat_eq issue issue)) in
     record {
       few = λ i. elim (same_or_not i issue) [
@@ -140,6 +155,11 @@ put old new issue is left was =
         | inr ne ↦
             let before = was.counted i it (subst (λ (s : Shown). slice_get s.lists.issues i ≡ Some it) seen there) waits in
             omega (arith, other i ne, before, ap (λ (o : OpenIssues). count_of o i) puts, counted_other old.engine.puts issue old.site.clock.now i ne)
+      ];
+      noted = λ i. elim (same_or_not i issue) [
+        | inl e ↦ subst (λ (n : ℕ). count_of new.engine.puts n ≤ times n new.notes.put) (sym e)
+            (omega (arith, was.noted issue, now issue, itself, ap (λ (o : OpenIssues). count_of o issue) puts, counted_same old.engine.puts issue old.site.clock.now left))
+        | inr ne ↦ omega (arith, other i ne, was.noted i, ap (λ (o : OpenIssues). count_of o i) puts, counted_other old.engine.puts issue old.site.clock.now i ne)
       ];
       later = λ i past.
           let long : length new.engine.history.seen.lists.issues ≡ length old.engine.history.seen.lists.issues = ap (λ (s : Shown). length s.lists.issues) seen in
@@ -156,11 +176,11 @@ step_counts old new was (opens_clock answer is) = engine_same old new is.goes.si
 step_counts old new was (finds_run_used agent is) = engine_same old new is.only.sides.engine (ap (λ (n : Notes). n.put) is.only.notes) was
 step_counts old new was (asks_clock moment answer is) = engine_same old new is.goes.sides.engine (ap (λ (n : Notes). n.put) is.goes.notes) was
 step_counts old new was (finds_late moment is) = engine_same old new is.only.sides.engine (ap (λ (n : Notes). n.put) is.only.notes) was
-step_counts old new was (begins is) = tried _ old new is.whole.engine.history is.tries was
-step_counts old new was (moves is) = tried _ old new is.has_looked.up.has_file.engine.history is.tries was
-step_counts old new was (upgrades issue told is) = tried _ old new is.to_be_told.idle.has_looked.up.has_file.engine.history is.tries was
-step_counts old new was (tells issue told is) = tried _ old new is.to_be_told.idle.has_looked.up.has_file.engine.history is.tries was
-step_counts old new was (expires issue is) = tried _ old new is.overdue.untold.idle.has_looked.up.has_file.engine.history is.tries was
+step_counts old new was (begins is) = tried _ old new is.whole is.tries was
+step_counts old new was (moves is) = tried _ old new is.has_looked.up.has_file is.tries was
+step_counts old new was (upgrades issue told is) = tried _ old new is.to_be_told.idle.has_looked.up.has_file is.tries was
+step_counts old new was (tells issue told is) = tried _ old new is.to_be_told.idle.has_looked.up.has_file is.tries was
+step_counts old new was (expires issue is) = tried _ old new is.overdue.untold.idle.has_looked.up.has_file is.tries was
 step_counts old new was (says bytes is) = engine_same old new is.speaks.sides.engine (ap (λ (n : Notes). n.put) is.speaks.notes) was
 step_counts old new was (fails_to_say bytes is) = engine_same old new is.speaks.sides.engine (ap (λ (n : Notes). n.put) is.speaks.notes) was
 step_counts old new was (puts_first issue is) = put old new issue is.puts (first_count old.engine.puts issue is.first) was
@@ -169,11 +189,11 @@ step_counts old new was (takes parcel is) = engine_same old new is.sides.engine 
 step_counts old new was (finds_none is) = engine_same old new is.sides.engine (ap (λ (n : Notes). n.put) is.notes) was
 step_counts old new was (fails_to_take is) = engine_same old new is.sides.engine (ap (λ (n : Notes). n.put) is.notes) was
 step_counts old new was (drops beat parcel is) = engine_same old new is.ignores.engine (ap (λ (n : Notes). n.put) is.ignores.notes) was
-step_counts old new was (replies beat parcel is) = tried _ old new is.up.has_file.engine.history is.tries was
+step_counts old new was (replies beat parcel is) = tried _ old new is.up.has_file is.tries was
 step_counts old new was (ignores_reply beat parcel is) = engine_same old new is.ignores.engine (ap (λ (n : Notes). n.put) is.ignores.notes) was
 step_counts old new was (acts_on beat parcel v w is) = engine_same old new is.engine (ap (λ (n : Notes). n.put) is.notes) was
 step_counts old new was (repeats_reply beat parcel v w is) = engine_same old new is.ignores.engine (ap (λ (n : Notes). n.put) is.ignores.notes) was
-step_counts old new was (fails_to_act beat parcel v w error cause is) = engine_same old new is.engine (ap (λ (n : Notes). n.put) is.notes) was
+step_counts old new was (fails_to_act beat parcel v w error cause is) = engine_same old new is.engine (ap (λ (n : Notes). n.put) (fails_notes error parcel v old new is.notes)) was
 step_counts old new was (wants_memory_now is) = engine_same old new is.only.sides.engine (ap (λ (n : Notes). n.put) is.only.notes) was
 
 pub steps_count_few : EachCountsFew

@@ -8,14 +8,13 @@ use Rattle.cacao_site.proofs.Beats.{each-now, goes_on-refl, goes_on-trans, stays
 use Rattle.run_records.specs.declared.record.Record.{Record}
 use Rattle.run_records.specs.declared.act.Act.{Act}
 use Rattle.slpf_actuator.specs.ActLists.{IsHistory}
-use Rattle.slpf_actuator.specs.ActuatorCalls.{MayHaveDone, Offers}
 use Rattle.slpf_actuator.specs.ActuatorView.{ActuatorView, HoldsActs, IsReady, act_for}
 use Rattle.slpf_actuator.specs.declared.error.ActError.{ActError}
 use Rattle.slpf_actuator.specs.declared.error.ActError.TheVariants as act_error
 use Rattle.flow_steps.specs.Appends.{Tries}
 use Rattle.flow_steps.specs.Appends.Tries.{done, failed, limited}
 use Rattle.flow_steps.specs.Ready.{EachFilterReady, FilterStands, FiltersStand, HoldsActsWithUnsure}
-use Rattle.flow_steps.specs.Steps.{ActsOn, FailsToAct, Step}
+use Rattle.flow_steps.specs.Steps.{ActsOn, DoesNothing, FailsToAct, MayHaveActed, Step, Unsures}
 use Rattle.flow_steps.specs.Steps.Step.{opens_clock, finds_run_used, asks_clock, finds_late, begins, moves, upgrades, tells, expires, says, fails_to_say}
 use Rattle.flow_steps.specs.Steps.Step.{puts_first, resends, takes, finds_none, fails_to_take, drops, replies, ignores_reply, acts_on, repeats_reply, fails_to_act, wants_memory_now}
 use Rattle.flow_steps.specs.Steps.Steps.{nothing, and_then}
@@ -38,7 +37,7 @@ same old new e = record {
   each = λ file ne. stays_same old new file e;
 }
 
-ready_stays : (v : ActuatorView) (old new : SiteView) → GoesOn old.disk new.disk → StaysAt old.disk new.disk v.agent → IsReady v old → IsReady v new
+pub ready_stays : (v : ActuatorView) (old new : SiteView) → GoesOn old.disk new.disk → StaysAt old.disk new.disk v.agent → IsReady v old → IsReady v new
 ready_stays v old new on stays is = record {
   low = is.low;
   high = is.high;
@@ -78,7 +77,7 @@ tried IsNext old new going (limited what is) = still old new (same old.site new.
 
 -- ---- a filter acted, or may have
 
-get_set : {T : Type 0} (xs : List T) (k j : ℕ) (y x : T) → slice_get (slice_set xs k y) j ≡ Some x → ((j ≡ k) × (y ≡ x)) ⊎ ((j ≢ k) × (slice_get xs j ≡ Some x))
+pub get_set : {T : Type 0} (xs : List T) (k j : ℕ) (y x : T) → slice_get (slice_set xs k y) j ≡ Some x → ((j ≡ k) × (y ≡ x)) ⊎ ((j ≢ k) × (slice_get xs j ≡ Some x))
 get_set [] zero zero y x is = absurd (cc)
 get_set [] zero (suc j) y x is = absurd (cc)
 get_set [] (suc k) zero y x is = absurd (cc)
@@ -164,24 +163,23 @@ module _ (old new : World) (beat : ℕ) (parcel : Parcel) (v w : ActuatorView) (
   acts_are : w.acts ≡ v.acts
   acts_are = ap (λ (x : ActuatorView). x.acts) is.refuses.view
 
-  unsure_now : new.notes.unsure_act ≡ Some (parcel.agent, act_for v.acts parcel old.site.clock.now)
-  unsure_now = ap (λ (n : Notes). n.unsure_act) is.notes
-
   own_before : AllLeft parcel.agent old.site.disk (HoldsActs v.acts)
   own_before told image left = (is.holds_command.filter.ready.images is.holds_command.filter.whole told image
       (subst (λ (n : ℕ). IsLeft old.site.disk n old.site.disk.beat image) (sym is.holds_command.filter.of_agent) left)).0
 
-  all_same : new.site ≡ old.site → (k : ℕ) (x : ActuatorView) → slice_get new.filters k ≡ Some x → FilterStands new (suc k) x
-  all_same e =
+  all_same : DoesNothing old new → (k : ℕ) (x : ActuatorView) → slice_get new.filters k ≡ Some x → FilterStands new (suc k) x
+  all_same nothing_done =
+      let e : new.site ≡ old.site = nothing_done.site in
       let files = same old.site new.site e in
       set_one old new parcel.agent w is.holds_command.addressed.low is.filters
       (itself (subst (λ (l : List Act). AllLeft parcel.agent new.site.disk (HoldsActsWithUnsure parcel.agent l new.notes.unsure_act)) (sym acts_are)
       (with_unsure parcel.agent v.acts new.site new.notes.unsure_act (subst (λ (s : SiteView). AllLeft parcel.agent s.disk (HoldsActs v.acts)) (sym e) own_before))))
       (λ k x ne there. other (suc k) x files.goes_on (files.each (suc k) (is_not_zero k)) (was.each k x there))
 
-  all_offered : Offers v parcel old.site.clock.now old.site new.site → (k : ℕ) (x : ActuatorView) → slice_get new.filters k ≡ Some x → FilterStands new (suc k) x
-  all_offered offers =
-      let file = offers.adds.file in
+  all_offered : MayHaveActed parcel v old new → (k : ℕ) (x : ActuatorView) → slice_get new.filters k ≡ Some x → FilterStands new (suc k) x
+  all_offered may =
+      let file = may.offers.adds.file in
+      let unsure_now : new.notes.unsure_act ≡ Some (parcel.agent, act_for v.acts parcel old.site.clock.now) = ap (λ (n : Notes). n.unsure_act) may.notes in
       let own : v.agent ≡ parcel.agent = is.holds_command.filter.of_agent in
       set_one old new parcel.agent w is.holds_command.addressed.low is.filters
       (itself (subst (λ (l : List Act). AllLeft parcel.agent new.site.disk (HoldsActsWithUnsure parcel.agent l new.notes.unsure_act)) (sym acts_are)
@@ -192,7 +190,7 @@ module _ (old new : World) (beat : ℕ) (parcel : Parcel) (v w : ActuatorView) (
       ]))))
       (λ k x ne there. other (suc k) x file.each.goes_on (file.others (suc k) (λ e. absurd (ne (e ∙ own)))) (was.each k x there))
 
-  all_by : (e : ActError) → MayHaveDone e v parcel old.site.clock.now old.site new.site → (k : ℕ) (x : ActuatorView) → slice_get new.filters k ≡ Some x → FilterStands new (suc k) x
+  all_by : (e : ActError) → Unsures e parcel v old new → (k : ℕ) (x : ActuatorView) → slice_get new.filters k ≡ Some x → FilterStands new (suc k) x
   all_by act_error.Disk offers = all_offered offers
   all_by act_error.Memory may = elim may [ inl e ↦ all_same e | inr offers ↦ all_offered offers ]
   all_by (act_error.Damaged place) e = all_same e
@@ -200,7 +198,7 @@ module _ (old new : World) (beat : ℕ) (parcel : Parcel) (v w : ActuatorView) (
   all_by act_error.Broken e = all_same e
 
   failed_act : FiltersStand new
-  failed_act = record { each = all_by error is.refuses.site; sure = λ g. absurd (subst IsGoing is.phase g) }
+  failed_act = record { each = all_by error is.notes; sure = λ g. absurd (subst IsGoing is.phase g) }
 
 step_filters : (old new : World) → FiltersStand old → Step old new → FiltersStand new
 step_filters old new was (opens_clock answer is) = still old new (kept old.site new.site is.goes.reaches.disk.disk) is.goes.sides.filters (ap (λ (n : Notes). n.unsure_act) is.goes.notes) (going_as old.phase _ is.phase tt) was

@@ -139,7 +139,7 @@ keeps_shown h IsNext history comes = keeps_by h.records h IsNext refl history co
 
 -- ---- the issues that were put: one put more
 
-eq_itself : (n : ℕ) → nat_eq n n ≡ true
+pub eq_itself : (n : ℕ) → nat_eq n n ≡ true
 eq_itself n = grind arith
 
 pub eq_apart : (n m : ℕ) → n ≢ m → nat_eq n m ≡ false
@@ -152,7 +152,7 @@ eq_apart n m ne = by (nat_eq n m) refl
     by false e = refl
     by true e = absurd (ne (eq_same n m e))
 
-put_same : (es : OpenIssues) (k : ℕ) (v : Puts) → lookup (nat_eq k) (insert_entry nat_eq es k v) ≡ Some v
+pub put_same : (es : OpenIssues) (k : ℕ) (v : Puts) → lookup (nat_eq k) (insert_entry nat_eq es k v) ≡ Some v
 put_same [] k v = lookup_head (nat_eq k) (k, v) [] (eq_itself k)
 put_same (e ∷ es) k v = by (nat_eq k e.0) refl (put_same es k v)
   where
@@ -286,6 +286,15 @@ key_was (e ∷ es) m x has = by (position (nat_eq m) (keys_of (e ∷ es))) refl 
 left_was : (puts : OpenIssues) (o : Option ℕ) (x : ℕ × Puts) → Contains (option_map_or (λ issue. swap_remove_entry (nat_eq issue) puts) o puts) x → Contains puts x
 left_was puts None x has = has
 left_was puts (Some m) x has = key_was puts m x has
+
+-- the puts of an issue that a record leaves are those that it had
+pub puts_were : (seen : Shown) (puts : OpenIssues) (r : Record) (n : ℕ) (p : Puts) → ArePut seen puts → puts_of (without_ended puts r) n ≡ Some p → puts_of puts n ≡ Some p
+puts_were seen puts r n p are e =
+    lookup-from_Contains nat_eq_equiv n p puts (distinct_of puts are.once) (left_was puts (ended_by r) (n, p) (Contains-from_lookup same_number n p (without_ended puts r) e))
+
+-- what is known of an issue that was put
+pub is_put_of : (seen : Shown) (puts : OpenIssues) (n : ℕ) (p : Puts) → ArePut seen puts → puts_of puts n ≡ Some p → IsPut seen (n, p)
+is_put_of seen puts n p are e = All-contains (IsPut seen) puts (n, p) are.each (Contains-from_lookup same_number n p puts e)
 
 -- an issue that is put after a record was put before it, and the record doesn't end it
 pub put_before : (seen next : Shown) (puts now : OpenIssues) (r : Record) (n : ℕ) → KeepsShown seen next r → ArePut seen puts → ArePut next now → now ≡ without_ended puts r

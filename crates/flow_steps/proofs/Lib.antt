@@ -1,23 +1,41 @@
-mod Adding
-mod Agreement
-mod Asked
-mod Backed
-mod Came
-mod Caused
-mod Costs
-mod Counted
-mod EngineCalls
-mod FilterCalls
-mod Filters
-mod Growth
-mod Handling
-mod Issues
-mod Looked
-mod Lost
-mod Put
-mod Readiness
-mod Records
-mod Sites
-mod Spoken
-mod Waiting
-mod Whole
+pub mod Adding
+pub mod Agreement
+pub mod AllPuts
+pub mod Asked
+pub mod Backed
+pub mod Bounded
+pub mod Came
+pub mod Caused
+pub mod Complete
+pub mod Costs
+pub mod Counted
+pub mod DueLater
+pub mod Ended
+pub mod Ending
+pub mod EngineCalls
+pub mod Failing
+pub mod FilterCalls
+pub mod Filters
+pub mod Grown
+pub mod Growth
+pub mod Handling
+pub mod Hands
+pub mod Issues
+pub mod Looked
+pub mod Lost
+pub mod Put
+pub mod PutWhile
+pub mod Readiness
+pub mod Records
+pub mod Replied
+pub mod Resent
+pub mod Sites
+pub mod Spending
+pub mod Spoken
+pub mod Standing
+pub mod Timely
+pub mod Unbroken
+pub mod Unsure
+pub mod Waiting
+pub mod Whole
+pub mod Written

@@ -11,7 +11,7 @@ use Rattle.cacao_site.specs.declared.parcel.Parcel.{Parcel}
 use Rattle.run_records.specs.declared.record.Record.{Record}
 use Rattle.flow_steps.specs.Appends.{Tries}
 use Rattle.flow_steps.specs.Appends.Tries.{done, failed, limited}
-use Rattle.flow_steps.specs.Link.{EachPutsOrLost, PutsOrLost}
+use Rattle.flow_steps.specs.Link.{EachPutsOrLost, PutsOrLost, commands_of}
 use Rattle.flow_steps.specs.Sides.{times}
 use Rattle.flow_steps.specs.Steps.{PutsCommand, Step}
 use Rattle.flow_steps.specs.Steps.Step.{opens_clock, finds_run_used, asks_clock, finds_late, begins, moves, upgrades, tells, expires, says, fails_to_say}
@@ -20,8 +20,10 @@ use Rattle.flow_steps.specs.Steps.Steps.{nothing, and_then}
 use Rattle.flow_steps.specs.Worlds.{Notes, World}
 use Rattle.flow_steps.proofs.Adding.{fails_clock}
 use Rattle.flow_steps.proofs.Growth.{gains_one, gains_same, gains_then}
-use Rattle.flow_steps.proofs.Put.{added, commands_more, times_more}
+use Rattle.flow_steps.proofs.Put.{added, commands_more, own_command, times_more}
+use Rattle.flow_steps.proofs.Agreement.{steps_run}
 use Rattle.flow_steps.proofs.Spoken.{fails_said}
+use Rattle.flow_steps.proofs.Failing.{fails_notes}
 
 times_append : (issue : ℕ) (xs ys : List ℕ) → times issue (xs ++ ys) ≡ times issue xs + times issue ys
 times_append issue [] ys = omega arith
@@ -77,7 +79,7 @@ command old new issue is =
         lost = [];
         later = is.sends.put.mishaps;
         few = inl (omega (arith, is.sends.put.mishaps));
-        each = λ i. omega (arith, ap (times i) notes, times_more i old.notes.put issue);
+        each = λ i. omega (arith, ap (times i) notes, times_more i old.notes.put issue, own_command old.engine.history issue is.sends.it i);
       }
       | inr gone ↦ record {
         put = [];
@@ -125,7 +127,7 @@ step_loses old new (replies beat parcel is) = tried _ old new is.tries
 step_loses old new (ignores_reply beat parcel is) = none old new (site_puts old.site new.site is.site) (ap (λ (n : Notes). n.put) is.ignores.notes) (site_count old.site new.site is.site)
 step_loses old new (acts_on beat parcel v w is) = reply _ old new is.acts.between (link_puts old.site is.acts.between is.acts.offers.adds.file.rest.link) is.acts.offers.adds.file.rest.clock is.acts.puts (ap (λ (n : Notes). n.put) is.notes)
 step_loses old new (repeats_reply beat parcel v w is) = reply _ old new old.site refl refl is.repeats.puts (ap (λ (n : Notes). n.put) is.ignores.notes)
-step_loses old new (fails_to_act beat parcel v w error cause is) = none old new (link_puts old.site new.site (fails_said v parcel old.site.clock.now old.site new.site error is.refuses.site)) (ap (λ (n : Notes). n.put) is.notes) (clock_count old.site new.site (fails_clock v parcel old.site.clock.now old.site new.site error is.refuses.site))
+step_loses old new (fails_to_act beat parcel v w error cause is) = none old new (link_puts old.site new.site (fails_said v parcel old.site.clock.now old.site new.site error is.refuses.site)) (ap (λ (n : Notes). n.put) (fails_notes error parcel v old new is.notes)) (clock_count old.site new.site (fails_clock v parcel old.site.clock.now old.site new.site error is.refuses.site))
 step_loses old new (wants_memory_now is) = none old new (site_puts old.site new.site is.only.site) (ap (λ (n : Notes). n.put) is.only.notes) (site_count old.site new.site is.only.site)
 
 few-trans : (a b c m n : ℕ) → (a + m ≤ b) ⊎ (last_count ≤ b) → (b + n ≤ c) ⊎ (last_count ≤ c) → b ≤ c → (a + (m + n) ≤ c) ⊎ (last_count ≤ c)
@@ -145,5 +147,5 @@ steps_put_or_lose a b (and_then {mid} steps step) =
       later = omega (arith, p.later, q.later);
       few = subst (λ (n : ℕ). (a.site.clock.mishaps + n ≤ b.site.clock.mishaps) ⊎ (last_count ≤ b.site.clock.mishaps)) (sym (length-append p.lost q.lost))
           (few-trans a.site.clock.mishaps mid.site.clock.mishaps b.site.clock.mishaps (length p.lost) (length q.lost) p.few q.few q.later);
-      each = λ issue. omega (arith, commands_more issue p.put q.put, times_append issue p.lost q.lost, p.each issue, q.each issue);
+      each = λ issue. omega (arith, commands_more a.engine.history.seen.run issue p.put q.put, times_append issue p.lost q.lost, p.each issue, q.each issue, ap (λ (r : ℕ). commands_of r issue q.put) (steps_run a mid steps));
     }

@@ -1,6 +1,8 @@
 -- The commands and the replies that a session puts.
-use Rattle.std.proofs.Common.{◌≡◌, ◌⊎◌, inl, inr, ℕ, ◌+◌, ◌≤◌, Bool, true, false, List, [], ◌∷◌, ◌++◌, refl, ◌∙◌, subst, ap, arith}
+use Rattle.std.proofs.Common.{◌≡◌, ◌⊎◌, inl, inr, ℕ, ◌+◌, ◌≤◌, Bool, true, false, List, [], ◌∷◌, ◌++◌, refl, sym, ◌∙◌, subst, ap, arith, All}
 use Rattle.std.specs.Prelude.{Option, nat_eq, nat_lt, if◌then◌else◌}
+use Rattle.std.proofs.lemmas.Bool.{false≢true}
+use Rattle.std.proofs.lemmas.List.Elements.{All-append, All-nil}
 use Rattle.cacao_site.specs.LinkCalls.{GainsAll}
 use Rattle.cacao_site.specs.SiteCalls.{Puts}
 use Rattle.cacao_site.specs.View.{LinkView, SiteView}
@@ -8,17 +10,24 @@ use Rattle.cacao_site.specs.declared.parcel.Parcel.{Parcel}
 use Rattle.run_records.specs.Ranges.{last_moment}
 use Rattle.run_records.specs.declared.record.Record.{Record}
 use Rattle.flow_core.specs.declared.flow_errors.LimitKind.TheVariants as limit
+use Rattle.flow_rules.specs.declared.issues.Issue.{Issue}
+use Rattle.flow_engine.specs.EngineCalls.{command_of}
+use Rattle.flow_engine.specs.EngineView.{HistoryView}
 use Rattle.flow_steps.specs.Appends.{Tries}
 use Rattle.flow_steps.specs.Appends.Tries.{done, failed, limited}
-use Rattle.flow_steps.specs.Link.{EachPutsFew, EachRepliesFew, PutsNoted, RepliesFew, commands_in, commands_of, in_hand, replies_in}
+use Rattle.flow_steps.specs.Link.{EachPutsFew, EachRepliesFew, IsOwn, PutsNoted, RepliesFew, commands_in, commands_of, in_hand, one_command, replies_in}
 use Rattle.flow_steps.specs.Sides.{times}
 use Rattle.flow_steps.specs.Steps.{PutsCommand, Step, after_reach}
 use Rattle.flow_steps.specs.Steps.Step.{opens_clock, finds_run_used, asks_clock, finds_late, begins, moves, upgrades, tells, expires, says, fails_to_say}
 use Rattle.flow_steps.specs.Steps.Step.{puts_first, resends, takes, finds_none, fails_to_take, drops, replies, ignores_reply, acts_on, repeats_reply, fails_to_act, wants_memory_now}
 use Rattle.flow_steps.specs.Steps.Steps.{nothing, and_then}
 use Rattle.flow_steps.specs.Worlds.{World, Notes, rests, holds, waits, refused, past}
+use Rattle.flow_steps.proofs.Agreement.{steps_run}
+use Rattle.flow_steps.proofs.Issues.{eq_itself}
+use Rattle.flow_steps.proofs.Handling.{All-one}
 use Rattle.flow_steps.proofs.Growth.{gains_none, gains_one, gains_same, gains_then}
 use Rattle.flow_steps.proofs.Spoken.{fails_said}
+use Rattle.flow_steps.proofs.Failing.{fails_notes}
 
 -- ---- a list and its end
 
@@ -26,9 +35,13 @@ pub times_more : (issue : ℕ) (put : List ℕ) (last : ℕ) → times issue (pu
 times_more issue [] last = omega arith
 times_more issue (x ∷ put) last = let rest = times_more issue put last in omega (arith, rest)
 
-pub commands_more : (issue : ℕ) (xs ys : List (ℕ × Parcel)) → commands_of issue (xs ++ ys) ≡ commands_of issue xs + commands_of issue ys
-commands_more issue [] ys = omega arith
-commands_more issue (x ∷ xs) ys = let rest = commands_more issue xs ys in omega (arith, rest)
+pub commands_more : (run issue : ℕ) (xs ys : List (ℕ × Parcel)) → commands_of run issue (xs ++ ys) ≡ commands_of run issue xs + commands_of run issue ys
+commands_more run issue [] ys = omega arith
+commands_more run issue (x ∷ xs) ys = let rest = commands_more run issue xs ys in omega (arith, rest)
+
+-- the command of an issue is one of the run
+pub own_command : (h : HistoryView) (issue : ℕ) (it : Issue) (i : ℕ) → one_command h.seen.run i (command_of h issue it) ≡ (if nat_eq issue i then 1 else 0)
+own_command h issue it i = ap (λ (b : Bool). if b then (if nat_eq issue i then 1 else 0) else 0) (eq_itself h.seen.run)
 
 replies_more : (xs ys : List (ℕ × Parcel)) → replies_in (xs ++ ys) ≡ replies_in xs + replies_in ys
 replies_more [] ys = omega arith
@@ -58,6 +71,7 @@ noted_none : (old new : World) → new.site.link.puts ≡ old.site.link.puts →
 noted_none old new puts notes = record {
   put = [];
   puts = gains_same old.site.link.puts new.site.link.puts puts;
+  own = All-nil _;
   noted = λ issue. omega (arith, ap (times issue) notes);
 }
 
@@ -79,14 +93,19 @@ command_noted : (old new : World) (issue : ℕ) → PutsCommand issue old new �
 command_noted old new issue is =
     let more = added _ old.site new.site is.sends.put in
     let notes : new.notes.put ≡ old.notes.put ++ issue ∷ [] = ap (λ (n : Notes). n.put) is.notes in
+    let run = old.engine.history.seen.run in
     record {
       put = more.put;
       puts = more.puts;
+      own = elim more.is [
+        | inl one ↦ subst (λ (l : List (ℕ × Parcel)). All (IsOwn run) l) (sym one) (All-one (IsOwn run) _ (λ command. refl))
+        | inr none ↦ subst (λ (l : List (ℕ × Parcel)). All (IsOwn run) l) (sym none) (All-nil _)
+      ];
       noted = λ i.
           let now : times i new.notes.put ≡ times i old.notes.put + (if nat_eq issue i then 1 else 0) = ap (times i) notes ∙ times_more i old.notes.put issue in
           elim more.is [
-            | inl one ↦ omega (arith, now, ap (commands_of i) one)
-            | inr none ↦ omega (arith, now, ap (commands_of i) none)
+            | inl one ↦ omega (arith, now, ap (commands_of run i) one, own_command old.engine.history issue is.sends.it i)
+            | inr none ↦ omega (arith, now, ap (commands_of run i) none)
           ];
     }
 
@@ -97,14 +116,19 @@ reply_noted parcel old new mid back same puts notes =
     record {
       put = more.put;
       puts = subst (λ (o : Option (List (ℕ × Parcel))). GainsAll o more.put new.site.link.puts) same more.puts;
+      own = elim more.is [
+        | inl one ↦ subst (λ (l : List (ℕ × Parcel)). All (IsOwn old.engine.history.seen.run) l) (sym one)
+            (All-one (IsOwn old.engine.history.seen.run) (new.site.disk.beat, parcel) (λ command. absurd (false≢true (sym command ∙ back))))
+        | inr none ↦ subst (λ (l : List (ℕ × Parcel)). All (IsOwn old.engine.history.seen.run) l) (sym none) (All-nil _)
+      ];
       noted = λ i. elim more.is [
-        | inl one ↦ omega (arith, ap (times i) notes, ap (commands_of i) one, no_command i new.site.disk.beat)
-        | inr none ↦ omega (arith, ap (times i) notes, ap (commands_of i) none)
+        | inl one ↦ omega (arith, ap (times i) notes, ap (commands_of old.engine.history.seen.run i) one, no_command i)
+        | inr none ↦ omega (arith, ap (times i) notes, ap (commands_of old.engine.history.seen.run i) none)
       ];
     }
   where
-    no_command : (i beat : ℕ) → commands_of i ((beat, parcel) ∷ []) ≡ 0
-    no_command i beat = ap (λ (b : Bool). (if b then 0 else if nat_eq parcel.issue i then 1 else 0) + 0) back
+    no_command : (i : ℕ) → one_command old.engine.history.seen.run i parcel ≡ 0
+    no_command i = ap (λ (b : Bool). if b then 0 else if nat_eq parcel.run old.engine.history.seen.run then (if nat_eq parcel.issue i then 1 else 0) else 0) back
 
 step_noted : (old new : World) → Step old new → PutsNoted old new
 step_noted old new (opens_clock answer is) = noted_none old new is.goes.reaches.puts (ap (λ (n : Notes). n.put) is.goes.notes)
@@ -128,7 +152,7 @@ step_noted old new (replies beat parcel is) = tried_noted _ old new is.tries
 step_noted old new (ignores_reply beat parcel is) = noted_none old new (site_puts old.site new.site is.site) (ap (λ (n : Notes). n.put) is.ignores.notes)
 step_noted old new (acts_on beat parcel v w is) = reply_noted _ old new is.acts.between refl (link_puts old.site is.acts.between is.acts.offers.adds.file.rest.link) is.acts.puts (ap (λ (n : Notes). n.put) is.notes)
 step_noted old new (repeats_reply beat parcel v w is) = reply_noted _ old new old.site refl refl is.repeats.puts (ap (λ (n : Notes). n.put) is.ignores.notes)
-step_noted old new (fails_to_act beat parcel v w error cause is) = noted_none old new (link_puts old.site new.site (fails_said v parcel old.site.clock.now old.site new.site error is.refuses.site)) (ap (λ (n : Notes). n.put) is.notes)
+step_noted old new (fails_to_act beat parcel v w error cause is) = noted_none old new (link_puts old.site new.site (fails_said v parcel old.site.clock.now old.site new.site error is.refuses.site)) (ap (λ (n : Notes). n.put) (fails_notes error parcel v old new is.notes))
 step_noted old new (wants_memory_now is) = noted_none old new (site_puts old.site new.site is.only.site) (ap (λ (n : Notes). n.put) is.only.notes)
 
 pub steps_put_few : EachPutsFew
@@ -136,10 +160,12 @@ steps_put_few a b nothing = noted_none a a refl refl
 steps_put_few a b (and_then {mid} steps step) =
     let p = steps_put_few a mid steps in
     let q = step_noted mid b step in
+    let same_run = steps_run a mid steps in
     record {
       put = p.put ++ q.put;
       puts = gains_then a.site.link.puts mid.site.link.puts b.site.link.puts p.put q.put p.puts q.puts;
-      noted = λ issue. omega (arith, commands_more issue p.put q.put, p.noted issue, q.noted issue);
+      own = All-append (IsOwn a.engine.history.seen.run) p.put q.put p.own (subst (λ (r : ℕ). All (IsOwn r) q.put) same_run q.own);
+      noted = λ issue. omega (arith, commands_more a.engine.history.seen.run issue p.put q.put, p.noted issue, q.noted issue, ap (λ (r : ℕ). commands_of r issue q.put) same_run);
     }
 
 -- ---- replies

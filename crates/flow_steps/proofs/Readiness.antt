@@ -23,12 +23,13 @@ use Rattle.flow_steps.specs.Steps.Step.{opens_clock, finds_run_used, asks_clock,
 use Rattle.flow_steps.specs.Steps.Step.{puts_first, resends, takes, finds_none, fails_to_take, drops, replies, ignores_reply, acts_on, repeats_reply, fails_to_act, wants_memory_now}
 use Rattle.flow_steps.specs.Steps.Steps.{nothing, and_then}
 use Rattle.flow_steps.specs.Worlds.{Cause, Notes, World}
+use Rattle.flow_steps.proofs.Failing.{fails_notes}
 
 -- what each image of a file has stays where the file stays
 pub all_stays : (P : List ℕ → Type 0) (file : ℕ) (old new : SiteView) → GoesOn old.disk new.disk → StaysAt old.disk new.disk file → AllLeft file old.disk P → AllLeft file new.disk P
 all_stays P file old new on stays all told image left = all (subst IsTrue on.told told) image (subst IsTrue (stays.images new.disk.beat image on.later (omega arith)) left)
 
-engine_stays : (v : EngineView) (old new : SiteView) → GoesOn old.disk new.disk → StaysAt old.disk new.disk 0 → IsEngine v old → IsEngine v new
+pub engine_stays : (v : EngineView) (old new : SiteView) → GoesOn old.disk new.disk → StaysAt old.disk new.disk 0 → IsEngine v old → IsEngine v new
 engine_stays v old new on stays is = record {
   ready = λ whole. all_stays _ 0 old new on stays (is.ready whole);
   history = is.history;
@@ -123,7 +124,7 @@ failed_act : (old new : World) (beat : ℕ) (parcel : Parcel) (v w : ActuatorVie
 failed_act old new beat parcel v w error cause is was = by error is.refuses.site
   where
     unsure : new.notes.unsure ≡ old.notes.unsure
-    unsure = ap (λ (n : Notes). n.unsure) is.notes
+    unsure = ap (λ (n : Notes). n.unsure) (fails_notes error parcel v old new is.notes)
 
     by : (error : ActError) → MayHaveDone error v parcel old.site.clock.now old.site new.site → JournalStands new
     by act_error.Disk offers = stays old new offers.adds.file.each.goes_on (offers.adds.file.others 0 (λ e. absurd (omega (arith, e, is.holds_command.filter.ready.low)))) is.engine unsure was

@@ -34,7 +34,7 @@ some_more (Some a) (Some b) more gained is = refl
 some_more (Some a) None more gained is = absurd gained
 some_more None b more gained is = absurd (false≢true is)
 
-some_lost : (a b : Option (List Parcel)) (x : Parcel) → Loses a x b → IsSome a → IsSome b
+pub some_lost : (a b : Option (List Parcel)) (x : Parcel) → Loses a x b → IsSome a → IsSome b
 some_lost (Some a) (Some b) x lost is = refl
 some_lost (Some a) None x lost is = absurd lost
 some_lost None b x lost is = absurd (false≢true is)

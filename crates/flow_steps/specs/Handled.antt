@@ -1,5 +1,5 @@
 -- What becomes of the parcels that a session takes.
-use Rattle.std.specs.Prelude.{◌≡◌, ◌⊎◌, ℕ, ◌-◌, ◌≤◌, true, false, List, [], ◌∷◌, ◌++◌, length, All, Contains, Some, slice_get, ⊤}
+use Rattle.std.specs.Prelude.{◌≡◌, ◌⊎◌, ℕ, ◌+◌, ◌-◌, ◌≤◌, true, false, List, [], ◌∷◌, ◌++◌, length, All, Contains, Some, None, IfSome, slice_get, ⊤}
 use Rattle.cacao_site.specs.LinkCalls.{GainsAll}
 use Rattle.cacao_site.specs.declared.parcel.Parcel.{Parcel}
 use Rattle.oc2_msg.specs.declared.answers.Answer.{Answer}
@@ -10,6 +10,7 @@ use Rattle.run_records.specs.declared.act.Act.{Act}
 use Rattle.flow_engine.specs.EngineCalls.{IsReplyTo}
 use Rattle.slpf_actuator.specs.ActuatorView.{ActuatorView}
 use Rattle.flow_steps.specs.Steps.{IsAddressed, Steps}
+use Rattle.flow_steps.specs.Sums.{total}
 use Rattle.flow_steps.specs.Worlds.{World, Phase, holds, refused}
 
 -- a Reply is of a reply that was taken: one of this run and issue, whose bytes read as it says
@@ -51,14 +52,20 @@ pub record HasItsReply (w : World) (parcel : Parcel) : Type 0 where
   pub has : Contains w.engine.history.records (entry.Reply parcel.issue moment read.status read.rule read.text)
   pub reads : answer parcel.bytes ≡ Some read
 
--- when it was in hand it was no final reply of this run from the filter of an issue that waits
-pub record WasNoReply (a b : World) (parcel : Parcel) : Type 0 where
+-- when it was in hand, as the one taken right behind those before it, it was no final reply of this run from the filter of an
+-- issue that waits
+pub record WasNoReply (a b : World) (front : List (ℕ × Parcel)) (e : ℕ × Parcel) : Type 0 where
   pub w : World
   pub before : Steps a w
   pub after : Steps w b
-  pub beat : ℕ
-  pub in_hand : w.phase ≡ holds beat parcel
-  pub none : (read : Answer) → IsReplyTo w.engine.history parcel read → ⊥
+  pub in_hand : w.phase ≡ holds e.0 e.1
+  pub place : GainsAll a.site.link.taken (front ++ e ∷ []) w.site.link.taken
+  pub none : (read : Answer) → IsReplyTo w.engine.history e.1 read → ⊥
+
+-- 1 for a Reply
+abbrev pub one_reply : Record → ℕ
+one_reply (entry.Reply issue moment status rule text) = 1
+one_reply other = 0
 
 -- what was taken and is not handed on yet; after a refusal the last parcel may be
 abbrev pub IsAtHand : Phase → List (ℕ × Parcel) → Type 0
@@ -66,21 +73,26 @@ IsAtHand (holds beat parcel) parcels = parcels ≡ (beat, parcel) ∷ []
 IsAtHand (refused cause lacks) parcels = length parcels ≤ 1
 IsAtHand other parcels = parcels ≡ []
 
--- The parcels taken, and what became of them: each command has its act and each reply its Reply, where it is one; and each act
--- and each Reply is of a parcel that was taken.
+-- The parcels taken, and what became of them: each command has its act and each reply its Reply, where it is one; each act and
+-- each Reply is of a parcel that was taken, also one that may stand behind the others after a fault; and each parcel handed on
+-- made an act, or a Reply, or is counted as one that changed nothing.
 pub record Handles (a b : World) : Type 0 where
   pub handled : List (ℕ × Parcel)
   pub at_hand : List (ℕ × Parcel)
   pub takes : GainsAll a.site.link.taken (handled ++ at_hand) b.site.link.taken
   pub open_one : IsAtHand b.phase at_hand
   pub commands : All (λ e. IsCommand e.1 → HasItsAct b e.1) handled
-  pub replies : All (λ e. IsBack e.1 → HasItsReply b e.1 ⊎ WasNoReply a b e.1) handled
+  pub replies : (front back : List (ℕ × Parcel)) (e : ℕ × Parcel) → handled ≡ front ++ e ∷ back
+      → IsBack e.1 → HasItsReply b e.1 ⊎ WasNoReply a b front e
   pub acted : List (ℕ × Act)
   pub acts : b.notes.acted ≡ a.notes.acted ++ acted
   pub of_acts : All (IsTakenAct (handled ++ at_hand)) acted
   pub added : List Record
   pub adds : b.engine.history.records ≡ a.engine.history.records ++ added
   pub of_replies : All (IsTakenReply a.engine.history.seen.run (handled ++ at_hand)) added
+  pub of_unsure : a.notes.unsure ≡ None → IfSome b.notes.unsure (IsTakenReply a.engine.history.seen.run (handled ++ at_hand))
+  pub of_unsure_act : a.notes.unsure_act ≡ None → IfSome b.notes.unsure_act (IsTakenAct (handled ++ at_hand))
+  pub counted : length handled + a.notes.ignored ≡ b.notes.ignored + length acted + total one_reply added
 
 abbrev pub EachHandles : Type 0
 EachHandles = (a b : World) → IsAtHand a.phase [] → Steps a b → Handles a b

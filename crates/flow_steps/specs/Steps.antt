@@ -1,5 +1,5 @@
 -- What happens in a session, call by call. One record a case; the order that a session keeps is in the phases and in `Turns`.
-use Rattle.std.specs.Prelude.{◌≡◌, ◌≢◌, ℕ, ◌+◌, ◌-◌, ◌<◌, ◌≤◌, nat_lt, true, false, List, [], ◌∷◌, ◌++◌, length, Any, Some, None, IsTrue, slice_get, slice_set, if◌then◌else◌}
+use Rattle.std.specs.Prelude.{◌≡◌, ◌≢◌, ◌⊎◌, ℕ, ◌+◌, ◌-◌, ◌<◌, ◌≤◌, nat_lt, true, false, List, [], ◌∷◌, ◌++◌, length, Any, Some, None, IsTrue, slice_get, slice_set, if◌then◌else◌}
 use Rattle.cacao_site.specs.Counts.{Rose, next_count}
 use Rattle.cacao_site.specs.LinkCalls.{Gains}
 use Rattle.cacao_site.specs.SayCalls.{SaysOnly}
@@ -18,7 +18,7 @@ use Rattle.flow_engine.specs.OpenIssues.{puts_of}
 use Rattle.flow_engine.specs.declared.answers.OperatorAnswer.{OperatorAnswer}
 use Rattle.flow_laws.specs.Images.{HasBegun}
 use Rattle.flow_rules.specs.declared.issues.Issue.{Issue}
-use Rattle.slpf_actuator.specs.ActuatorCalls.{Acts, Overflows, Refuses, Repeats}
+use Rattle.slpf_actuator.specs.ActuatorCalls.{Acts, Offers, Overflows, Refuses, Repeats}
 use Rattle.slpf_actuator.specs.ActuatorView.{ActuatorView, act_for}
 use Rattle.slpf_actuator.specs.declared.error.ActError.{ActError}
 use Rattle.slpf_actuator.specs.declared.error.ActError.TheVariants as act_error
@@ -288,6 +288,22 @@ IsActCause (act_error.Full needed) v parcel old new cause =
 IsActCause act_error.Memory v parcel old new cause = cause ≡ wants_memory
 IsActCause other v parcel old new cause = ⊥
 
+-- nothing was done, and no act is unsure
+pub record DoesNothing (old new : World) : Type 0 where
+  pub site : new.site ≡ old.site
+  pub notes : new.notes ≡ old.notes
+
+-- the act may stand in the filter's file
+pub record MayHaveActed (parcel : Parcel) (v : ActuatorView) (old new : World) : Type 0 where
+  pub offers : Offers v parcel old.site.clock.now old.site new.site
+  pub notes : new.notes ≡ record old.notes { unsure_act = Some (parcel.agent, act_for v.acts parcel old.site.clock.now) }
+
+-- which of the two, where a filter refuses: an act is unsure where the disk failed, or where memory was wanted for a new act
+abbrev pub Unsures : ActError → Parcel → ActuatorView → World → World → Type 0
+Unsures act_error.Disk parcel v old new = MayHaveActed parcel v old new
+Unsures act_error.Memory parcel v old new = DoesNothing old new ⊎ MayHaveActed parcel v old new
+Unsures other parcel v old new = DoesNothing old new
+
 -- the filter refuses, and its act may stand in its file
 pub record FailsToAct (beat : ℕ) (parcel : Parcel) (v w : ActuatorView) (error : ActError) (cause : Cause)
     (old new : World) : Type 0 where
@@ -296,7 +312,7 @@ pub record FailsToAct (beat : ℕ) (parcel : Parcel) (v w : ActuatorView) (error
   pub why : IsActCause error v parcel old new cause
   pub engine : new.engine ≡ old.engine
   pub filters : new.filters ≡ slice_set old.filters (parcel.agent - 1) w
-  pub notes : new.notes ≡ record old.notes { unsure_act = Some (parcel.agent, act_for v.acts parcel old.site.clock.now) }
+  pub notes : Unsures error parcel v old new
   pub phase : new.phase ≡ refused cause false
 
 -- ---- all

@@ -1,26 +1,33 @@
 -- All that a session adds up to, from the opening of its files on.
-use Rattle.std.specs.Prelude.{◌≡◌, ℕ, ◌+◌, ◌*◌, ◌≤◌, List, [], length, None}
+use Rattle.std.specs.Prelude.{◌≡◌, ℕ, ◌+◌, ◌*◌, ◌≤◌, List, [], length, None, IsSome}
 use Rattle.cacao_site.specs.Counts.{DidNotRise}
+use Rattle.flow_rules.specs.Givens.{Given}
 use Rattle.flow_engine.specs.declared.answers.OperatorAnswer.{OperatorAnswer}
+use Rattle.flow_steps.specs.Complete.{IsComplete}
+use Rattle.flow_steps.specs.Grown.{FiltersGrow}
 use Rattle.flow_steps.specs.Handled.{Handles}
 use Rattle.flow_steps.specs.Link.{PutsAreCounted, PutsNoted, PutsOrLost, RepliesFew}
 use Rattle.flow_steps.specs.Ready.{FiltersStand, JournalStands}
 use Rattle.flow_steps.specs.Sides.{AreFilters, IsWhole}
 use Rattle.flow_steps.specs.Steps.{Steps}
-use Rattle.flow_steps.specs.Sums.{Adds, AsksOnly, SameGiven, Speaks, owed_lines}
+use Rattle.flow_steps.specs.Sums.{Adds, AsksOnly, SameGiven, Speaks, owed_lines, total}
 use Rattle.flow_steps.specs.Turns.{most_ignored}
+use Rattle.flow_steps.specs.Unbroken.{IsUnbroken}
 use Rattle.flow_steps.specs.Waits.{Waits}
 use Rattle.flow_steps.specs.Worlds.{Notes, World, opened}
+use Rattle.flow_steps.specs.Written.{noted_bytes, record_bytes}
 
 -- a session that may append so many records, with these answers of operators, and has done nothing
 abbrev pub blank_notes : ℕ → List OperatorAnswer → Notes
 blank_notes most answers =
     record { answers = answers; left = most; unsure = None; acted = []; unsure_act = None; put = []; ignored = 0; asked = None }
 
--- a world where a session begins: the journal of this run and the files of the sixteen filters are open, and nothing was done
-pub record IsOpened (w : World) (run most : ℕ) (answers : List OperatorAnswer) : Type 0 where
+-- a world where a session begins: the journal of this run, with what was given, and the files of the sixteen filters are open,
+-- and nothing was done
+pub record IsOpened (w : World) (given : Given) (run most : ℕ) (answers : List OperatorAnswer) : Type 0 where
   pub phase : w.phase ≡ opened
   pub whole : IsWhole w.engine w.site
+  pub given_is : w.engine.history.seen.given ≡ given
   pub of_run : w.engine.history.seen.run ≡ run
   pub no_puts : w.engine.puts ≡ []
   pub filters : AreFilters w.filters w.site
@@ -42,10 +49,15 @@ pub record AddsUp (a b : World) (most : ℕ) : Type 0 where
   pub ignored : b.notes.ignored ≤ most_ignored
   pub journal : JournalStands b
   pub filters : FiltersStand b
+  pub grow : FiltersGrow a b
+  pub unbroken : IsUnbroken a b
   pub waits : DidNotRise a.site.clock.mishaps b.site.clock.mishaps → Waits b
+  pub complete : IsSome a.site.link.pending → DidNotRise a.site.clock.mishaps b.site.clock.mishaps → IsComplete a b
   pub calls : b.site.disk.calls + owed_lines b.phase
       ≤ a.site.disk.calls + 2 * 17 + 5 * length adds.added + 4 * length b.notes.acted + 5
+  pub written : b.site.disk.written ≤ a.site.disk.written + 9 * 17 + total record_bytes adds.added + noted_bytes b.notes
 
 abbrev pub EachAddsUp : Type 0
 EachAddsUp =
-    (a b : World) (run most : ℕ) (answers : List OperatorAnswer) → IsOpened a run most answers → Steps a b → AddsUp a b most
+    (a b : World) (given : Given) (run most : ℕ) (answers : List OperatorAnswer) → IsOpened a given run most answers → Steps a b
+    → AddsUp a b most

@@ -2,13 +2,22 @@
 #![tactic(auto)]
 
 ghost use Rattle.flow_steps.specs.Agreement.{StepsKeepAgreement};
-ghost use Rattle.flow_steps.specs.Causes.{EachActed, EachCause};
+ghost use Rattle.flow_steps.specs.Causes.{EachActed, EachCause, EachEnded};
+ghost use Rattle.flow_steps.specs.Complete.{EachComplete, EachReplyActed};
+ghost use Rattle.flow_steps.specs.Grown.{EachFiltersGrow};
 ghost use Rattle.flow_steps.specs.Handled.{EachHandles};
-ghost use Rattle.flow_steps.specs.Link.{EachCountsFew, EachPutsFew, EachPutsOrLost, EachRepliesFew};
+ghost use Rattle.flow_steps.specs.Link.{EachCountsFew, EachPutsFew, EachPutsInTime, EachPutsOrLost, EachRepliesFew};
 ghost use Rattle.flow_steps.specs.Ready.{EachFilterReady, EachLooked, EachReady};
 ghost use Rattle.flow_steps.specs.Sums.{EachAdds, EachAsksOnly, EachCame, EachCosts, EachSameGiven, EachSpeaks, IgnoresFew};
+ghost use Rattle.flow_steps.specs.Unbroken.{EachUnbroken};
+ghost use Rattle.flow_steps.specs.Unsure.{EachUnsure, EachUnsureAct};
 ghost use Rattle.flow_steps.specs.Waits.{EachWaits, NoExpiry};
 ghost use Rattle.flow_steps.specs.Whole.{EachAddsUp};
+ghost use Rattle.flow_steps.specs.Written.{EachWritesFew};
+
+mod going;
+
+pub use going::{going_laws, spending_laws};
 
 /// What holds of all that happens in a session, whatever it answers. The function does nothing; its contract is the law.
 pub fn steps_laws()
@@ -28,9 +37,18 @@ pub fn steps_laws()
     ensures counts { EachCountsFew }
     ensures handles { EachHandles }
     ensures puts_or_lost { EachPutsOrLost }
+    ensures puts_in_time { EachPutsInTime }
     ensures waits { EachWaits }
     ensures no_expiry { NoExpiry }
     ensures causes { EachCause }
     ensures acted { EachActed }
+    ensures written { EachWritesFew }
+    ensures ended { EachEnded }
+    ensures unsure { EachUnsure }
+    ensures unsure_act { EachUnsureAct }
+    ensures grow { EachFiltersGrow }
+    ensures unbroken { EachUnbroken }
+    ensures complete { EachComplete }
+    ensures replies_acted { EachReplyActed }
     ensures adds_up { EachAddsUp }
 {}

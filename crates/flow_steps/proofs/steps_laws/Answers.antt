@@ -3,17 +3,25 @@ use Rattle.flow_steps.proofs.Agreement.{steps_keep_agreement}
 use Rattle.flow_steps.proofs.Asked.{steps_ask, steps_ignore_few}
 use Rattle.flow_steps.proofs.Came.{steps_acted, steps_came}
 use Rattle.flow_steps.proofs.Caused.{steps_cause}
+use Rattle.flow_steps.proofs.Complete.{steps_complete}
 use Rattle.flow_steps.proofs.Costs.{steps_cost}
 use Rattle.flow_steps.proofs.Counted.{steps_count_few}
+use Rattle.flow_steps.proofs.Ended.{steps_end}
 use Rattle.flow_steps.proofs.Filters.{steps_ready_filters}
+use Rattle.flow_steps.proofs.Grown.{steps_grow_filters}
 use Rattle.flow_steps.proofs.Handling.{steps_handle}
 use Rattle.flow_steps.proofs.Looked.{steps_look}
 use Rattle.flow_steps.proofs.Lost.{steps_put_or_lose}
 use Rattle.flow_steps.proofs.Put.{steps_put_few, steps_reply_few}
 use Rattle.flow_steps.proofs.Readiness.{steps_ready}
+use Rattle.flow_steps.proofs.Replied.{each_reply_acted}
+use Rattle.flow_steps.proofs.Resent.{steps_put_in_time}
 use Rattle.flow_steps.proofs.Spoken.{steps_speak}
+use Rattle.flow_steps.proofs.Unbroken.{steps_unbroken}
+use Rattle.flow_steps.proofs.Unsure.{steps_unsure, steps_unsure_act}
 use Rattle.flow_steps.proofs.Waiting.{no_expiry, steps_wait}
 use Rattle.flow_steps.proofs.Whole.{steps_add_up}
+use Rattle.flow_steps.proofs.Written.{steps_write_few}
 use Rattle.flow_steps.proofs.steps_laws.Goals as goal
 
 pub returns-clause-agreement : goal.returns-clause-agreement
@@ -64,6 +72,9 @@ returns-clause-handles c = steps_handle
 pub returns-clause-puts_or_lost : goal.returns-clause-puts_or_lost
 returns-clause-puts_or_lost c = steps_put_or_lose
 
+pub returns-clause-puts_in_time : goal.returns-clause-puts_in_time
+returns-clause-puts_in_time c = steps_put_in_time
+
 pub returns-clause-waits : goal.returns-clause-waits
 returns-clause-waits c = steps_wait
 
@@ -75,6 +86,30 @@ returns-clause-causes c = steps_cause
 
 pub returns-clause-acted : goal.returns-clause-acted
 returns-clause-acted c = steps_acted
+
+pub returns-clause-written : goal.returns-clause-written
+returns-clause-written c = steps_write_few
+
+pub returns-clause-ended : goal.returns-clause-ended
+returns-clause-ended c = steps_end
+
+pub returns-clause-unsure : goal.returns-clause-unsure
+returns-clause-unsure c = steps_unsure
+
+pub returns-clause-unsure_act : goal.returns-clause-unsure_act
+returns-clause-unsure_act c = steps_unsure_act
+
+pub returns-clause-grow : goal.returns-clause-grow
+returns-clause-grow c = steps_grow_filters
+
+pub returns-clause-unbroken : goal.returns-clause-unbroken
+returns-clause-unbroken c = steps_unbroken
+
+pub returns-clause-complete : goal.returns-clause-complete
+returns-clause-complete c = steps_complete
+
+pub returns-clause-replies_acted : goal.returns-clause-replies_acted
+returns-clause-replies_acted c = each_reply_acted
 
 pub returns-clause-adds_up : goal.returns-clause-adds_up
 returns-clause-adds_up c = steps_add_up
