@@ -1,0 +1,15 @@
+pub mod EngineSide
+pub mod EngineSteps
+pub mod FilterSteps
+pub mod HandSteps
+pub mod MoveSteps
+pub mod OpenFiles
+pub mod OpenSteps
+pub mod Quiet
+pub mod SessionSteps
+pub mod Standing
+pub mod Told
+pub mod TurnSteps
+pub mod WaitSteps
+pub mod WholeSteps
+pub mod CloseLemmas

@@ -1,0 +1,13 @@
+use Rattle.std.proofs.Common.{sym, subst}
+use Rattle.flow_steps.specs.Worlds.{holds, rests}
+use Rattle.flow_world.specs.Leads.{Goes}
+use Rattle.flow_world.specs.declared.turns.Session.{Session}
+use Rattle.flow_world.proofs.SessionSteps.{dropped}
+use Rattle.flow_world.proofs.turns.Session.hand_on.Goals as goal
+
+pub returns-then-not-is_addressed-clause-did : goal.returns-then-not-is_addressed-clause-did
+returns-then-not-is_addressed-clause-did g c = λ answers beat.
+    let so = g.S.Disk.view c.args.site.now in
+    let s = c.args.self.now in
+    subst (λ (t : Session). Goes answers so s (holds beat c.args.parcel.now) so t rests) (sym c.drop_parcel.ensures.is)
+    (dropped answers so s beat c.args.parcel.now c.requires.calm (c.is_addressed.ensures.no c.if-not-is_addressed.true))

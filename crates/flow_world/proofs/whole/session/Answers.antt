@@ -1,0 +1,37 @@
+use Rattle.flow_steps.specs.Whole.{blank_notes}
+use Rattle.flow_world.proofs.OpenSteps.{filters_after, whole_after}
+use Rattle.flow_world.proofs.Quiet.{refused_agrees}
+use Rattle.flow_world.proofs.WholeSteps.{agrees, each_closed, each_refused, new_to}
+use Rattle.flow_world.proofs.whole.session.Goals as goal
+
+pub run_opened-requires-clause-whole : goal.run_opened-requires-clause-whole
+run_opened-requires-clause-whole g c =
+    let files = c.in-Ok.ensures.opens in
+    whole_after files.middle (g.S.Disk.view c.open_files.new.site) c.in-Ok.engine c.in-Ok.filters 16 files.others files.journal.whole
+
+pub run_opened-requires-clause-filters : goal.run_opened-requires-clause-filters
+run_opened-requires-clause-filters g c =
+    let files = c.in-Ok.ensures.opens in
+    filters_after files.middle (g.S.Disk.view c.open_files.new.site) c.in-Ok.filters files.others
+
+pub returns-in-Ok-clause-closed : goal.returns-in-Ok-clause-closed
+returns-in-Ok-clause-closed g c =
+    let answers = c.args.answers.now in
+    each_closed c.args.setup c.args.run c.args.most answers (g.S.Disk.view c.args.site.now) (g.S.Disk.view c.open_files.new.site) (g.S.Disk.view c.run_opened.new.site) c.in-Ok.engine c.in-Ok.filters c.in-Ok.ensures.opens
+    c.run_opened.result (c.run_opened.ensures.ended (blank_notes c.args.most answers) (new_to answers c.args.most))
+
+pub returns-in-Ok-clause-refused : goal.returns-in-Ok-clause-refused
+returns-in-Ok-clause-refused g c =
+    let answers = c.args.answers.now in
+    each_refused c.args.setup c.args.run c.args.most answers (g.S.Disk.view c.args.site.now) (g.S.Disk.view c.open_files.new.site) (g.S.Disk.view c.run_opened.new.site) c.in-Ok.engine c.in-Ok.filters c.in-Ok.ensures.opens
+    c.run_opened.result (c.run_opened.ensures.ended (blank_notes c.args.most answers) (new_to answers c.args.most))
+
+pub returns-in-Ok-clause-agreement : goal.returns-in-Ok-clause-agreement
+returns-in-Ok-clause-agreement g c =
+    let answers = c.args.answers.now in
+    agrees c.args.setup c.args.run c.args.most answers (g.S.Disk.view c.args.site.now) (g.S.Disk.view c.open_files.new.site) (g.S.Disk.view c.run_opened.new.site) c.in-Ok.engine c.in-Ok.filters c.in-Ok.ensures.opens
+    c.run_opened.result (g.met.S.Disk.sound c.args.site.now) (c.run_opened.ensures.ended (blank_notes c.args.most answers) (new_to answers c.args.most))
+
+pub returns-in-Err-clause-agreement : goal.returns-in-Err-clause-agreement
+returns-in-Err-clause-agreement g c =
+    refused_agrees c.in-Err.error c.args.setup c.args.run (g.S.Disk.view c.args.site.now) (g.S.Disk.view c.open_files.new.site) (g.met.S.Disk.sound c.args.site.now) c.in-Err.ensures.refused

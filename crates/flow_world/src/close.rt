@@ -1,0 +1,16 @@
+//! How a session closes.
+
+/// How a session closes that no call refused.
+#[derive(Clone, Copy, Debug, Drop, PartialEq, Eq)]
+pub enum Close {
+    /// The run has ended, well or not.
+    Ended { well: bool },
+    /// As many records were appended as may be, and the run goes on.
+    Paused,
+    /// The clock was asked for this moment, in milliseconds, and answered an earlier one.
+    Waiting { due: u64 },
+    /// 1,000,000 parcels changed neither the engine's journal nor a filter's.
+    Flooded,
+    /// Nothing but an operator's answer for this issue can let the run go on.
+    Asked { issue: u32 },
+}

@@ -1,0 +1,9 @@
+//! Laws of the ends of a session.
+ghost use Rattle.flow_world.specs.Laws.{ClosesAreNoRefusals, ClosesAreOne};
+
+/// How a session stands in the end tells how it closes: no two closes hold of one world, and none where it refused. The function does
+/// nothing; its contract is the law.
+pub fn closes_law()
+    ensures one { ClosesAreOne }
+    ensures no_refusal { ClosesAreNoRefusals }
+{}

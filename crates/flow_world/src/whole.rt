@@ -1,0 +1,32 @@
+//! A whole session.
+ghost use Rattle.std.specs.Prelude.{◌≤◌, IfOk, IfErr};
+ghost use Rattle.flow_world.specs.Sessions.{HasClosed, HasRefused, IsStart, KeepsAgreement};
+
+use crate::close::Close;
+use crate::error::WorldError;
+use crate::opening::{open_files, run_opened};
+use cacao_site::Site;
+use flow_core::Setup;
+use flow_engine::Answers;
+use std::alloc::Global;
+
+/// One session of a run: its files are opened, and it goes on until it closes or a call refuses. At most `most` records are
+/// appended. Moments are in milliseconds.
+pub fn session<S: Site>(
+    alloc: Global,
+    site: &mut S,
+    setup: Setup,
+    answers: &Answers,
+    run: u64,
+    most: u64,
+) -> Result<Close, WorldError>
+    requires some { 1 ≤ most }
+    ensures closed { IfOk result (λ close. HasClosed close setup run most answers.now (S.view site.old) (S.view site.new)) }
+    ensures refused { IfErr result (λ error. HasRefused error setup run most answers.now (S.view site.old) (S.view site.new)) }
+    ensures agreement { IsStart (S.view site.old) run → KeepsAgreement (S.view site.old) (S.view site.new) }
+{
+    match open_files(alloc, site, setup, run) {
+        Ok((engine, filters)) => run_opened(site, engine, filters, answers, run, most),
+        Err(error) => Err(error),
+    }
+}
