@@ -1,0 +1,7 @@
+pub mod Acted
+pub mod Answering
+pub mod Carried
+pub mod Closing
+pub mod Known
+pub mod Shown
+pub mod Telling

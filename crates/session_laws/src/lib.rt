@@ -1,0 +1,8 @@
+//! Laws of a session that are told of its last world: what was answered, and how it stands where it ends.
+#![tactic(auto)]
+
+mod answered;
+mod ends;
+
+pub use answered::answered_laws;
+pub use ends::ends_laws;
