@@ -4,14 +4,15 @@ use Rattle.std.specs.Prelude.{IsSomeAnd, if◌then◌else◌}
 use Rattle.serde_json.specs.Data.{Data}
 use Rattle.cacao_json.specs.Reading.{tree}
 use Rattle.cacao_site.specs.View.{SiteView}
-use Rattle.cacao_cli.specs.Words.{Text}
+use Rattle.cacao_words.specs.Words.{Text}
 use Rattle.cacao_cli.specs.Ends.{End, most, status_of, no_such_file, past, not_readable}
 use Rattle.cacao_cli.specs.Files.{File, Files, Content, NamedText, whole, too_long, named, text_in, item_then, content_in, reading}
 use Rattle.cacao_cli.specs.Work.{Work, ends, or_end, tree_of, trees_of}
-use Rattle.cacao_cli.specs.Exact.{IsOneOf, ComesExactly, HasStatus}
+use Rattle.cacao_cli.specs.Exact.{IsOneOf, ComesExactly}
 use Rattle.cacao_cli.specs.Causes.{IsWithin, AllWithin, First, IsMissing, IsTooLong, Trees, SomeTreeless}
 use Rattle.cacao_cli.specs.declared.limit.Limit.{Limit}
 use Rattle.cacao_cli.specs.declared.reason.Reason.{Reason}
+use Rattle.cacao_cli.proofs.ExactLemmas.{Comes}
 use Rattle.cacao_cli.proofs.ReadLemmas.{Read}
 use Rattle.cacao_cli.proofs.TreeLemmas.{TreeCase, has_tree, treeless, tree_case}
 
@@ -24,7 +25,7 @@ Texts files [] (text ∷ texts) = ⊥
 Texts files (file ∷ more) [] = ⊥
 Texts files (file ∷ more) (text ∷ texts) = (IsWithin files file × (files file.name ≡ Some text.bytes)) × Texts files more texts
 
-data ReadingCase (files : Files) (list : List File) : Type 0 where
+pub data ReadingCase (files : Files) (list : List File) : Type 0 where
   all_within : (texts : List NamedText) → Texts files list texts → reading files list ≡ Ok texts → ReadingCase files list
   one_missing : (name : Text) → IsMissing files list → reading files list ≡ Err (no_such_file name) → ReadingCase files list
   one_long : (limit : Limit) → IsTooLong files list → reading files list ≡ Err (past limit) → ReadingCase files list
@@ -35,7 +36,7 @@ le-true n m e = grind arith
 le-false : (n m : ℕ) → false ≡ nat_le n m → m < n
 le-false n m e = grind arith
 
-reading_case : (files : Files) (list : List File) → ReadingCase files list
+pub reading_case : (files : Files) (list : List File) → ReadingCase files list
 reading_case files [] = all_within [] tt refl
 reading_case files (file ∷ more) = go (files file.name) refl (reading_case files more)
   where
@@ -135,7 +136,7 @@ tree_work_case files list does = go (reading_case files list)
 
 -- ---- the causes exclude one another
 
-some-both : (o : Option Text) (P Q : Text → Type 0) → ((bytes : Text) → P bytes → Q bytes → ⊥) → IsSomeAnd o P → IsSomeAnd o Q → ⊥
+pub some-both : (o : Option Text) (P Q : Text → Type 0) → ((bytes : Text) → P bytes → Q bytes → ⊥) → IsSomeAnd o P → IsSomeAnd o Q → ⊥
 some-both None P Q h p q = p
 some-both (Some bytes) P Q h p q = h bytes p q
 
@@ -143,10 +144,10 @@ some-none : (o : Option Text) (P : Text → Type 0) → o ≡ None → IsSomeAnd
 some-none None P e p = p
 some-none (Some bytes) P e p = cc
 
-missing-within : (files : Files) (file : File) → files file.name ≡ None → IsWithin files file → ⊥
+pub missing-within : (files : Files) (file : File) → files file.name ≡ None → IsWithin files file → ⊥
 missing-within files file none within = some-none (files file.name) (λ bytes. length bytes ≤ most file.limit) none within
 
-long-within : (files : Files) (file : File) → IsSomeAnd (files file.name) (λ bytes. most file.limit < length bytes) → IsWithin files file → ⊥
+pub long-within : (files : Files) (file : File) → IsSomeAnd (files file.name) (λ bytes. most file.limit < length bytes) → IsWithin files file → ⊥
 long-within files file long within = some-both (files file.name) (λ bytes. most file.limit < length bytes) (λ bytes. length bytes ≤ most file.limit) (λ bytes p q. omega (arith, p, q)) long within
 
 first-within : (files : Files) (P : File → Type 0) (list : List File) → ((file : File) → P file → IsWithin files file → ⊥) → First files P list → AllWithin files list → ⊥
@@ -162,7 +163,7 @@ first-both files P Q (file ∷ more) both p q (inl f) (inr g) = p file f g.0
 first-both files P Q (file ∷ more) both p q (inr f) (inl g) = q file g f.0
 first-both files P Q (file ∷ more) both p q (inr f) (inr g) = first-both files P Q more both p q f.1 g.1
 
-missing-long : (files : Files) (list : List File) → IsMissing files list → IsTooLong files list → ⊥
+pub missing-long : (files : Files) (list : List File) → IsMissing files list → IsTooLong files list → ⊥
 missing-long files list = first-both files (λ file. files file.name ≡ None) (λ file. IsSomeAnd (files file.name) (λ bytes. most file.limit < length bytes)) list
     (λ file none long. some-none (files file.name) (λ bytes. most file.limit < length bytes) none long) (missing-within files) (long-within files)
 
@@ -195,13 +196,13 @@ trees-same files (file ∷ more) (a ∷ roots) (b ∷ others) s t = ap (λ (x : 
 
 -- the status of the work with the trees is 0 or 1
 abbrev pub EndsByTrees : (List Data → Work) → Type 0
-EndsByTrees does = (roots : List Data) (old new : SiteView) (n : ℕ) → HasStatus (does roots) old new n → n ≤ 1
+EndsByTrees does = (roots : List Data) (old new : SiteView) (n : ℕ) → Comes (does roots) old new n → n ≤ 1
 
 module _ (files : Files) (list : List File) (does : List Data → Work) (so : EndsByTrees does) (old new : SiteView) (n : ℕ) where
-  at : (w : Work) → tree_work files list does ≡ w → HasStatus (tree_work files list does) old new n → HasStatus w old new n
-  at w is h = subst (λ (w : Work). HasStatus w old new n) is h
+  at : (w : Work) → tree_work files list does ≡ w → Comes (tree_work files list does) old new n → Comes w old new n
+  at w is h = subst (λ (w : Work). Comes w old new n) is h
 
-  pub missing-only : HasStatus (tree_work files list does) old new n → n ≡ 4 → IsMissing files list
+  pub missing-only : Comes (tree_work files list does) old new n → n ≡ 4 → IsMissing files list
   missing-only h e = go (tree_work_case files list does)
     where
       go : TreeWork files list does → IsMissing files list
@@ -210,7 +211,7 @@ module _ (files : Files) (list : List File) (does : List Data → Work) (so : En
       go (is_treeless name reason a s is) = let k : n ≡ 5 = at (ends [] (not_readable name reason)) is h in absurd (omega (arith, e, k))
       go (is_read roots t is) = let k = so roots old new n (at (does roots) is h) in absurd (omega (arith, e, k))
 
-  pub missing-always : HasStatus (tree_work files list does) old new n → IsMissing files list → n ≡ 4
+  pub missing-always : Comes (tree_work files list does) old new n → IsMissing files list → n ≡ 4
   missing-always h m = go (tree_work_case files list does)
     where
       go : TreeWork files list does → n ≡ 4
@@ -219,7 +220,7 @@ module _ (files : Files) (list : List File) (does : List Data → Work) (so : En
       go (is_treeless name reason a s is) = absurd (first-within files (λ file. files file.name ≡ None) list (missing-within files) m a)
       go (is_read roots t is) = absurd (first-within files (λ file. files file.name ≡ None) list (missing-within files) m (trees-within files list roots t))
 
-  pub long-only : HasStatus (tree_work files list does) old new n → n ≡ 11 → IsTooLong files list
+  pub long-only : Comes (tree_work files list does) old new n → n ≡ 11 → IsTooLong files list
   long-only h e = go (tree_work_case files list does)
     where
       go : TreeWork files list does → IsTooLong files list
@@ -228,7 +229,7 @@ module _ (files : Files) (list : List File) (does : List Data → Work) (so : En
       go (is_treeless name reason a s is) = let k : n ≡ 5 = at (ends [] (not_readable name reason)) is h in absurd (omega (arith, e, k))
       go (is_read roots t is) = let k = so roots old new n (at (does roots) is h) in absurd (omega (arith, e, k))
 
-  pub long-always : HasStatus (tree_work files list does) old new n → IsTooLong files list → n ≡ 11
+  pub long-always : Comes (tree_work files list does) old new n → IsTooLong files list → n ≡ 11
   long-always h l = go (tree_work_case files list does)
     where
       go : TreeWork files list does → n ≡ 11
@@ -237,7 +238,7 @@ module _ (files : Files) (list : List File) (does : List Data → Work) (so : En
       go (is_treeless name reason a s is) = absurd (first-within files (λ file. IsSomeAnd (files file.name) (λ bytes. most file.limit < length bytes)) list (long-within files) l a)
       go (is_read roots t is) = absurd (first-within files (λ file. IsSomeAnd (files file.name) (λ bytes. most file.limit < length bytes)) list (long-within files) l (trees-within files list roots t))
 
-  pub treeless-only : HasStatus (tree_work files list does) old new n → n ≡ 5 → AllWithin files list × SomeTreeless files list
+  pub treeless-only : Comes (tree_work files list does) old new n → n ≡ 5 → AllWithin files list × SomeTreeless files list
   treeless-only h e = go (tree_work_case files list does)
     where
       go : TreeWork files list does → AllWithin files list × SomeTreeless files list
@@ -246,7 +247,7 @@ module _ (files : Files) (list : List File) (does : List Data → Work) (so : En
       go (is_treeless name reason a s is) = (a, s)
       go (is_read roots t is) = let k = so roots old new n (at (does roots) is h) in absurd (omega (arith, e, k))
 
-  pub treeless-always : HasStatus (tree_work files list does) old new n → AllWithin files list × SomeTreeless files list → n ≡ 5
+  pub treeless-always : Comes (tree_work files list does) old new n → AllWithin files list × SomeTreeless files list → n ≡ 5
   treeless-always h c = go (tree_work_case files list does)
     where
       go : TreeWork files list does → n ≡ 5
@@ -256,23 +257,36 @@ module _ (files : Files) (list : List File) (does : List Data → Work) (so : En
       go (is_read roots t is) = absurd (trees-treeless files list roots t c.1)
 
   -- 0 and 1 come where all trees are there, by the work with them
-  pub trees-only : HasStatus (tree_work files list does) old new n → n ≤ 1 → (roots : List Data) × Trees files list roots × HasStatus (does roots) old new n
+  pub trees-only : Comes (tree_work files list does) old new n → n ≤ 1 → (roots : List Data) × Trees files list roots × Comes (does roots) old new n
   trees-only h le = go (tree_work_case files list does)
     where
-      go : TreeWork files list does → (roots : List Data) × Trees files list roots × HasStatus (does roots) old new n
+      go : TreeWork files list does → (roots : List Data) × Trees files list roots × Comes (does roots) old new n
       go (is_missing name m is) = let k : n ≡ 4 = at (ends [] (no_such_file name)) is h in absurd (omega (arith, le, k))
       go (is_too_long limit l is) = let k : n ≡ 11 = at (ends [] (past limit)) is h in absurd (omega (arith, le, k))
       go (is_treeless name reason a s is) = let k : n ≡ 5 = at (ends [] (not_readable name reason)) is h in absurd (omega (arith, le, k))
       go (is_read roots t is) = (roots, t, at (does roots) is h)
 
-  pub trees-always : HasStatus (tree_work files list does) old new n → (roots : List Data) → Trees files list roots → HasStatus (does roots) old new n
+  pub trees-always : Comes (tree_work files list does) old new n → (roots : List Data) → Trees files list roots → Comes (does roots) old new n
   trees-always h roots t = go (tree_work_case files list does)
     where
-      go : TreeWork files list does → HasStatus (does roots) old new n
+      go : TreeWork files list does → Comes (does roots) old new n
       go (is_missing name m is) = absurd (first-within files (λ file. files file.name ≡ None) list (missing-within files) m (trees-within files list roots t))
       go (is_too_long limit l is) = absurd (first-within files (λ file. IsSomeAnd (files file.name) (λ bytes. most file.limit < length bytes)) list (long-within files) l (trees-within files list roots t))
       go (is_treeless name reason a s is) = absurd (trees-treeless files list roots t s)
-      go (is_read others u is) = subst (λ (rs : List Data). HasStatus (does rs) old new n) (trees-same files list others roots u t) (at (does others) is h)
+      go (is_read others u is) = subst (λ (rs : List Data). Comes (does rs) old new n) (trees-same files list others roots u t) (at (does others) is h)
+
+-- the work ends with no other status
+pub trees-listed : (files : Files) (list : List File) (does : List Data → Work) (so : EndsByTrees does) (old new : SiteView) (n : ℕ) → Comes (tree_work files list does) old new n → n ≡ 13 → ⊥
+trees-listed files list does so old new n h e = go (tree_work_case files list does)
+  where
+    at : (w : Work) → tree_work files list does ≡ w → Comes w old new n
+    at w is = subst (λ (w : Work). Comes w old new n) is h
+
+    go : TreeWork files list does → ⊥
+    go (is_missing name m is) = let k : n ≡ 4 = at (ends [] (no_such_file name)) is in omega (arith, e, k)
+    go (is_too_long limit l is) = let k : n ≡ 11 = at (ends [] (past limit)) is in omega (arith, e, k)
+    go (is_treeless name reason a s is) = let k : n ≡ 5 = at (ends [] (not_readable name reason)) is in omega (arith, e, k)
+    go (is_read roots t is) = let k = so roots old new n (at (does roots) is) in omega (arith, e, k)
 
 -- ---- a clause on one status
 

@@ -1,95 +1,106 @@
 -- Which counts a call raises, and which statuses come of which work.
-use Rattle.std.proofs.Common.{◌≡◌, ◌≢◌, ◌⊎◌, inl, inr, ◌∙◌, refl, sym, ap, subst, arith, ℕ, ◌==◌, Bool, true, false, List, [], ◌∷◌, ◌++◌, map, Option, Some, None, Result, Ok, Err}
+use Rattle.std.proofs.Common.{◌≡◌, ◌≢◌, ◌⊎◌, inl, inr, ◌∙◌, refl, sym, ap, subst, arith, ℕ, ◌≤◌, ◌==◌, Bool, true, false, List, [], ◌∷◌, ◌++◌, map, Option, Some, None, Result, Ok, Err}
 use Rattle.std.specs.Prelude.{if◌then◌else◌}
 use Rattle.std.proofs.lemmas.Bool.{true≢false}
 use Rattle.serde_json.specs.Data.{Data}
-use Rattle.cacao_site.specs.Counts.{next_count}
+use Rattle.cacao_site.specs.Counts.{Rose, next_count}
 use Rattle.cacao_site.specs.View.{SiteView}
 use Rattle.cacao_check.specs.declared.breaks.Mode.TheVariants.{Read as Reading}
-use Rattle.cacao_cli.specs.Words.{Text}
-use Rattle.cacao_cli.specs.Asked.{Asked, canonises, checks}
-use Rattle.cacao_cli.specs.Ends.{End, status_of, text_of, is_fault, done, accepted, past, shelf_failed, no_such_file, not_readable, unsaid, no_memory}
+use Rattle.oc2_nets.specs.declared.packets.Packet.{Packet}
+use Rattle.filter_reports.specs.PacketFiles.{packets_of}
+use Rattle.cacao_words.specs.Words.{Text}
+use Rattle.cacao_cli.specs.Asked.{Asked, canonises, checks, lists_rules, decides, shadows}
+use Rattle.cacao_cli.specs.Ends.{End, status_of, text_of, is_fault, done, accepted, refused, past, shelf_failed, no_such_file, not_readable, unsaid, no_memory}
 use Rattle.cacao_cli.specs.Files.{File, Files, Content, ShelfCall, NamedText, Reads, Gives, all_read, wants_memory, stops, goes_on, text_in, item_then, named, whole, missing, too_long, failed, no_room, faults_behind, files_of, named_by, has_too_many}
 use Rattle.cacao_cli.specs.Lines.{SaysLine, FailsToSay, SaysAll, SaysWork, Tells, TellsText}
-use Rattle.cacao_cli.specs.Work.{Work, ends, judges, or_end, trees_of, canon_line, work, work_on}
+use Rattle.cacao_cli.specs.Work.{Work, ends, judges, opens_filter, at_decisions, or_end, packets_in, packets_or_end, trees_of, canon_line, work, work_on}
 use Rattle.cacao_cli.specs.Ended.{Performs, Performed, Ended}
-use Rattle.cacao_cli.specs.Exact.{IsOneOf, HasStatus}
-use Rattle.cacao_cli.specs.Leaves.{NoFault}
+use Rattle.cacao_cli.specs.Exact.{IsOneOf}
+use Rattle.cacao_cli.specs.Leaves.{NoDiskFault, NoFault}
 use Rattle.cacao_cli.specs.declared.limit.Limit.TheVariants.{BookCount}
 use Rattle.cacao_cli.proofs.CauseLemmas.{TreesCase, all_trees, one_treeless, trees_case}
-use Rattle.cacao_cli.proofs.ExactLemmas.{performs-status}
-use Rattle.cacao_cli.proofs.LeaveLemmas.{end-failed, no-more, no_cons}
+use Rattle.cacao_cli.proofs.ExactLemmas.{Comes, IsPlain, performs-comes}
+use Rattle.cacao_cli.proofs.EndLemmas.{end-failed, no-more, no_cons}
+use Rattle.cacao_cli.proofs.LeaveLemmas.{IsBrief, silent, one_line, judged, brief-canon, brief-check}
+use Rattle.cacao_cli.proofs.OpenLemmas.{opens-grows, opens-said, opens-unsaid, opens-failed}
+use Rattle.cacao_cli.proofs.UnsaidLemmas.{last-disk, last-said, last-unsaid, works-disk, works-said, works-unsaid}
 use Rattle.cacao_cli.proofs.LineLemmas.{IsCutOff, tells-status}
 use Rattle.cacao_cli.proofs.ReadLemmas.{Read, empty-read}
 
--- ---- the counts of `say` and of the disk
+performs-disk : (w : Work) (old mid : SiteView) (last : End) → IsPlain w → Performs w old mid last → mid.disk.faults ≡ old.disk.faults
+performs-disk (ends lines end) old mid last plain h = works-disk lines end old mid last h
+performs-disk (judges trees mode kept) old mid last plain (inl h) = performs-disk kept old mid last plain h.1
+performs-disk (judges trees mode kept) old mid last plain (inr (inl h)) = ap (λ (s : SiteView). s.disk.faults) h.same
+performs-disk (judges trees mode kept) old mid last plain (inr (inr h)) = ap (λ (s : SiteView). s.disk.faults) h.same
+performs-disk (opens_filter agent look) old mid last plain h = absurd plain
 
-says-counts : (lines : List Text) (old new : SiteView) → SaysAll lines old new → (new.clock.unsaid ≡ old.clock.unsaid) × (new.disk.faults ≡ old.disk.faults)
-says-counts [] old new h = (ap (λ (s : SiteView). s.clock.unsaid) h, ap (λ (s : SiteView). s.disk.faults) h)
-says-counts (line ∷ lines) old new h = let k = says-counts lines h.0 new h.2 in (k.0 ∙ h.1.unsaid, k.1 ∙ h.1.only.disk.faults)
+same-grows : (n m : ℕ) → m ≡ n → n ≤ m
+same-grows n m e = omega (arith, e)
 
-last-disk : (last : End) (text : Option Text) (mid new : SiteView) (answer : ℕ) → TellsText last text mid new answer → new.disk.faults ≡ mid.disk.faults
-last-disk last None mid new answer h = ap (λ (s : SiteView). s.disk.faults) h.same
-last-disk last (Some text) mid new answer (inl (inl h)) = h.says.only.disk.faults
-last-disk last (Some text) mid new answer (inl (inr h)) = h.fails.only.disk.faults
-last-disk last (Some text) mid new answer (inr h) = ap (λ (s : SiteView). s.disk.faults) h.same
-
-performs-disk : (w : Work) (old mid : SiteView) (last : End) → Performs w old mid last → mid.disk.faults ≡ old.disk.faults
-performs-disk (ends lines end) old mid last (inl h) = (says-counts lines old mid h.says).1
-performs-disk (ends lines end) old mid last (inr (inl h)) = h.fails.only.disk.faults ∙ (says-counts h.front old h.between h.says).1
-performs-disk (ends lines end) old mid last (inr (inr h)) = ap (λ (s : SiteView). s.disk.faults) h.same
-performs-disk (judges trees mode kept) old mid last (inl h) = performs-disk kept old mid last h.1
-performs-disk (judges trees mode kept) old mid last (inr (inl h)) = ap (λ (s : SiteView). s.disk.faults) h.same
-performs-disk (judges trees mode kept) old mid last (inr (inr h)) = ap (λ (s : SiteView). s.disk.faults) h.same
-
-last-said : (last : End) (text : Option Text) (mid new : SiteView) (answer : ℕ) → TellsText last text mid new answer → (answer ≡ 9 → ⊥) → new.clock.unsaid ≡ mid.clock.unsaid
-last-said last None mid new answer h unlike = ap (λ (s : SiteView). s.clock.unsaid) h.same
-last-said last (Some text) mid new answer (inl (inl h)) unlike = h.says.unsaid
-last-said last (Some text) mid new answer (inl (inr h)) unlike = absurd (unlike h.answers)
-last-said last (Some text) mid new answer (inr h) unlike = ap (λ (s : SiteView). s.clock.unsaid) h.same
-
-last-unsaid : (last : End) (text : Option Text) (mid new : SiteView) (answer : ℕ) → (status_of last ≡ 9 → ⊥) → TellsText last text mid new answer → answer ≡ 9 → new.clock.unsaid ≡ next_count mid.clock.unsaid
-last-unsaid last None mid new answer other h e = absurd (other (sym h.answers ∙ e))
-last-unsaid last (Some text) mid new answer other (inl (inl h)) e = absurd (other (sym h.answers ∙ e))
-last-unsaid last (Some text) mid new answer other (inl (inr h)) e = h.fails.unsaid
-last-unsaid last (Some text) mid new answer other (inr h) e = absurd (omega (arith, e, h.answers))
+performs-grows : (w : Work) (old mid : SiteView) (last : End) → Performs w old mid last → old.disk.faults ≤ mid.disk.faults
+performs-grows (ends lines end) old mid last h = same-grows old.disk.faults mid.disk.faults (works-disk lines end old mid last h)
+performs-grows (judges trees mode kept) old mid last (inl h) = performs-grows kept old mid last h.1
+performs-grows (judges trees mode kept) old mid last (inr (inl h)) = same-grows old.disk.faults mid.disk.faults (ap (λ (s : SiteView). s.disk.faults) h.same)
+performs-grows (judges trees mode kept) old mid last (inr (inr h)) = same-grows old.disk.faults mid.disk.faults (ap (λ (s : SiteView). s.disk.faults) h.same)
+performs-grows (opens_filter agent look) old mid last h = opens-grows agent look old mid last h
 
 performs-said : (w : Work) (old mid new : SiteView) (last : End) (answer : ℕ) → Performs w old mid last → Tells last mid new answer → (answer ≡ 9 → ⊥) → new.clock.unsaid ≡ old.clock.unsaid
-performs-said (ends lines end) old mid new last answer (inl h) tells unlike = last-said last (text_of last) mid new answer tells unlike ∙ (says-counts lines old mid h.says).0
-performs-said (ends lines end) old mid new last answer (inr (inl h)) tells unlike = absurd (unlike (no-more last unsaid mid new answer h.ends refl tells).1)
-performs-said (ends lines end) old mid new last answer (inr (inr h)) tells unlike = last-said last (text_of last) mid new answer tells unlike ∙ ap (λ (s : SiteView). s.clock.unsaid) h.same
+performs-said (ends lines end) old mid new last answer h tells unlike = works-said lines end old mid new last answer h tells unlike
 performs-said (judges trees mode kept) old mid new last answer (inl h) tells unlike = performs-said kept old mid new last answer h.1 tells unlike
 performs-said (judges trees mode kept) old mid new last answer (inr (inl h)) tells unlike = last-said last (text_of last) mid new answer tells unlike ∙ ap (λ (s : SiteView). s.clock.unsaid) h.same
 performs-said (judges trees mode kept) old mid new last answer (inr (inr h)) tells unlike = last-said last (text_of last) mid new answer tells unlike ∙ ap (λ (s : SiteView). s.clock.unsaid) h.same
+performs-said (opens_filter agent look) old mid new last answer h tells unlike = opens-said agent look old mid new last answer h tells unlike
 
--- the work ends with other statuses than 2, 3 and 9
+-- the work ends with other statuses than 2, 3, 8 and 9
 abbrev pub IsOther : Work → Type 0
-IsOther (ends lines end) = (status_of end ≡ 2 → ⊥) × (status_of end ≡ 3 → ⊥) × (status_of end ≡ 9 → ⊥)
+IsOther (ends lines end) = (status_of end ≡ 2 → ⊥) × (status_of end ≡ 3 → ⊥) × (status_of end ≡ 9 → ⊥) × (status_of end ≡ 8 → ⊥)
 IsOther (judges trees mode kept) = IsOther kept
+IsOther (opens_filter agent look) = Unit {0}
 
-other-status : (w : Work) (old new : SiteView) (n : ℕ) → IsOther w → HasStatus w old new n → (n ≡ 2 → ⊥) × (n ≡ 3 → ⊥) × (n ≡ 9 → ⊥)
+other-status : (w : Work) (old new : SiteView) (n : ℕ) → IsOther w → Comes w old new n → (n ≡ 2 → ⊥) × (n ≡ 3 → ⊥) × (n ≡ 9 → ⊥)
 other-status (ends lines end) old new n h is = (λ e. h.0 (sym is ∙ e), λ e. h.1 (sym is ∙ e), λ e. h.2 (sym is ∙ e))
 other-status (judges trees mode kept) old new n h (inl is) = other-status kept old new n h is.1
 other-status (judges trees mode kept) old new n h (inr is) = (λ e. omega (arith, e, is.1), λ e. omega (arith, e, is.1), λ e. omega (arith, e, is.1))
+other-status (opens_filter agent look) old new n h (inl (inl is)) = (λ e. omega (arith, e, is.1), λ e. omega (arith, e, is.1), λ e. omega (arith, e, is.1))
+other-status (opens_filter agent look) old new n h (inl (inr is)) = (λ e. omega (arith, e, is.1), λ e. omega (arith, e, is.1), λ e. omega (arith, e, is.1))
+other-status (opens_filter agent look) old new n h (inr is) = (λ e. omega (arith, e, is), λ e. omega (arith, e, is), λ e. omega (arith, e, is))
 
+-- neither 8 nor 9 is told as the end of lines
 abbrev pub NotUnsaid : Work → Type 0
-NotUnsaid (ends lines end) = status_of end ≡ 9 → ⊥
+NotUnsaid (ends lines end) = (status_of end ≡ 9 → ⊥) × (status_of end ≡ 8 → ⊥)
 NotUnsaid (judges trees mode kept) = NotUnsaid kept
+NotUnsaid (opens_filter agent look) = Unit {0}
 
 other-said : (w : Work) → IsOther w → NotUnsaid w
-other-said (ends lines end) h = h.2
+other-said (ends lines end) h = (h.2, h.3)
 other-said (judges trees mode kept) h = other-said kept h
+other-said (opens_filter agent look) h = tt
 
 performs-unsaid : (w : Work) (old mid new : SiteView) (last : End) (answer : ℕ) → NotUnsaid w → Performs w old mid last → Tells last mid new answer → answer ≡ 9 → new.clock.unsaid ≡ next_count old.clock.unsaid
-performs-unsaid (ends lines end) old mid new last answer other (inl h) tells e =
-    last-unsaid last (text_of last) mid new answer (λ is. other (sym (ap status_of h.ends) ∙ is)) tells e ∙ ap next_count (says-counts lines old mid h.says).0
-performs-unsaid (ends lines end) old mid new last answer other (inr (inl h)) tells e =
-    ap (λ (s : SiteView). s.clock.unsaid) (no-more last unsaid mid new answer h.ends refl tells).0 ∙ h.fails.unsaid ∙ ap next_count (says-counts h.front old h.between h.says).0
-performs-unsaid (ends lines end) old mid new last answer other (inr (inr h)) tells e = absurd (omega (arith, e, (no-more last no_memory mid new answer h.ends refl tells).1))
+performs-unsaid (ends lines end) old mid new last answer other h tells e = works-unsaid lines end old mid new last answer other.0 h tells e
 performs-unsaid (judges trees mode kept) old mid new last answer other (inl h) tells e = performs-unsaid kept old mid new last answer other h.1 tells e
 performs-unsaid (judges trees mode kept) old mid new last answer other (inr (inl h)) tells e =
     last-unsaid last (text_of last) mid new answer (λ is. let k : status_of last ≡ 1 = ap status_of h.ends in omega (arith, is, k)) tells e ∙ ap (λ (s : SiteView). next_count s.clock.unsaid) h.same
 performs-unsaid (judges trees mode kept) old mid new last answer other (inr (inr h)) tells e = absurd (omega (arith, e, (no-more last no_memory mid new answer h.ends refl tells).1))
+performs-unsaid (opens_filter agent look) old mid new last answer other h tells e = opens-unsaid agent look old mid new last answer h tells e
+
+eight : (end : End) (last : End) (mid new : SiteView) (answer : ℕ) → last ≡ end → (status_of end ≡ 8 → ⊥) → Tells last mid new answer → answer ≡ 8 → ⊥
+eight end last mid new answer is other tells e = go (tells-status last mid new answer tells)
+  where
+    go : (answer ≡ status_of last) ⊎ IsCutOff answer → ⊥
+    go (inl f) = other (sym (ap status_of is) ∙ sym f ∙ e)
+    go (inr (inl f)) = omega (arith, e, f)
+    go (inr (inr (inl f))) = omega (arith, e, f)
+    go (inr (inr (inr f))) = f
+
+performs-failed : (w : Work) (old mid new : SiteView) (last : End) (answer : ℕ) → NotUnsaid w → Performs w old mid last → Tells last mid new answer → answer ≡ 8 → Rose old.disk.faults new.disk.faults
+performs-failed (ends lines end) old mid new last answer other (inl h) tells e = absurd (eight end last mid new answer h.ends other.1 tells e)
+performs-failed (ends lines end) old mid new last answer other (inr (inl h)) tells e = absurd (eight unsaid last mid new answer h.ends (λ f. omega (arith, f)) tells e)
+performs-failed (ends lines end) old mid new last answer other (inr (inr h)) tells e = absurd (eight no_memory last mid new answer h.ends (λ f. omega (arith, f)) tells e)
+performs-failed (judges trees mode kept) old mid new last answer other (inl h) tells e = performs-failed kept old mid new last answer other h.1 tells e
+performs-failed (judges trees mode kept) old mid new last answer other (inr (inl h)) tells e = absurd (eight (refused h.broken) last mid new answer h.ends (λ f. omega (arith, f)) tells e)
+performs-failed (judges trees mode kept) old mid new last answer other (inr (inr h)) tells e = absurd (eight no_memory last mid new answer h.ends (λ f. omega (arith, f)) tells e)
+performs-failed (opens_filter agent look) old mid new last answer other h tells e = opens-failed agent look old mid new last answer h tells e
 
 -- ---- the statuses of the work
 
@@ -116,11 +127,19 @@ trees-other texts does so = go (trees_case texts)
   where
     go : TreesCase texts → IsOther (or_end (trees_of texts) does)
     go (all_trees roots r e) = subst (λ (r : Result (List Data) End). IsOther (or_end r does)) (sym e) (so roots)
-    go (one_treeless name reason r e) = subst (λ (r : Result (List Data) End). IsOther (or_end r does)) (sym e) ((λ e. omega (arith, e), λ e. omega (arith, e), λ e. omega (arith, e)))
+    go (one_treeless name reason r e) = subst (λ (r : Result (List Data) End). IsOther (or_end r does)) (sym e) ((λ e. omega (arith, e), λ e. omega (arith, e), λ e. omega (arith, e), λ e. omega (arith, e)))
 
 texts-other : (asked : Asked) (texts : List NamedText) → IsOther (work_on asked texts)
-texts-other (canonises book) texts = trees-other texts (λ roots. ends (map canon_line roots) done) (λ roots. (λ e. omega (arith, e), λ e. omega (arith, e), λ e. omega (arith, e)))
-texts-other (checks books) texts = trees-other texts (λ roots. judges roots Reading (ends [] accepted)) (λ roots. (λ e. omega (arith, e), λ e. omega (arith, e), λ e. omega (arith, e)))
+texts-other (canonises book) texts = trees-other texts (λ roots. ends (map canon_line roots) done) (λ roots. (λ e. omega (arith, e), λ e. omega (arith, e), λ e. omega (arith, e), λ e. omega (arith, e)))
+texts-other (checks books) texts = trees-other texts (λ roots. judges roots Reading (ends [] accepted)) (λ roots. (λ e. omega (arith, e), λ e. omega (arith, e), λ e. omega (arith, e), λ e. omega (arith, e)))
+texts-other (lists_rules agent) texts = tt
+texts-other (shadows agent) texts = tt
+texts-other (decides agent packets) [] = tt
+texts-other (decides agent packets) (text ∷ texts) = go (packets_of text.bytes)
+  where
+    go : (r : Result (List (ℕ × Packet)) ℕ) → IsOther (or_end (packets_or_end text.name r) (λ found. opens_filter agent (at_decisions found)))
+    go (Ok found) = tt
+    go (Err number) = (λ e. omega (arith, e), λ e. omega (arith, e), λ e. omega (arith, e), λ e. omega (arith, e))
 
 -- a command ends with a status by its texts, with that of a file, or for too many playbooks
 data StatusCase (asked : Asked) (read : Read) : Type 0 where
@@ -142,18 +161,18 @@ status_case asked read = go (has_too_many asked) refl
         by (Err end) e = by_file end (sym is) e (at false is ∙ ap (λ (r : Read). or_end r (work_on asked)) e)
         by (Ok texts) e = by_texts (subst IsOther (sym (at false is ∙ ap (λ (r : Read). or_end r (work_on asked)) e)) (texts-other asked texts))
 
-among-file : (n : ℕ) → IsOneOf n (3 ∷ 4 ∷ 10 ∷ 11 ∷ []) → (n ≡ 2 → ⊥) × (n ≡ 9 → ⊥)
-among-file n (inl e) = (λ f. omega (arith, e, f), λ f. omega (arith, e, f))
-among-file n (inr (inl e)) = (λ f. omega (arith, e, f), λ f. omega (arith, e, f))
-among-file n (inr (inr (inl e))) = (λ f. omega (arith, e, f), λ f. omega (arith, e, f))
-among-file n (inr (inr (inr (inl e)))) = (λ f. omega (arith, e, f), λ f. omega (arith, e, f))
+among-file : (n : ℕ) → IsOneOf n (3 ∷ 4 ∷ 10 ∷ 11 ∷ []) → (n ≡ 2 → ⊥) × (n ≡ 9 → ⊥) × (n ≡ 8 → ⊥)
+among-file n (inl e) = (λ f. omega (arith, e, f), λ f. omega (arith, e, f), λ f. omega (arith, e, f))
+among-file n (inr (inl e)) = (λ f. omega (arith, e, f), λ f. omega (arith, e, f), λ f. omega (arith, e, f))
+among-file n (inr (inr (inl e))) = (λ f. omega (arith, e, f), λ f. omega (arith, e, f), λ f. omega (arith, e, f))
+among-file n (inr (inr (inr (inl e)))) = (λ f. omega (arith, e, f), λ f. omega (arith, e, f), λ f. omega (arith, e, f))
 among-file n (inr (inr (inr (inr h)))) = absurd h
 
-has-end : (w : Work) (end : End) (old new : SiteView) (n : ℕ) → w ≡ ends [] end → HasStatus w old new n → n ≡ status_of end
-has-end w end old new n is h = subst (λ (w : Work). HasStatus w old new n) is h
+has-end : (w : Work) (end : End) (old new : SiteView) (n : ℕ) → w ≡ ends [] end → Comes w old new n → n ≡ status_of end
+has-end w end old new n is h = subst (λ (w : Work). Comes w old new n) is h
 
 -- neither 2 nor 9 is a status of the work of a command
-some-status : (asked : Asked) (told : Option Files) (count : ℕ) (read : Read) (old new : SiteView) (n : ℕ) → Reads told (files_of (Some asked)) count read → HasStatus (work (Some asked) read) old new n → n ≡ 2 → ⊥
+some-status : (asked : Asked) (told : Option Files) (count : ℕ) (read : Read) (old new : SiteView) (n : ℕ) → Reads told (files_of (Some asked)) count read → Comes (work (Some asked) read) old new n → n ≡ 2 → ⊥
 some-status asked told count read old new n reads h = go (status_case asked read)
   where
     go : StatusCase asked read → n ≡ 2 → ⊥
@@ -162,12 +181,12 @@ some-status asked told count read old new n reads h = go (status_case asked read
     go (by_texts other) e = (other-status (work (Some asked) read) old new n other h).0 e
 
 no-nine : (asked : Option Asked) (told : Option Files) (count : ℕ) (read : Read) → Reads told (files_of asked) count read → NotUnsaid (work asked read)
-no-nine None told count read reads = λ e. omega (arith, e)
+no-nine None told count read reads = (λ e. omega (arith, e), λ e. omega (arith, e))
 no-nine (Some asked) told count read reads = go (status_case asked read)
   where
     go : StatusCase asked read → NotUnsaid (work (Some asked) read)
-    go (too_many many is) = subst NotUnsaid (sym is) (λ e. omega (arith, e))
-    go (by_file end few f is) = subst NotUnsaid (sym is) (among-file (status_of end) (read-status told (files_of (Some asked)) count read end reads f)).1
+    go (too_many many is) = subst NotUnsaid (sym is) (λ e. omega (arith, e), λ e. omega (arith, e))
+    go (by_file end few f is) = let a = among-file (status_of end) (read-status told (files_of (Some asked)) count read end reads f) in subst NotUnsaid (sym is) (a.1, a.2)
     go (by_texts other) = other-said (work (Some asked) read) other
 
 -- ---- the clauses
@@ -175,16 +194,16 @@ no-nine (Some asked) told count read reads = go (status_case asked read)
 -- 2 comes only of words with no reading
 pub understood-ended : (asked : Option Asked) (shelf : ShelfCall) (old new : SiteView) (answer : ℕ) → Ended asked shelf old new answer → answer ≡ 2 → asked ≡ None
 understood-ended None shelf old new answer h e = refl
-understood-ended (Some asked) shelf old new answer h e = absurd (go (performs-status (work (Some asked) h.performed.read) old h.between new h.last answer h.performed.performs h.tells))
+understood-ended (Some asked) shelf old new answer h e = absurd (go (performs-comes (work (Some asked) h.performed.read) old h.between new h.last answer h.performed.performs h.tells))
   where
-    go : HasStatus (work (Some asked) h.performed.read) old new answer ⊎ IsCutOff answer → ⊥
+    go : Comes (work (Some asked) h.performed.read) old new answer ⊎ IsCutOff answer → ⊥
     go (inl is) = some-status asked shelf.told h.performed.reads.count h.performed.read old new answer h.performed.reads.reads is e
     go (inr (inl is)) = omega (arith, e, is)
     go (inr (inr (inl is))) = omega (arith, e, is)
     go (inr (inr (inr x))) = x
 
 pub not_understood-ended : (asked : Option Asked) (shelf : ShelfCall) (old new : SiteView) (answer : ℕ) → Ended asked shelf old new answer → asked ≡ None → IsOneOf answer (2 ∷ 9 ∷ 10 ∷ [])
-not_understood-ended None shelf old new answer h e = go (performs-status (work None h.performed.read) old h.between new h.last answer h.performed.performs h.tells)
+not_understood-ended None shelf old new answer h e = go (performs-comes (work None h.performed.read) old h.between new h.last answer h.performed.performs h.tells)
   where
     go : (answer ≡ 2) ⊎ IsCutOff answer → IsOneOf answer (2 ∷ 9 ∷ 10 ∷ [])
     go (inl is) = inl is
@@ -242,9 +261,9 @@ pub failed-ended : (asked : Option Asked) (shelf : ShelfCall) (old new : SiteVie
 failed-ended asked shelf old new answer h three = by asked h.performed
   where
     by : (a : Option Asked) → Performed a shelf old h.between h.last → shelf.after ≡ next_count shelf.before
-    by a p = at a p (performs-status (work a p.read) old h.between new h.last answer p.performs h.tells)
+    by a p = at a p (performs-comes (work a p.read) old h.between new h.last answer p.performs h.tells)
       where
-        at : (a : Option Asked) (p : Performed a shelf old h.between h.last) → HasStatus (work a p.read) old new answer ⊎ IsCutOff answer → shelf.after ≡ next_count shelf.before
+        at : (a : Option Asked) (p : Performed a shelf old h.between h.last) → Comes (work a p.read) old new answer ⊎ IsCutOff answer → shelf.after ≡ next_count shelf.before
         at a p (inr (inl is)) = absurd (omega (arith, three, is))
         at a p (inr (inr (inl is))) = absurd (omega (arith, three, is))
         at a p (inr (inr (inr x))) = absurd x
@@ -257,9 +276,38 @@ failed-ended asked shelf old new answer h three = by asked h.performed
                 ∙ ap (λ (b : Bool). if b then next_count shelf.before else shelf.before) (three-is (status_of end) (sym (has-end (work (Some asked) p.read) end old new answer s is) ∙ three))
             go (by_texts other) = absurd ((other-status (work (Some asked) p.read) old new answer other is).1 three)
 
-pub memory-ended : (asked : Option Asked) (shelf : ShelfCall) (old new : SiteView) (answer : ℕ) → Ended asked shelf old new answer → answer ≡ 10 → NoFault shelf.before shelf.after old new
+pub disk-ended : (asked : Option Asked) (shelf : ShelfCall) (old new : SiteView) (answer : ℕ) → Ended asked shelf old new answer → answer ≡ 8 → Rose old.disk.faults new.disk.faults
+disk-ended asked shelf old new answer h e = performs-failed (work asked h.performed.read) old h.between new h.last answer
+    (no-nine asked shelf.told h.performed.reads.count h.performed.read h.performed.reads.reads) h.performed.performs h.tells e
+
+brief-plain : (w : Work) → IsBrief w → IsPlain w
+brief-plain w (silent end) = tt
+brief-plain w (one_line line) = tt
+brief-plain w (judged trees mode kept brief) = brief-plain kept brief
+
+no-disk-fault : (asked : Option Asked) (shelf : ShelfCall) (old new : SiteView) (answer : ℕ) → Ended asked shelf old new answer → NoDiskFault asked old new
+no-disk-fault asked shelf old new answer h = by asked h.performed
+  where
+    later : new.disk.faults ≡ h.between.disk.faults
+    later = last-disk h.last (text_of h.last) h.between new answer h.tells
+
+    plain : (a : Option Asked) (p : Performed a shelf old h.between h.last) → IsPlain (work a p.read) → new.disk.faults ≡ old.disk.faults
+    plain a p is = later ∙ performs-disk (work a p.read) old h.between h.last is p.performs
+
+    grows : (a : Option Asked) (p : Performed a shelf old h.between h.last) → old.disk.faults ≤ new.disk.faults
+    grows a p = omega (arith, later, performs-grows (work a p.read) old h.between h.last p.performs)
+
+    by : (a : Option Asked) → Performed a shelf old h.between h.last → NoDiskFault a old new
+    by None p = plain None p tt
+    by (Some (canonises book)) p = plain (Some (canonises book)) p (brief-plain (work (Some (canonises book)) p.read) (brief-canon book shelf.told p.reads.count p.read p.reads.reads))
+    by (Some (checks books)) p = plain (Some (checks books)) p (brief-plain (work (Some (checks books)) p.read) (brief-check books p.read))
+    by (Some (lists_rules agent)) p = grows (Some (lists_rules agent)) p
+    by (Some (decides agent packets)) p = grows (Some (decides agent packets)) p
+    by (Some (shadows agent)) p = grows (Some (shadows agent)) p
+
+pub memory-ended : (asked : Option Asked) (shelf : ShelfCall) (old new : SiteView) (answer : ℕ) → Ended asked shelf old new answer → answer ≡ 10 → NoFault asked shelf.before shelf.after old new
 memory-ended asked shelf old new answer h e = record {
   shelf = steady-ended asked shelf old new answer h (λ f. omega (arith, e, f)) (λ f. omega (arith, e, f));
-  disk = last-disk h.last (text_of h.last) h.between new answer h.tells ∙ performs-disk (work asked h.performed.read) old h.between h.last h.performed.performs;
+  disk = no-disk-fault asked shelf old new answer h;
   say = said-ended asked shelf old new answer h (λ f. omega (arith, e, f));
 }

@@ -1,33 +1,44 @@
 -- The status is that of the work that the files call for, but for faults.
 use Rattle.std.proofs.Common.{◌≡◌, ◌⊎◌, inl, inr, ◌∙◌, refl, sym, ap, subst, arith, ℕ, Bool, true, false, List, [], ◌∷◌, Option, Some, None, Result, Ok, Err}
-use Rattle.std.specs.Prelude.{IfSome, if◌then◌else◌}
+use Rattle.std.specs.Prelude.{IfSome, IsTrue, if◌then◌else◌, map}
+use Rattle.serde_json.specs.Data.{Data}
+use Rattle.cacao_check.specs.FirstBreak.{IsAccepted}
+use Rattle.cacao_check.specs.declared.breaks.Mode.TheVariants.{Read as Reading}
 use Rattle.cacao_site.specs.View.{SiteView}
-use Rattle.cacao_cli.specs.Words.{Text}
-use Rattle.cacao_cli.specs.Asked.{Asked, canonises, checks}
-use Rattle.cacao_cli.specs.Ends.{End, status_of, past, shelf_failed, no_memory}
+use Rattle.cacao_words.specs.Words.{Text}
+use Rattle.cacao_cli.specs.Asked.{Asked, canonises, checks, lists_rules, decides, shadows}
+use Rattle.cacao_cli.specs.Ends.{End, status_of, accepted, done, past, shelf_failed, no_memory}
 use Rattle.cacao_cli.specs.Files.{File, Files, ShelfCall, NamedText, Reads, files_of, named_by, has_too_many, reading}
 use Rattle.cacao_cli.specs.Lines.{Tells}
-use Rattle.cacao_cli.specs.Work.{Work, ends, judges, or_end, work, work_on}
+use Rattle.cacao_cli.specs.Work.{Work, ends, judges, opens_filter, or_end, canon_line, trees_of, work, work_on}
 use Rattle.cacao_cli.specs.Ended.{Performs, Performed, Ended}
-use Rattle.cacao_cli.specs.Exact.{IsOneOf, IfFilesTold, IfTold, HasStatus, Answers, file_faults, faults_of}
+use Rattle.cacao_cli.specs.Exact.{IsBroken, IsOneOf, IfFilesTold, IfTold, HasStatus, Answers, file_faults, faults_of}
 use Rattle.cacao_cli.specs.declared.limit.Limit.TheVariants.{BookCount}
 use Rattle.cacao_cli.proofs.LineLemmas.{IsCutOff, cut-among, says-status, tells-status}
+use Rattle.cacao_cli.proofs.OpenLemmas.{ComesOpened, opens-comes}
 use Rattle.cacao_cli.proofs.ReadLemmas.{Read, Fails, by_shelf, by_memory, empty-read, reads-told}
 
+-- what may come of the work, whatever the disk tells
+abbrev pub Comes : Work → SiteView → SiteView → ℕ → Type 0
+Comes (ends lines end) old new n = n ≡ status_of end
+Comes (judges trees mode kept) old new n = (IsAccepted trees mode × Comes kept old new n) ⊎ (IsBroken trees mode × (n ≡ 1))
+Comes (opens_filter agent look) old new n = ComesOpened agent old new n
+
 -- the work was done, so the status is that of the work, or a line could not be said or memory was wanted
-pub performs-status : (w : Work) (old mid new : SiteView) (last : End) (answer : ℕ) → Performs w old mid last → Tells last mid new answer → HasStatus w old new answer ⊎ IsCutOff answer
-performs-status (ends lines end) old mid new last answer p tells = says-status lines end old mid new last answer p tells
-performs-status (judges trees mode accepted) old mid new last answer (inl (kept, p)) tells = go (performs-status accepted old mid new last answer p tells)
+pub performs-comes : (w : Work) (old mid new : SiteView) (last : End) (answer : ℕ) → Performs w old mid last → Tells last mid new answer → Comes w old new answer ⊎ IsCutOff answer
+performs-comes (ends lines end) old mid new last answer p tells = says-status lines end old mid new last answer p tells
+performs-comes (opens_filter agent look) old mid new last answer p tells = opens-comes agent look old mid new last answer p tells
+performs-comes (judges trees mode kept) old mid new last answer (inl (is_kept, p)) tells = go (performs-comes kept old mid new last answer p tells)
   where
-    go : HasStatus accepted old new answer ⊎ IsCutOff answer → HasStatus (judges trees mode accepted) old new answer ⊎ IsCutOff answer
-    go (inl h) = inl (inl (kept, h))
+    go : Comes kept old new answer ⊎ IsCutOff answer → Comes (judges trees mode kept) old new answer ⊎ IsCutOff answer
+    go (inl h) = inl (inl (is_kept, h))
     go (inr c) = inr c
-performs-status (judges trees mode accepted) old mid new last answer (inr (inl p)) tells = go (tells-status last mid new answer tells)
+performs-comes (judges trees mode kept) old mid new last answer (inr (inl p)) tells = go (tells-status last mid new answer tells)
   where
-    go : (answer ≡ status_of last) ⊎ IsCutOff answer → HasStatus (judges trees mode accepted) old new answer ⊎ IsCutOff answer
+    go : (answer ≡ status_of last) ⊎ IsCutOff answer → Comes (judges trees mode kept) old new answer ⊎ IsCutOff answer
     go (inl e) = inl (inr ((p.first.demand, p.first.least.is_broken), e ∙ ap status_of p.ends))
     go (inr c) = inr c
-performs-status (judges trees mode accepted) old mid new last answer (inr (inr p)) tells = inr (go (tells-status last mid new answer tells))
+performs-comes (judges trees mode kept) old mid new last answer (inr (inr p)) tells = inr (go (tells-status last mid new answer tells))
   where
     go : (answer ≡ status_of last) ⊎ IsCutOff answer → IsCutOff answer
     go (inl e) = inr (inl (e ∙ ap status_of p.ends))
@@ -62,7 +73,7 @@ failed-status asked read false old mid new last answer (by_memory is faults) per
 
 -- the status of the work that these files call for, or a fault
 abbrev pub Came : Option Asked → Files → SiteView → SiteView → ℕ → Type 0
-Came asked files old new answer = HasStatus (work asked (reading files (files_of asked))) old new answer ⊎ IsOneOf answer (file_faults (files_of asked))
+Came asked files old new answer = Comes (work asked (reading files (files_of asked))) old new answer ⊎ IsOneOf answer (file_faults (files_of asked))
 
 -- the status of a call that was performed
 pub status-seen : (asked : Option Asked) (files : Files) (shelf : ShelfCall) (old new : SiteView) (answer : ℕ) → IsSeen shelf.told (files_of asked) files → Ended asked shelf old new answer → Came asked files old new answer
@@ -72,10 +83,10 @@ status-seen asked files shelf old new answer seen ended = by asked ended.perform
     by a p seen = go a p (seen-read shelf.told (files_of a) files p.reads.count p.read seen p.reads.reads)
       where
         go : (a : Option Asked) (p : Performed a shelf old ended.between ended.last) → (p.read ≡ reading files (files_of a)) ⊎ Fails (files_of a) p.read → Came a files old new answer
-        go a p (inl is) = subst (λ (r : Read). HasStatus (work a r) old new answer ⊎ IsOneOf answer (file_faults (files_of a))) is
-            (at (performs-status (work a p.read) old ended.between new ended.last answer p.performs ended.tells))
+        go a p (inl is) = subst (λ (r : Read). Comes (work a r) old new answer ⊎ IsOneOf answer (file_faults (files_of a))) is
+            (at (performs-comes (work a p.read) old ended.between new ended.last answer p.performs ended.tells))
           where
-            at : HasStatus (work a p.read) old new answer ⊎ IsCutOff answer → HasStatus (work a p.read) old new answer ⊎ IsOneOf answer (file_faults (files_of a))
+            at : Comes (work a p.read) old new answer ⊎ IsCutOff answer → Comes (work a p.read) old new answer ⊎ IsOneOf answer (file_faults (files_of a))
             at (inl h) = inl h
             at (inr c) = inr (cut-among answer (files_of a) c)
         go None p (inr fails) = absurd (no_fails fails)
@@ -91,16 +102,103 @@ if-told [] told P h = λ files. h files (by_none refl)
 if-told (file ∷ more) None P h = tt
 if-told (file ∷ more) (Some files) P h = h files (by_told refl)
 
-pub if-asked : (asked : Option Asked) (told : Option Files) (old : SiteView) (P : Files → Type 0) → ((files : Files) → IsSeen told (files_of asked) files → P files) → IfTold asked told old P
-if-asked None told old P h = if-told [] told P h
-if-asked (Some (canonises book)) told old P h = if-told (files_of (Some (canonises book))) told P h
-if-asked (Some (checks books)) told old P h = if-told (files_of (Some (checks books))) told P h
+-- the disk is told, where the command opens a file of it
+abbrev pub IsDiskTold : Option Asked → SiteView → Type 0
+IsDiskTold None old = Unit {0}
+IsDiskTold (Some (canonises book)) old = Unit {0}
+IsDiskTold (Some (checks books)) old = Unit {0}
+IsDiskTold (Some (lists_rules agent)) old = IsTrue old.disk.told
+IsDiskTold (Some (decides agent packets)) old = IsTrue old.disk.told
+IsDiskTold (Some (shadows agent)) old = IsTrue old.disk.told
 
-pub faults-are : (asked : Option Asked) → faults_of asked ≡ file_faults (files_of asked)
-faults-are None = refl
-faults-are (Some (canonises book)) = refl
-faults-are (Some (checks books)) = refl
+-- the work opens no file of the disk
+abbrev pub IsPlain : Work → Type 0
+IsPlain (ends lines end) = Unit {0}
+IsPlain (judges trees mode kept) = IsPlain kept
+IsPlain (opens_filter agent look) = ⊥
+
+trees-plain : (r : Result (List Data) End) (does : List Data → Work) → ((roots : List Data) → IsPlain (does roots)) → IsPlain (or_end r does)
+trees-plain (Err end) does so = tt
+trees-plain (Ok roots) does so = so roots
+
+reads-plain : (r : Read) (does : List Data → Work) → ((roots : List Data) → IsPlain (does roots)) → IsPlain (or_end r (λ texts. or_end (trees_of texts) does))
+reads-plain (Err end) does so = tt
+reads-plain (Ok texts) does so = trees-plain (trees_of texts) does so
+
+canon-plain : (book : Text) (files : Files) → IsPlain (work (Some (canonises book)) (reading files (files_of (Some (canonises book)))))
+canon-plain book files = reads-plain (reading files (files_of (Some (canonises book)))) (λ roots. ends (map canon_line roots) done) (λ roots. tt)
+
+check-plain : (books : List Text) (files : Files) → IsPlain (work (Some (checks books)) (reading files (files_of (Some (checks books)))))
+check-plain books files = go (has_too_many (checks books)) (reading files (files_of (Some (checks books))))
+  where
+    go : (b : Bool) (r : Read) → IsPlain (if b then ends [] (past BookCount) else or_end r (work_on (checks books)))
+    go true r = tt
+    go false r = reads-plain r (λ roots. judges roots Reading (ends [] accepted)) (λ roots. tt)
+
+pub if-asked : (asked : Option Asked) (told : Option Files) (old : SiteView) (P : Files → Type 0) → (IsDiskTold asked old → (files : Files) → IsSeen told (files_of asked) files → P files) → IfTold asked told old P
+if-asked None told old P h = if-told [] told P (h tt)
+if-asked (Some (canonises book)) told old P h = if-told (files_of (Some (canonises book))) told P (h tt)
+if-asked (Some (checks books)) told old P h = if-told (files_of (Some (checks books))) told P (h tt)
+if-asked (Some (lists_rules agent)) told old P h = λ disk files. h disk files (by_none refl)
+if-asked (Some (shadows agent)) told old P h = λ disk files. h disk files (by_none refl)
+if-asked (Some (decides agent packets)) told old P h = λ disk. if-told (files_of (Some (decides agent packets))) told P (h disk)
+
+-- 8 is among the faults of a command that opens a file of the disk
+pub faults-with : (asked : Option Asked) (answer : ℕ) → IsOneOf answer (file_faults (files_of asked)) → IsOneOf answer (faults_of asked)
+faults-with None answer h = h
+faults-with (Some (canonises book)) answer h = h
+faults-with (Some (checks books)) answer h = h
+faults-with (Some (lists_rules agent)) answer h = inr h
+faults-with (Some (shadows agent)) answer h = inr h
+faults-with (Some (decides agent packets)) answer (inl e) = inl e
+faults-with (Some (decides agent packets)) answer (inr h) = inr (inr h)
+
+-- what comes of work by which no file of the disk is opened is its status
+pub plain-status : (w : Work) (old new : SiteView) (n : ℕ) → IsPlain w → Comes w old new n → HasStatus w old new n
+plain-status (ends lines end) old new n plain h = h
+plain-status (judges trees mode kept) old new n plain (inl h) = inl (h.0, plain-status kept old new n plain h.1)
+plain-status (judges trees mode kept) old new n plain (inr h) = inr h
+plain-status (opens_filter agent look) old new n plain h = absurd plain
+
+-- over a disk that is told, what comes is the status, or 8
+pub told-status : (w : Work) (old new : SiteView) (n : ℕ) → IsTrue old.disk.told → Comes w old new n → HasStatus w old new n ⊎ (n ≡ 8)
+told-status (ends lines end) old new n told h = inl h
+told-status (judges trees mode kept) old new n told (inl h) = go (told-status kept old new n told h.1)
+  where
+    go : HasStatus kept old new n ⊎ (n ≡ 8) → HasStatus (judges trees mode kept) old new n ⊎ (n ≡ 8)
+    go (inl s) = inl (inl (h.0, s))
+    go (inr e) = inr e
+told-status (judges trees mode kept) old new n told (inr h) = inl (inr h)
+told-status (opens_filter agent look) old new n told (inl (inl h)) = inl (inl (h.0 told, h.1))
+told-status (opens_filter agent look) old new n told (inl (inr h)) = inl (inr (h.0 told, h.1))
+told-status (opens_filter agent look) old new n told (inr e) = inr e
+
+-- the status of a call over files and a disk that are told
+abbrev pub Answered : Option Asked → Files → SiteView → SiteView → ℕ → Type 0
+Answered asked files old new answer = HasStatus (work asked (reading files (files_of asked))) old new answer ⊎ IsOneOf answer (faults_of asked)
+
+pub status-told : (asked : Option Asked) (files : Files) (shelf : ShelfCall) (old new : SiteView) (answer : ℕ) → IsDiskTold asked old → IsSeen shelf.told (files_of asked) files → Ended asked shelf old new answer → Answered asked files old new answer
+status-told asked files shelf old new answer disk seen ended = go asked disk (status-seen asked files shelf old new answer seen ended)
+  where
+    plain : (a : Option Asked) → IsPlain (work a (reading files (files_of a))) → Came a files old new answer → Answered a files old new answer
+    plain a is (inl h) = inl (plain-status (work a (reading files (files_of a))) old new answer is h)
+    plain a is (inr f) = inr (faults-with a answer f)
+
+    opened : (a : Option Asked) → IsTrue old.disk.told → (answer ≡ 8 → IsOneOf answer (faults_of a)) → Came a files old new answer → Answered a files old new answer
+    opened a told eight (inl h) = by (told-status (work a (reading files (files_of a))) old new answer told h)
+      where
+        by : HasStatus (work a (reading files (files_of a))) old new answer ⊎ (answer ≡ 8) → Answered a files old new answer
+        by (inl s) = inl s
+        by (inr e) = inr (eight e)
+    opened a told eight (inr f) = inr (faults-with a answer f)
+
+    go : (a : Option Asked) → IsDiskTold a old → Came a files old new answer → Answered a files old new answer
+    go None told h = plain None tt h
+    go (Some (canonises book)) told h = plain (Some (canonises book)) (canon-plain book files) h
+    go (Some (checks books)) told h = plain (Some (checks books)) (check-plain books files) h
+    go (Some (lists_rules agent)) told h = opened (Some (lists_rules agent)) told (λ e. inl e) h
+    go (Some (shadows agent)) told h = opened (Some (shadows agent)) told (λ e. inl e) h
+    go (Some (decides agent packets)) told h = opened (Some (decides agent packets)) told (λ e. inr (inl e)) h
 
 pub exact-ended : (asked : Option Asked) (shelf : ShelfCall) (old new : SiteView) (answer : ℕ) → Ended asked shelf old new answer → Answers asked shelf.told old new answer
-exact-ended asked shelf old new answer ended = if-asked asked shelf.told old _ (λ files seen.
-    subst (λ (faults : List ℕ). HasStatus (work asked (reading files (files_of asked))) old new answer ⊎ IsOneOf answer faults) (sym (faults-are asked)) (status-seen asked files shelf old new answer seen ended))
+exact-ended asked shelf old new answer ended = if-asked asked shelf.told old _ (λ disk files seen. status-told asked files shelf old new answer disk seen ended)

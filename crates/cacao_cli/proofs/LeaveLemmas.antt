@@ -7,55 +7,22 @@ use Rattle.cacao_site.specs.SayCalls.{SaysOnly}
 use Rattle.cacao_site.specs.View.{SiteView}
 use Rattle.cacao_check.specs.declared.breaks.Mode.{Mode}
 use Rattle.cacao_check.specs.declared.breaks.Mode.TheVariants.{Read as Reading}
-use Rattle.cacao_cli.specs.Words.{Text}
-use Rattle.cacao_cli.specs.Asked.{Asked, canonises, checks}
+use Rattle.oc2_nets.specs.declared.packets.Packet.{Packet}
+use Rattle.filter_reports.specs.PacketFiles.{packets_of}
+use Rattle.cacao_words.specs.Words.{Text}
+use Rattle.cacao_cli.specs.Asked.{Asked, canonises, checks, lists_rules, decides, shadows}
 use Rattle.cacao_cli.specs.Ends.{End, status_of, text_of, is_fault, done, accepted, refused, not_understood, past, shelf_failed, no_such_file, not_readable, unsaid, no_memory}
 use Rattle.cacao_cli.specs.Files.{File, Files, Content, ShelfCall, NamedText, Reads, ReadsTo, Gives, all_read, wants_memory, stops, goes_on, text_in, item_then, whole, missing, too_long, failed, no_room, faults_behind, files_of, named_by, has_too_many, counted}
 use Rattle.cacao_cli.specs.Lines.{SaysLine, FailsToSay, SaysAll, SaysWork, Tells, TellsText}
-use Rattle.cacao_cli.specs.Work.{Work, ends, judges, or_end, tree_of, tree_or_end, trees_of, canon_line, work, work_on}
+use Rattle.cacao_cli.specs.Work.{Work, ends, judges, opens_filter, at_rules, at_shadows, at_decisions, or_end, packets_or_end, tree_of, tree_or_end, trees_of, canon_line, work, work_on}
 use Rattle.cacao_cli.specs.Ended.{Performs, Performed, Ended}
 use Rattle.cacao_cli.specs.Exact.{IsOneOf}
-use Rattle.cacao_cli.specs.Leaves.{SaysAtMostOnce, Leaves, ReadsAtMost, NoFault}
+use Rattle.cacao_cli.specs.Leaves.{SaysAtMostOnce, Leaves, ReadsAtMost, WritesNothing}
 use Rattle.cacao_cli.specs.declared.limit.Limit.TheVariants.{BookCount}
+use Rattle.cacao_cli.specs.declared.reason.Reason.TheVariants.{Line}
+use Rattle.cacao_cli.proofs.EndLemmas.{end-unsaid, end-memory, no-more, no_cons}
+use Rattle.cacao_cli.proofs.OpenLemmas.{nothing-written, opens-refl, work-some, writes-nothing}
 use Rattle.cacao_cli.proofs.ReadLemmas.{Read, reads-few, empty-read}
-
--- ---- the status and the line of an end
-
-pub end-unsaid : (end : End) → status_of end ≡ 9 → text_of end ≡ None
-end-unsaid done e = refl
-end-unsaid accepted e = absurd (omega (arith, e))
-end-unsaid (refused broken) e = absurd (omega (arith, e))
-end-unsaid not_understood e = absurd (omega (arith, e))
-end-unsaid (past limit) e = absurd (omega (arith, e))
-end-unsaid (shelf_failed name) e = absurd (omega (arith, e))
-end-unsaid (no_such_file name) e = absurd (omega (arith, e))
-end-unsaid (not_readable name reason) e = absurd (omega (arith, e))
-end-unsaid unsaid e = refl
-end-unsaid no_memory e = refl
-
-pub end-memory : (end : End) → status_of end ≡ 10 → text_of end ≡ None
-end-memory done e = refl
-end-memory accepted e = absurd (omega (arith, e))
-end-memory (refused broken) e = absurd (omega (arith, e))
-end-memory not_understood e = absurd (omega (arith, e))
-end-memory (past limit) e = absurd (omega (arith, e))
-end-memory (shelf_failed name) e = absurd (omega (arith, e))
-end-memory (no_such_file name) e = absurd (omega (arith, e))
-end-memory (not_readable name reason) e = absurd (omega (arith, e))
-end-memory unsaid e = refl
-end-memory no_memory e = refl
-
-pub end-failed : (end : End) → status_of end ≡ 3 → (name : Text) × (end ≡ shelf_failed name)
-end-failed done e = absurd (omega (arith, e))
-end-failed accepted e = absurd (omega (arith, e))
-end-failed (refused broken) e = absurd (omega (arith, e))
-end-failed not_understood e = absurd (omega (arith, e))
-end-failed (past limit) e = absurd (omega (arith, e))
-end-failed (shelf_failed name) e = (name, refl)
-end-failed (no_such_file name) e = absurd (omega (arith, e))
-end-failed (not_readable name reason) e = absurd (omega (arith, e))
-end-failed unsaid e = absurd (omega (arith, e))
-end-failed no_memory e = absurd (omega (arith, e))
 
 -- ---- what is said by a command that says one line
 
@@ -80,18 +47,6 @@ last-once last (Some text) mid new answer is (inr h) = record { once = inl h.sam
 
 tells-once : (last : End) (mid new : SiteView) (answer : ℕ) → Tells last mid new answer → SaysAtMostOnce mid new answer
 tells-once last mid new answer h = last-once last (text_of last) mid new answer refl h
-
--- nothing stands behind an end without a line
-pub no-more : (last end : End) (mid new : SiteView) (answer : ℕ) → last ≡ end → text_of end ≡ None → Tells last mid new answer → (new ≡ mid) × (answer ≡ status_of end)
-no-more last end mid new answer is none h = go (text_of last) (ap text_of is ∙ none) h
-  where
-    go : (text : Option Text) → text ≡ None → TellsText last text mid new answer → (new ≡ mid) × (answer ≡ status_of end)
-    go None e h = (h.same, h.answers ∙ ap status_of is)
-    go (Some text) e h = absurd (cc)
-
-pub no_cons : (front behind : List Text) (first line : Text) → [] ≡ front ++ line ∷ behind → ⊥
-no_cons [] behind first line e = cc
-no_cons (x ∷ front) behind first line e = cc
 
 one_cons : (front behind : List Text) (first line only : Text) → only ∷ [] ≡ (first ∷ front) ++ line ∷ behind → ⊥
 one_cons front behind first line only e = no_cons front behind first line (tails e)
@@ -167,11 +122,31 @@ brief-check books read = go (has_too_many (checks books))
     go true = silent (past BookCount)
     go false = by read
 
+-- ---- the commands that open a filter
+
+pub rules-performed : (agent : ℕ) (shelf : ShelfCall) (old mid : SiteView) (last : End) → Performed (Some (lists_rules agent)) shelf old mid last → Performs (opens_filter agent at_rules) old mid last
+rules-performed agent shelf old mid last p = subst (λ (r : Read). Performs (or_end r (work_on (lists_rules agent))) old mid last) (empty-read shelf.told p.reads.count p.read p.reads.reads).1 p.performs
+
+pub shadows-performed : (agent : ℕ) (shelf : ShelfCall) (old mid : SiteView) (last : End) → Performed (Some (shadows agent)) shelf old mid last → Performs (opens_filter agent at_shadows) old mid last
+shadows-performed agent shelf old mid last p = subst (λ (r : Read). Performs (or_end r (work_on (shadows agent))) old mid last) (empty-read shelf.told p.reads.count p.read p.reads.reads).1 p.performs
+
+decide-leaves : (agent : ℕ) (packets : Text) (old mid new : SiteView) (last : End) (answer : ℕ) (read : Read) → Performs (or_end read (work_on (decides agent packets))) old mid last → Tells last mid new answer → WritesNothing agent old new
+decide-leaves agent packets old mid new last answer (Err end) p tells = nothing-written agent old old new (opens-refl agent old) (work-some [] end old mid new last answer p tells)
+decide-leaves agent packets old mid new last answer (Ok []) p tells = writes-nothing agent (at_decisions []) old mid new last answer p tells
+decide-leaves agent packets old mid new last answer (Ok (text ∷ texts)) p tells = go (packets_of text.bytes) p
+  where
+    go : (r : Result (List (ℕ × Packet)) ℕ) → Performs (or_end (packets_or_end text.name r) (λ found. opens_filter agent (at_decisions found))) old mid last → WritesNothing agent old new
+    go (Ok found) q = writes-nothing agent (at_decisions found) old mid new last answer q tells
+    go (Err number) q = nothing-written agent old old new (opens-refl agent old) (work-some [] (not_readable text.name (Line number)) old mid new last answer q tells)
+
 pub leaves-ended : (asked : Option Asked) (shelf : ShelfCall) (old new : SiteView) (answer : ℕ) → Ended asked shelf old new answer → Leaves asked old new answer
 leaves-ended None shelf old new answer h = brief-once (ends [] not_understood) old h.between new h.last answer (silent not_understood) h.performed.performs h.tells
 leaves-ended (Some (canonises book)) shelf old new answer h = brief-once (work (Some (canonises book)) h.performed.read) old h.between new h.last answer
     (brief-canon book shelf.told h.performed.reads.count h.performed.read h.performed.reads.reads) h.performed.performs h.tells
 leaves-ended (Some (checks books)) shelf old new answer h = brief-once (work (Some (checks books)) h.performed.read) old h.between new h.last answer (brief-check books h.performed.read) h.performed.performs h.tells
+leaves-ended (Some (lists_rules agent)) shelf old new answer h = writes-nothing agent at_rules old h.between new h.last answer (rules-performed agent shelf old h.between h.last h.performed) h.tells
+leaves-ended (Some (decides agent packets)) shelf old new answer h = decide-leaves agent packets old h.between new h.last answer h.performed.read h.performed.performs h.tells
+leaves-ended (Some (shadows agent)) shelf old new answer h = writes-nothing agent at_shadows old h.between new h.last answer (shadows-performed agent shelf old h.between h.last h.performed) h.tells
 
 pub few-ended : (asked : Option Asked) (shelf : ShelfCall) (old new : SiteView) (answer : ℕ) → Ended asked shelf old new answer → ReadsAtMost (length (files_of asked)) shelf.reads_before shelf.reads_after
 few-ended asked shelf old new answer h = (h.performed.reads.count, reads-few shelf.told (files_of asked) h.performed.reads.count h.performed.read h.performed.reads.reads, h.performed.reads.counted)

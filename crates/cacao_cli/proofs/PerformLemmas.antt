@@ -5,16 +5,19 @@ use Rattle.std.proofs.lemmas.List.{length-map}
 use Rattle.serde_json.specs.Data.{Data}
 use Rattle.cacao_check.specs.declared.breaks.Mode.TheVariants.{Read as Reading}
 use Rattle.cacao_site.specs.View.{SiteView}
-use Rattle.cacao_cli.specs.Words.{Text}
-use Rattle.cacao_cli.specs.Asked.{Asked, canonises, checks}
+use Rattle.oc2_nets.specs.declared.packets.Packet.{Packet}
+use Rattle.filter_reports.specs.PacketFiles.{packets_of}
+use Rattle.cacao_words.specs.Words.{Text}
+use Rattle.cacao_cli.specs.Asked.{Asked, canonises, checks, lists_rules, decides, shadows}
 use Rattle.cacao_cli.specs.Command.{IsJudgement}
 use Rattle.cacao_cli.specs.Ends.{End, accepted, past, not_understood, not_readable, no_memory}
-use Rattle.cacao_cli.specs.Files.{File, ShelfCall, NamedText, ReadsTo, book_file, has_too_many}
+use Rattle.cacao_cli.specs.Files.{File, ShelfCall, NamedText, ReadsTo, book_file, packet_file, has_too_many}
 use Rattle.cacao_cli.specs.Lines.{SaysWork}
-use Rattle.cacao_cli.specs.Work.{Work, ends, judges, or_end, trees_of, work_on}
+use Rattle.cacao_cli.specs.Work.{Work, ends, judges, opens_filter, at_rules, at_shadows, at_decisions, or_end, packets_or_end, trees_of, work_on}
 use Rattle.cacao_cli.specs.Ended.{Performs, Performed}
 use Rattle.cacao_cli.specs.declared.limit.Limit.TheVariants.{BookCount}
 use Rattle.cacao_cli.proofs.CauseLemmas.{TreesCase, all_trees, one_treeless, trees_case}
+use Rattle.cacao_cli.proofs.OpenLemmas.{opens-refl}
 use Rattle.cacao_cli.proofs.ReadLemmas.{Read, none-read, wanted-before}
 
 -- nothing is said, and the end is this one
@@ -51,6 +54,54 @@ performed-memory (Some (checks books)) shelf site same steady = go (has_too_many
       reads = subst (λ (b : Bool). ReadsTo shelf (if b then [] else map book_file books) p.0) (sym few) p.1.0;
       performs = subst (λ (b : Bool). Performs (if b then ends [] (past BookCount) else or_end p.0 (work_on (checks books))) site site no_memory) (sym few) p.1.1;
     }
+performed-memory (Some (lists_rules agent)) shelf site same steady = record { read = Ok []; reads = none-read shelf same steady; performs = inr (inr (inr (record { opens = opens-refl agent site; ends = refl }))) }
+performed-memory (Some (shadows agent)) shelf site same steady = record { read = Ok []; reads = none-read shelf same steady; performs = inr (inr (inr (record { opens = opens-refl agent site; ends = refl }))) }
+performed-memory (Some (decides agent packets)) shelf site same steady = record {
+  read = Err no_memory;
+  reads = wanted-before shelf (packet_file packets) [] same steady;
+  performs = says-end no_memory site;
+}
+
+-- ---- rules, shadow and decide
+
+pub rules-perform : (agent : ℕ) (shelf : ShelfCall) (old new : SiteView) (last : End) → shelf.reads_after ≡ shelf.reads_before → shelf.after ≡ shelf.before → Performs (opens_filter agent at_rules) old new last
+    → Performed (Some (lists_rules agent)) shelf old new last
+rules-perform agent shelf old new last same steady performs = record { read = Ok []; reads = none-read shelf same steady; performs = performs }
+
+pub shadows-perform : (agent : ℕ) (shelf : ShelfCall) (old new : SiteView) (last : End) → shelf.reads_after ≡ shelf.reads_before → shelf.after ≡ shelf.before → Performs (opens_filter agent at_shadows) old new last
+    → Performed (Some (shadows agent)) shelf old new last
+shadows-perform agent shelf old new last same steady performs = record { read = Ok []; reads = none-read shelf same steady; performs = performs }
+
+-- the file was not read
+pub decide-unread : (agent : ℕ) (packets : Text) (shelf : ShelfCall) (site : SiteView) (end : End) → ReadsTo shelf (packet_file packets ∷ []) (Err end) → Performed (Some (decides agent packets)) shelf site site end
+decide-unread agent packets shelf site end reads = record { read = Err end; reads = reads; performs = says-end end site }
+
+-- the file has no packets, or memory was wanted
+pub decide-bad : (agent : ℕ) (packets : Text) (shelf : ShelfCall) (text : NamedText) (site : SiteView) (end : End) → ReadsTo shelf (packet_file packets ∷ []) (Ok (text ∷ []))
+    → (packets_or_end text.name (packets_of text.bytes) ≡ Err end) ⊎ (end ≡ no_memory) → Performed (Some (decides agent packets)) shelf site site end
+decide-bad agent packets shelf text site end reads (inl is) = record {
+  read = Ok (text ∷ []);
+  reads = reads;
+  performs = subst (λ (r : Result (List (ℕ × Packet)) End). Performs (or_end r (λ found. opens_filter agent (at_decisions found))) site site end) (sym is) (says-end end site);
+}
+decide-bad agent packets shelf text site end reads (inr is) = record {
+  read = Ok (text ∷ []);
+  reads = reads;
+  performs = subst (λ (e : End). Performs (or_end (packets_or_end text.name (packets_of text.bytes)) (λ found. opens_filter agent (at_decisions found))) site site e) (sym is) (go (packets_of text.bytes));
+}
+  where
+    go : (r : Result (List (ℕ × Packet)) ℕ) → Performs (or_end (packets_or_end text.name r) (λ found. opens_filter agent (at_decisions found))) site site no_memory
+    go (Ok found) = inr (inr (inr (record { opens = opens-refl agent site; ends = refl })))
+    go (Err number) = inr (inr (record { same = refl; no_fault = refl; ends = refl }))
+
+-- the packets were decided
+pub decide-found : (agent : ℕ) (packets : Text) (shelf : ShelfCall) (text : NamedText) (found : List (ℕ × Packet)) (old new : SiteView) (end : End) → ReadsTo shelf (packet_file packets ∷ []) (Ok (text ∷ []))
+    → packets_or_end text.name (packets_of text.bytes) ≡ Ok found → Performs (opens_filter agent (at_decisions found)) old new end → Performed (Some (decides agent packets)) shelf old new end
+decide-found agent packets shelf text found old new end reads is performs = record {
+  read = Ok (text ∷ []);
+  reads = reads;
+  performs = subst (λ (r : Result (List (ℕ × Packet)) End). Performs (or_end r (λ found. opens_filter agent (at_decisions found))) old new end) (sym is) performs;
+}
 
 -- ---- check
 

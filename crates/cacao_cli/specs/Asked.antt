@@ -1,43 +1,27 @@
--- What the words of the command line ask for: one case and one row a command.
-use Rattle.std.specs.Prelude.{List, [], ◌∷◌, Option, Some, None, option_and_then, find, codes}
-use Rattle.std.specs.Str.{bytes_eq}
-use Rattle.cacao_cli.specs.Words.{Text, Reading, read}
+-- What the program is asked to do: one case and one row a command that is built.
+use Rattle.std.specs.Prelude.{ℕ, List, Option, Some, None, option_and_then}
+use Rattle.cacao_words.specs.Words.{Text}
+use Rattle.cacao_words.specs.Requests.{Request, request}
+use Rattle.cacao_words.specs.Requests as words
 
 -- what the program is asked to do
 pub data Asked : Type 0 where
   canonises : (book : Text) → Asked
   checks : (books : List Text) → Asked
+  lists_rules : (agent : ℕ) → Asked
+  decides : (agent : ℕ) (packets : Text) → Asked
+  shadows : (agent : ℕ) → Asked
 
--- one name
-abbrev pub canon_asks : List Text → Option Asked
-canon_asks [] = None
-canon_asks (book ∷ []) = Some (canonises book)
-canon_asks (book ∷ other ∷ names) = None
+-- words that ask for a command that is not built have no reading
+abbrev pub built : Request → Option Asked
+built (words.canonises book) = Some (canonises book)
+built (words.checks books) = Some (checks books)
+built (words.runs wanted) = None
+built words.shows = None
+built (words.lists_rules agent) = Some (lists_rules agent)
+built (words.decides agent packets) = Some (decides agent packets)
+built (words.rehearses positions) = None
+built (words.shadows agent) = Some (shadows agent)
 
--- one name or more
-abbrev pub check_asks : List Text → Option Asked
-check_asks [] = None
-check_asks (book ∷ books) = Some (checks (book ∷ books))
-
--- a command: its name, its options, and what a reading of its words asks for
-pub record Command : Type 0 where
-  pub name : Text
-  pub options : List Text
-  pub asks : Reading → Option Asked
-
-abbrev pub command : Text → List Text → (Reading → Option Asked) → Command
-command name options asks = record { name = name; options = options; asks = asks }
-
-abbrev pub commands : List Command
-commands =
-    command (codes "canon") [] (λ r. canon_asks r.names)
-    ∷ command (codes "check") [] (λ r. check_asks r.names)
-    ∷ []
-
-abbrev pub asked_of : List Text → Command → Option Asked
-asked_of words c = option_and_then c.asks (read c.options words)
-
--- the first word names the command
 abbrev pub asked : List Text → Option Asked
-asked [] = None
-asked (first ∷ words) = option_and_then (asked_of words) (find (λ c. bytes_eq first c.name) commands)
+asked words = option_and_then built (request words)

@@ -1,15 +1,18 @@
 -- The causes of the statuses, in words of their own. The files are those of the words, in the order in which they are read.
-use Rattle.std.specs.Prelude.{◌≡◌, ◌⊎◌, ◌<◌, ◌≤◌, length, List, [], ◌∷◌, Option, Some, None, IsSomeAnd, true, false}
+use Rattle.std.specs.Prelude.{◌≡◌, ◌⊎◌, ℕ, ◌<◌, ◌≤◌, length, List, [], ◌∷◌, Option, Some, None, IsSomeAnd, true, false, Ok, Err}
 use Rattle.serde_json.specs.Data.{Data}
 use Rattle.cacao_json.specs.Reading.{tree}
 use Rattle.cacao_check.specs.FirstBreak.{IsAccepted}
 use Rattle.cacao_check.specs.declared.breaks.Mode.{Mode}
 use Rattle.cacao_check.specs.declared.breaks.Mode.TheVariants.{Read}
+use Rattle.oc2_nets.specs.declared.packets.Packet.{Packet}
+use Rattle.filter_reports.specs.PacketFiles.{packets_of}
 use Rattle.cacao_site.specs.View.{SiteView}
-use Rattle.cacao_cli.specs.Asked.{Asked, canonises, checks}
+use Rattle.cacao_cli.specs.Asked.{Asked, canonises, checks, lists_rules, decides, shadows}
 use Rattle.cacao_cli.specs.Ends.{most}
 use Rattle.cacao_cli.specs.Exact.{IsBroken}
-use Rattle.cacao_cli.specs.Files.{File, Files, files_of, has_too_many}
+use Rattle.cacao_cli.specs.Openings.{HoldsFilter, IsDamagedFilter}
+use Rattle.cacao_cli.specs.Files.{File, Files, files_of, has_too_many, packet_file}
 
 -- the file is there, within its limit
 abbrev pub IsWithin : Files → File → Type 0
@@ -44,11 +47,25 @@ abbrev pub SomeTreeless : Files → List File → Type 0
 SomeTreeless files [] = ⊥
 SomeTreeless files (file ∷ more) = IsSomeAnd (files file.name) (λ bytes. tree bytes ≡ None) ⊎ SomeTreeless files more
 
+-- the file is there within its limit, and its lines are these packets
+abbrev pub HasPackets : Files → File → List (ℕ × Packet) → Type 0
+HasPackets files file packets = IsWithin files file × IsSomeAnd (files file.name) (λ bytes. packets_of bytes ≡ Ok packets)
+
+abbrev pub IsPacketFile : Files → File → Type 0
+IsPacketFile files file = (packets : List (ℕ × Packet)) × HasPackets files file packets
+
+-- a line of the file is no packet
+abbrev pub HasBadLine : Files → File → Type 0
+HasBadLine files file = IsSomeAnd (files file.name) (λ bytes. (number : ℕ) × (packets_of bytes ≡ Err number))
+
 -- a file of the words has no reading, and all are there within their limits
 abbrev pub IsUnreadable : Option Asked → Files → Type 0
 IsUnreadable None files = ⊥
 IsUnreadable (Some (canonises book)) files = AllWithin files (files_of (Some (canonises book))) × SomeTreeless files (files_of (Some (canonises book)))
 IsUnreadable (Some (checks books)) files = AllWithin files (files_of (Some (checks books))) × SomeTreeless files (files_of (Some (checks books)))
+IsUnreadable (Some (lists_rules agent)) files = ⊥
+IsUnreadable (Some (decides agent packets)) files = IsWithin files (packet_file packets) × HasBadLine files (packet_file packets)
+IsUnreadable (Some (shadows agent)) files = ⊥
 
 -- a rule is broken, by playbooks each of which is there within its limit and has a tree
 pub record BreaksRule (files : Files) (list : List File) (mode : Mode) : Type 0 where
@@ -60,12 +77,18 @@ abbrev pub IsRefused : Option Asked → Files → Type 0
 IsRefused None files = ⊥
 IsRefused (Some (canonises book)) files = ⊥
 IsRefused (Some (checks books)) files = (has_too_many (checks books) ≡ false) × BreaksRule files (files_of (Some (checks books))) Read
+IsRefused (Some (lists_rules agent)) files = ⊥
+IsRefused (Some (decides agent packets)) files = ⊥
+IsRefused (Some (shadows agent)) files = ⊥
 
 -- a quantity passes its limit
 abbrev pub IsPastLimit : Option Asked → Files → SiteView → SiteView → Type 0
 IsPastLimit None files old new = ⊥
 IsPastLimit (Some (canonises book)) files old new = (has_too_many (canonises book) ≡ true) ⊎ IsTooLong files (files_of (Some (canonises book)))
 IsPastLimit (Some (checks books)) files old new = (has_too_many (checks books) ≡ true) ⊎ IsTooLong files (files_of (Some (checks books)))
+IsPastLimit (Some (lists_rules agent)) files old new = ⊥
+IsPastLimit (Some (decides agent packets)) files old new = IsTooLong files (files_of (Some (decides agent packets)))
+IsPastLimit (Some (shadows agent)) files old new = ⊥
 
 -- no rule is broken, by playbooks each of which is there within its limit and has a tree
 pub record KeepsRules (files : Files) (list : List File) (mode : Mode) : Type 0 where
@@ -78,3 +101,15 @@ abbrev pub CanBeDone : Option Asked → Files → SiteView → SiteView → Type
 CanBeDone None files old new = ⊥
 CanBeDone (Some (canonises book)) files old new = (root : Data) × Trees files (files_of (Some (canonises book))) (root ∷ [])
 CanBeDone (Some (checks books)) files old new = (has_too_many (checks books) ≡ false) × KeepsRules files (files_of (Some (checks books))) Read
+CanBeDone (Some (lists_rules agent)) files old new = HoldsFilter agent new
+CanBeDone (Some (decides agent packets)) files old new = IsPacketFile files (packet_file packets) × HoldsFilter agent new
+CanBeDone (Some (shadows agent)) files old new = HoldsFilter agent new
+
+-- the file of the disk that the command opens holds nothing that the program wrote, and nothing else stops the command before
+abbrev pub FindsItDamaged : Option Asked → Files → SiteView → SiteView → Type 0
+FindsItDamaged None files old new = ⊥
+FindsItDamaged (Some (canonises book)) files old new = ⊥
+FindsItDamaged (Some (checks books)) files old new = ⊥
+FindsItDamaged (Some (lists_rules agent)) files old new = IsDamagedFilter agent new
+FindsItDamaged (Some (decides agent packets)) files old new = IsPacketFile files (packet_file packets) × IsDamagedFilter agent new
+FindsItDamaged (Some (shadows agent)) files old new = IsDamagedFilter agent new

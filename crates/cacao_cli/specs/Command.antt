@@ -1,5 +1,5 @@
 -- The values of the code as those of the definitions.
-use Rattle.std.specs.Prelude.{◌≡◌, ◌⊎◌, ℕ, List, [], ◌∷◌, map, Vec, Result, Ok, Err}
+use Rattle.std.specs.Prelude.{◌≡◌, ◌⊎◌, ℕ, Option, List, [], ◌∷◌, map, Vec, Result, Ok, Err}
 use Rattle.std.specs.declared.alloc.Global.{Global}
 use Rattle.serde_json.specs.Data.{Data}
 use Rattle.cacao_check.specs.FirstBreak.{IsAccepted, IsFirstBreak}
@@ -11,20 +11,23 @@ use Rattle.cacao_check.specs.declared.breaks.CheckError.TheVariants as check_err
 use Rattle.cacao_check.specs.declared.breaks.Mode.{Mode}
 use Rattle.cacao_json.specs.Tree.{data_of}
 use Rattle.cacao_json.specs.declared.tree.Tree.{Tree}
-use Rattle.cacao_cli.specs.Words.{Text}
-use Rattle.cacao_cli.specs.Asked.{Asked, canonises, checks}
+use Rattle.oc2_nets.specs.declared.packets.Packet.{Packet}
+use Rattle.slpf_actuator.specs.declared.error.ActError.{ActError}
+use Rattle.slpf_actuator.specs.declared.error.ActError.TheVariants as act_error
+use Rattle.filter_reports.specs.PacketFiles.{packets_of}
+use Rattle.cacao_words.specs.Words.{Text}
+use Rattle.cacao_words.specs.declared.words.Command.{Command}
+use Rattle.cacao_words.specs.Commands.{request_by}
+use Rattle.cacao_cli.specs.Asked.{Asked, built}
 use Rattle.cacao_cli.specs.Ends as as_said
 use Rattle.cacao_cli.specs.Files.{NamedText, named}
-use Rattle.cacao_cli.specs.Work.{tree_of, trees_of}
-use Rattle.cacao_cli.specs.declared.words.Command.{Command}
-use Rattle.cacao_cli.specs.declared.words.Command.TheVariants.{Canon, Check}
+use Rattle.cacao_cli.specs.Work.{packets_or_end, tree_of, trees_of}
 use Rattle.cacao_cli.specs.declared.end.End.{End}
 use Rattle.cacao_cli.specs.declared.file_text.FileText.{FileText}
 use Rattle.cacao_cli.specs.declared.end.End.TheVariants as how
 
-abbrev pub asked_by : Command → Asked
-asked_by (Canon book) = canonises book.now
-asked_by (Check books) = checks (map (λ name. name.now) books.items.items)
+abbrev pub asked_by : Command → Option Asked
+asked_by command = built (request_by command)
 
 abbrev pub end_of : End → as_said.End
 end_of how.Done = as_said.done
@@ -35,6 +38,8 @@ end_of (how.Past limit) = as_said.past limit
 end_of (how.ShelfFailed line) = as_said.shelf_failed line.name.now
 end_of (how.NoSuchFile name) = as_said.no_such_file name.now
 end_of (how.NotReadable name reason) = as_said.not_readable name.now reason
+end_of (how.Damaged file place) = as_said.damaged file place
+end_of how.DiskFailed = as_said.disk_failed
 end_of how.Unsaid = as_said.unsaid
 end_of how.NoMemory = as_said.no_memory
 
@@ -55,6 +60,19 @@ reads_of (Err end) = Err (end_of end)
 abbrev pub IsTreeOrMemory : NamedText → Result Tree End → Type 0
 IsTreeOrMemory text (Ok tree) = tree_of text ≡ Ok (data_of tree)
 IsTreeOrMemory text (Err end) = (tree_of text ≡ Err (end_of end)) ⊎ (end_of end ≡ as_said.no_memory)
+
+-- the packets of the text, or which line is none; or memory was wanted
+abbrev pub ArePacketsOrMemory : NamedText → Result (Vec (ℕ × Packet) Global) End → Type 0
+ArePacketsOrMemory text (Ok packets) = packets_or_end text.name (packets_of text.bytes) ≡ Ok packets.items
+ArePacketsOrMemory text (Err end) = (packets_or_end text.name (packets_of text.bytes) ≡ Err (end_of end)) ⊎ (end_of end ≡ as_said.no_memory)
+
+-- how a call ends where the file of this agent was not opened
+abbrev pub open_end : ℕ → ActError → as_said.End
+open_end agent act_error.Disk = as_said.disk_failed
+open_end agent (act_error.Damaged place) = as_said.damaged agent place
+open_end agent (act_error.Full length) = as_said.no_memory
+open_end agent act_error.Broken = as_said.no_memory
+open_end agent act_error.Memory = as_said.no_memory
 
 -- the trees of the texts, or why the first has none; or memory was wanted
 abbrev pub AreTreesOrMemory : List NamedText → Result (Vec Tree Global) End → Type 0

@@ -9,7 +9,8 @@ use Rattle.cacao_cli.specs.Asked.{Asked}
 use Rattle.cacao_cli.specs.Ends.{End, refused, no_memory}
 use Rattle.cacao_cli.specs.Files.{ShelfCall, NamedText, ReadsTo, files_of}
 use Rattle.cacao_cli.specs.Lines.{SaysWork, Tells}
-use Rattle.cacao_cli.specs.Work.{Work, ends, judges, work}
+use Rattle.cacao_cli.specs.Openings.{FailsToOpen, FindsDamage, SaysFilter, WantsToOpen}
+use Rattle.cacao_cli.specs.Work.{Work, ends, judges, opens_filter, work}
 
 -- a rule of the playbooks is broken, and the end tells the first break
 pub record TellsBreak (trees : List Data) (mode : Mode) (old new : SiteView) (last : End) : Type 0 where
@@ -26,6 +27,7 @@ pub record IsNotJudged (old new : SiteView) (last : End) : Type 0 where
 -- the work was done, from the one site to the other, all but the last line
 abbrev pub Performs : Work → SiteView → SiteView → End → Type 0
 Performs (ends lines end) old new last = SaysWork lines end old new last
+Performs (opens_filter agent look) old new last = SaysFilter agent look old new last ⊎ (FindsDamage agent old new last ⊎ (FailsToOpen agent old new last ⊎ WantsToOpen agent old new last))
 Performs (judges trees mode accepted) old new last = (IsAccepted trees mode × Performs accepted old new last) ⊎ (TellsBreak trees mode old new last ⊎ IsNotJudged old new last)
 
 -- the files were read, and the work that they come to was done

@@ -1,11 +1,11 @@
 -- How a call of the program ends: its exit status, and its last line if it has one.
 use Rattle.std.specs.Prelude.{ℕ, Bool, true, false, ◌++◌, codes, decimal, Option, Some, None}
 use Rattle.cacao_check.specs.declared.breaks.Break.{Break}
-use Rattle.cacao_cli.specs.Words.{Text}
+use Rattle.cacao_words.specs.Words.{Text}
 use Rattle.cacao_cli.specs.declared.limit.Limit.{Limit}
 use Rattle.cacao_cli.specs.declared.limit.Limit.TheVariants.{FileBytes, BookCount}
 use Rattle.cacao_cli.specs.declared.reason.Reason.{Reason}
-use Rattle.cacao_cli.specs.declared.reason.Reason.TheVariants.{NotJson, RepeatedName, NotWhole}
+use Rattle.cacao_cli.specs.declared.reason.Reason.TheVariants.{NotJson, RepeatedName, NotWhole, Line}
 
 abbrev pub limit_name : Limit → Text
 limit_name FileBytes = codes "file"
@@ -19,11 +19,12 @@ most BookCount = 16
 abbrev pub limit_text : Limit → Text
 limit_text limit = limit_name limit ++ (codes " " ++ decimal (most limit))
 
--- why a file has no tree
+-- why a file has no reading
 abbrev pub reason_text : Reason → Text
 reason_text NotJson = codes "not json"
 reason_text (RepeatedName colons members) = codes "repeated name " ++ (decimal colons ++ (codes " " ++ decimal members))
 reason_text (NotWhole index) = codes "not whole " ++ decimal index
+reason_text (Line number) = codes "line " ++ decimal number
 
 -- the step that a break names
 abbrev pub step_text : Option Text → Text
@@ -43,6 +44,8 @@ pub data End : Type 0 where
   shelf_failed : (name : Text) → End
   no_such_file : (name : Text) → End
   not_readable : (name : Text) (reason : Reason) → End
+  damaged : (file place : ℕ) → End  -- a file of the disk holds nothing that the program wrote
+  disk_failed : End
   unsaid : End  -- a line could not be said
   no_memory : End
 
@@ -55,6 +58,8 @@ status_of (past limit) = 11
 status_of (shelf_failed name) = 3
 status_of (no_such_file name) = 4
 status_of (not_readable name reason) = 5
+status_of (damaged file place) = 13
+status_of disk_failed = 8
 status_of unsaid = 9
 status_of no_memory = 10
 
@@ -68,10 +73,12 @@ text_of (past limit) = Some (codes "limit: " ++ limit_text limit)
 text_of (shelf_failed name) = Some (codes "shelf failed: " ++ name)
 text_of (no_such_file name) = Some (codes "no such file: " ++ name)
 text_of (not_readable name reason) = Some (codes "not readable: " ++ (name ++ (codes " " ++ reason_text reason)))
+text_of (damaged file place) = Some (codes "damaged: file " ++ (decimal file ++ (codes " place " ++ decimal place)))
+text_of disk_failed = Some (codes "disk failed")
 text_of unsaid = None
 text_of no_memory = None
 
--- Whether the end tells a fault of the outside. Its line wants no memory: it is made before the call that may fail.
+-- Whether the end tells a fault of the outside. Its line wants no memory behind the call that may fail.
 abbrev pub is_fault : End → Bool
 is_fault done = false
 is_fault accepted = false
@@ -81,5 +88,7 @@ is_fault (past limit) = false
 is_fault (shelf_failed name) = true
 is_fault (no_such_file name) = false
 is_fault (not_readable name reason) = false
+is_fault (damaged file place) = false
+is_fault disk_failed = true
 is_fault unsaid = true
 is_fault no_memory = false

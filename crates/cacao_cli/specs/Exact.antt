@@ -1,13 +1,14 @@
 -- Which status comes, where the outside tells what it holds.
-use Rattle.std.specs.Prelude.{◌≡◌, ◌⊎◌, ℕ, List, [], ◌∷◌, ◌++◌, Option, Some, None, IfSome}
+use Rattle.std.specs.Prelude.{◌≡◌, ◌⊎◌, ℕ, List, [], ◌∷◌, ◌++◌, Option, Some, None, IfSome, IsTrue}
 use Rattle.serde_json.specs.Data.{Data}
 use Rattle.cacao_check.specs.FirstBreak.{Demand, IsAccepted, Keeps}
 use Rattle.cacao_check.specs.declared.breaks.Mode.{Mode}
 use Rattle.cacao_site.specs.View.{SiteView}
-use Rattle.cacao_cli.specs.Asked.{Asked, canonises, checks}
+use Rattle.cacao_cli.specs.Asked.{Asked, canonises, checks, lists_rules, decides, shadows}
 use Rattle.cacao_cli.specs.Ends.{status_of}
 use Rattle.cacao_cli.specs.Files.{File, Files, files_of, reading}
-use Rattle.cacao_cli.specs.Work.{Work, ends, judges, work}
+use Rattle.cacao_cli.specs.Openings.{HoldsFilter, IsDamagedFilter}
+use Rattle.cacao_cli.specs.Work.{Work, ends, judges, opens_filter, work}
 
 abbrev pub IsOneOf : ℕ → List ℕ → Type 0
 IsOneOf n [] = ⊥
@@ -23,11 +24,18 @@ abbrev pub IfFilesTold : List File → Option Files → (Files → Type 0) → T
 IfFilesTold [] told P = (files : Files) → P files
 IfFilesTold (file ∷ more) told P = IfSome told P
 
+-- so of any files, where the disk is told
+abbrev pub IfDiskTold : SiteView → (Files → Type 0) → Type 0
+IfDiskTold old P = IsTrue old.disk.told → (files : Files) → P files
+
 -- so of the files, where all is told that the command reads
 abbrev pub IfTold : Option Asked → Option Files → SiteView → (Files → Type 0) → Type 0
 IfTold None told old P = IfFilesTold [] told P
 IfTold (Some (canonises book)) told old P = IfFilesTold (files_of (Some (canonises book))) told P
 IfTold (Some (checks books)) told old P = IfFilesTold (files_of (Some (checks books))) told P
+IfTold (Some (lists_rules agent)) told old P = IfDiskTold old P
+IfTold (Some (decides agent packets)) told old P = IsTrue old.disk.told → IfFilesTold (files_of (Some (decides agent packets))) told P
+IfTold (Some (shadows agent)) told old P = IfDiskTold old P
 
 -- the faults that may stand in the place of a status that rests on the files alone
 abbrev pub file_faults : List File → List ℕ
@@ -39,15 +47,19 @@ abbrev pub faults_of : Option Asked → List ℕ
 faults_of None = file_faults []
 faults_of (Some (canonises book)) = file_faults (files_of (Some (canonises book)))
 faults_of (Some (checks books)) = file_faults (files_of (Some (checks books)))
+faults_of (Some (lists_rules agent)) = 8 ∷ 9 ∷ 10 ∷ []
+faults_of (Some (decides agent packets)) = 3 ∷ 8 ∷ 9 ∷ 10 ∷ []
+faults_of (Some (shadows agent)) = 8 ∷ 9 ∷ 10 ∷ []
 
 -- a rule of the playbooks with these trees is broken
 abbrev pub IsBroken : List Data → Mode → Type 0
 IsBroken trees mode = (demand : Demand) × ¬ Keeps trees mode demand
 
--- the status is that of the work
+-- the status is that of the work; a file of the disk is as it reads on return
 abbrev pub HasStatus : Work → SiteView → SiteView → ℕ → Type 0
 HasStatus (ends lines end) old new answer = answer ≡ status_of end
 HasStatus (judges trees mode accepted) old new answer = (IsAccepted trees mode × HasStatus accepted old new answer) ⊎ (IsBroken trees mode × (answer ≡ 1))
+HasStatus (opens_filter agent look) old new answer = (HoldsFilter agent new × (answer ≡ 0)) ⊎ (IsDamagedFilter agent new × (answer ≡ 13))
 
 -- the status is that of the work that the files call for, or one of the faults that may stand in its place
 

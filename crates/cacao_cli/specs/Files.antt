@@ -3,8 +3,8 @@ use Rattle.std.proofs.Common.{zero, suc}
 use Rattle.std.specs.Prelude.{◌≡◌, ℕ, ◌<◌, ◌≤◌, ◌==◌, nat_lt, nat_le, length, map, Bool, List, [], ◌∷◌, Option, Some, None, Result, Ok, Err}
 use Rattle.std.specs.Prelude.{IfSome, IsSomeAnd, ⊤, if◌then◌else◌}
 use Rattle.cacao_site.specs.Counts.{next_count}
-use Rattle.cacao_cli.specs.Words.{Text}
-use Rattle.cacao_cli.specs.Asked.{Asked, canonises, checks}
+use Rattle.cacao_words.specs.Words.{Text}
+use Rattle.cacao_cli.specs.Asked.{Asked, canonises, checks, lists_rules, decides, shadows}
 use Rattle.cacao_cli.specs.Ends.{End, most, status_of, past, shelf_failed, no_such_file, no_memory}
 use Rattle.cacao_cli.specs.declared.limit.Limit.{Limit}
 use Rattle.cacao_cli.specs.declared.limit.Limit.TheVariants.{FileBytes}
@@ -17,10 +17,16 @@ pub record File : Type 0 where
 abbrev pub book_file : Text → File
 book_file name = record { name = name; limit = FileBytes }
 
+abbrev pub packet_file : Text → File
+packet_file name = record { name = name; limit = FileBytes }
+
 -- the playbooks that the words name
 abbrev pub books_of : Asked → List Text
 books_of (canonises book) = book ∷ []
 books_of (checks books) = books
+books_of (lists_rules agent) = []
+books_of (decides agent packets) = []
+books_of (shadows agent) = []
 
 -- more playbooks than the limit: then no file is read
 abbrev pub has_too_many : Asked → Bool
@@ -29,6 +35,9 @@ has_too_many asked = nat_lt 16 (length (books_of asked))
 abbrev pub named_by : Asked → List File
 named_by (canonises book) = book_file book ∷ []
 named_by (checks books) = map book_file books
+named_by (lists_rules agent) = []
+named_by (decides agent packets) = packet_file packets ∷ []
+named_by (shadows agent) = []
 
 -- the files to be read, in order
 abbrev pub files_of : Option Asked → List File

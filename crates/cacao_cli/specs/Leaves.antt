@@ -1,8 +1,9 @@
 -- What a call of the program leaves as it was.
-use Rattle.std.specs.Prelude.{◌≡◌, ◌⊎◌, ℕ, ◌≤◌, length, Option, Some, None}
-use Rattle.cacao_site.specs.SayCalls.{SaysOnly}
-use Rattle.cacao_site.specs.View.{SiteView}
-use Rattle.cacao_cli.specs.Asked.{Asked, canonises, checks}
+use Rattle.std.specs.Prelude.{◌≡◌, ◌⊎◌, ℕ, ◌+◌, ◌/◌, ◌≤◌, IsTrue, length, List, Option, Some, None, IfSome}
+use Rattle.cacao_site.specs.DiskCalls.{EachBeat, IsLeft, OnlyFile}
+use Rattle.cacao_site.specs.SayCalls.{KeepsTime, SaysOnly}
+use Rattle.cacao_site.specs.View.{LinkView, SiteView}
+use Rattle.cacao_cli.specs.Asked.{Asked, canonises, checks, lists_rules, decides, shadows}
 use Rattle.cacao_cli.specs.Files.{Counts}
 
 -- at most one call of `say` was made, and nothing else changed
@@ -11,17 +12,51 @@ pub record SaysAtMostOnce (old new : SiteView) (answer : ℕ) : Type 0 where
   pub unsaid : answer ≡ 9 → new.link.said ≡ old.link.said
   pub no_memory : answer ≡ 10 → new ≡ old
 
+-- of a link the lines said alone may have changed
+pub record SaysAtMost (old new : LinkView) : Type 0 where
+  pub puts : new.puts ≡ old.puts
+  pub taken : new.taken ≡ old.taken
+  pub empty_takes : new.empty_takes ≡ old.empty_takes
+  pub pending : new.pending ≡ old.pending
+
+-- The calls of a command that opens a file of so many bytes: three, one for each 4,096 bytes, one for each line said and one that may
+-- have failed to say a line.
+abbrev pub CallsFew : ℕ → SiteView → SiteView → Type 0
+CallsFew bytes old new = IsTrue old.disk.told → IfSome old.link.said (λ before. IfSome new.link.said (λ after.
+    new.disk.calls + length before ≤ old.disk.calls + length after + 4 + bytes / 4096))
+
+-- No file was written, nothing was put or taken, and no time went by: each image that a crash may leave of a file at each beat of the call is
+-- one that it could leave before.
+pub record WritesNothing (file : ℕ) (old new : SiteView) : Type 0 where
+  pub reads_only : (other : ℕ) → EachBeat other old.disk new.disk (IsLeft old.disk other old.disk.beat)
+  pub written : new.disk.written ≤ old.disk.written
+  pub link : SaysAtMost old.link new.link
+  pub time : KeepsTime old.clock new.clock
+  pub calls : CallsFew (length (new.disk.reads file)) old new
+
 abbrev pub Leaves : Option Asked → SiteView → SiteView → ℕ → Type 0
 Leaves None old new answer = SaysAtMostOnce old new answer
 Leaves (Some (canonises book)) old new answer = SaysAtMostOnce old new answer
 Leaves (Some (checks books)) old new answer = SaysAtMostOnce old new answer
+Leaves (Some (lists_rules agent)) old new answer = WritesNothing agent old new
+Leaves (Some (decides agent packets)) old new answer = WritesNothing agent old new
+Leaves (Some (shadows agent)) old new answer = WritesNothing agent old new
 
 -- at most so many reads were counted, where the shelf tells them
 abbrev pub ReadsAtMost : ℕ → Option ℕ → Option ℕ → Type 0
 ReadsAtMost most old new = (count : ℕ) × (count ≤ most) × Counts old count new
 
+-- no fault of the disk was counted by a command that opens no file of it
+abbrev pub NoDiskFault : Option Asked → SiteView → SiteView → Type 0
+NoDiskFault None old new = new.disk.faults ≡ old.disk.faults
+NoDiskFault (Some (canonises book)) old new = new.disk.faults ≡ old.disk.faults
+NoDiskFault (Some (checks books)) old new = new.disk.faults ≡ old.disk.faults
+NoDiskFault (Some (lists_rules agent)) old new = old.disk.faults ≤ new.disk.faults
+NoDiskFault (Some (decides agent packets)) old new = old.disk.faults ≤ new.disk.faults
+NoDiskFault (Some (shadows agent)) old new = old.disk.faults ≤ new.disk.faults
+
 -- no fault was counted
-pub record NoFault (faults_before faults_after : ℕ) (old new : SiteView) : Type 0 where
+pub record NoFault (asked : Option Asked) (faults_before faults_after : ℕ) (old new : SiteView) : Type 0 where
   pub shelf : faults_after ≡ faults_before
-  pub disk : new.disk.faults ≡ old.disk.faults
+  pub disk : NoDiskFault asked old new
   pub say : new.clock.unsaid ≡ old.clock.unsaid

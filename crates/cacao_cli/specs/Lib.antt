@@ -1,14 +1,11 @@
 pub mod Asked
 pub mod Causes
-pub mod ClapCommand
-pub mod ClapRows
 pub mod Command
 pub mod Ended
 pub mod Ends
 pub mod Exact
 pub mod Files
-pub mod Hyphens
 pub mod Leaves
 pub mod Lines
-pub mod Words
+pub mod Openings
 pub mod Work

@@ -1,10 +1,10 @@
 -- The lines that a call says.
-use Rattle.std.specs.Prelude.{◌≡◌, ◌⊎◌, ℕ, List, [], ◌∷◌, ◌++◌, Bool, false, Option, Some, None, codes}
+use Rattle.std.specs.Prelude.{◌≡◌, ◌⊎◌, ℕ, List, [], ◌∷◌, ◌++◌, Bool, true, false, Option, Some, None, codes}
 use Rattle.cacao_site.specs.Counts.{next_count}
 use Rattle.cacao_site.specs.LinkCalls.{Gains}
 use Rattle.cacao_site.specs.SayCalls.{SaysOnly}
 use Rattle.cacao_site.specs.View.{SiteView}
-use Rattle.cacao_cli.specs.Words.{Text}
+use Rattle.cacao_words.specs.Words.{Text}
 use Rattle.cacao_cli.specs.Ends.{End, status_of, text_of, is_fault, unsaid, no_memory}
 
 -- the line was said, and nothing else changed
@@ -23,6 +23,20 @@ pub record FailsToSay (old new : SiteView) : Type 0 where
 abbrev pub SaysAll : List Text → SiteView → SiteView → Type 0
 SaysAll [] old new = new ≡ old
 SaysAll (line ∷ lines) old new = (between : SiteView) × SaysLine line old between × SaysAll lines between new
+
+-- all the lines were said; or one of them could not be said, and none behind it was
+pub record FailsAmong (lines : List Text) (old new : SiteView) : Type 0 where
+  pub front : List Text
+  pub line : Text
+  pub behind : List Text
+  pub is : lines ≡ front ++ line ∷ behind
+  pub between : SiteView
+  pub says : SaysAll front old between
+  pub fails : FailsToSay between new
+
+abbrev pub SaysOrStops : List Text → Bool → SiteView → SiteView → Type 0
+SaysOrStops lines true old new = SaysAll lines old new
+SaysOrStops lines false old new = FailsAmong lines old new
 
 -- one of the lines could not be said, and none behind it was
 pub record StopsSaying (lines : List Text) (old new : SiteView) (last : End) : Type 0 where

@@ -1,24 +1,33 @@
 -- What a command does, once the words and the files that it reads are known. The tests stand in the order of the statuses.
-use Rattle.std.specs.Prelude.{◌≡◌, List, [], ◌∷◌, ◌++◌, map, Option, Some, None, Result, Ok, Err, if◌then◌else◌, codes}
+use Rattle.std.specs.Prelude.{◌≡◌, ℕ, List, [], ◌∷◌, ◌++◌, map, Option, Some, None, Result, Ok, Err, if◌then◌else◌, codes}
 use Rattle.serde_json.specs.Data.{Data}
 use Rattle.cacao_json.specs.Refusals.{answer}
 use Rattle.cacao_json.specs.declared.error.JsonError.{JsonError}
 use Rattle.cacao_json.specs.declared.error.JsonError.TheVariants as json
 use Rattle.cacao_text.specs.Canon.{book_text}
+use Rattle.oc2_nets.specs.declared.packets.Packet.{Packet}
+use Rattle.filter_reports.specs.PacketFiles.{packets_of}
 use Rattle.cacao_check.specs.declared.breaks.Mode.{Mode}
 use Rattle.cacao_check.specs.declared.breaks.Mode.TheVariants.{Read}
-use Rattle.cacao_cli.specs.Words.{Text}
-use Rattle.cacao_cli.specs.Asked.{Asked, canonises, checks}
+use Rattle.cacao_words.specs.Words.{Text}
+use Rattle.cacao_cli.specs.Asked.{Asked, canonises, checks, lists_rules, decides, shadows}
 use Rattle.cacao_cli.specs.Ends.{End, done, accepted, not_understood, past, not_readable, no_memory}
 use Rattle.cacao_cli.specs.Files.{NamedText, item_then, has_too_many}
 use Rattle.cacao_cli.specs.declared.limit.Limit.TheVariants.{BookCount}
-use Rattle.cacao_cli.specs.declared.reason.Reason.TheVariants.{NotJson, RepeatedName, NotWhole}
+use Rattle.cacao_cli.specs.declared.reason.Reason.TheVariants.{NotJson, RepeatedName, NotWhole, Line}
+
+-- what is said of a filter
+pub data Look : Type 0 where
+  at_rules : Look
+  at_decisions : (packets : List (ℕ × Packet)) → Look
+  at_shadows : Look
 
 -- What is left to be done where nothing was refused before: to say these lines and end so; to tell the first break of the playbooks with
--- these trees, and where there is none to do this work.
+-- these trees, and where there is none to do this work; to open the filter of an agent and say this of it.
 pub data Work : Type 0 where
   ends : (lines : List Text) (end : End) → Work
   judges : (trees : List Data) (mode : Mode) (accepted : Work) → Work
+  opens_filter : (agent : ℕ) (look : Look) → Work
 
 -- the tree, or the end that says why there is none
 abbrev pub tree_or_end : Text → Result Data JsonError → Result Data End
@@ -36,6 +45,16 @@ abbrev pub trees_of : List NamedText → Result (List Data) End
 trees_of [] = Ok []
 trees_of (text ∷ texts) = item_then (tree_of text) (trees_of texts)
 
+-- the packets, or the end that tells the first line that is none
+abbrev pub packets_or_end : Text → Result (List (ℕ × Packet)) ℕ → Result (List (ℕ × Packet)) End
+packets_or_end name (Ok packets) = Ok packets
+packets_or_end name (Err number) = Err (not_readable name (Line number))
+
+-- the packets of the one text
+abbrev pub packets_in : List NamedText → Result (List (ℕ × Packet)) End
+packets_in [] = Ok []
+packets_in (text ∷ texts) = packets_or_end text.name (packets_of text.bytes)
+
 -- the end, or the work that the value comes to
 abbrev pub or_end : {A : Type 0} → Result A End → (A → Work) → Work
 or_end (Err end) work = ends [] end
@@ -49,6 +68,9 @@ canon_line root = book_text root ++ codes "\n"
 abbrev pub work_on : Asked → List NamedText → Work
 work_on (canonises book) texts = or_end (trees_of texts) (λ roots. ends (map canon_line roots) done)
 work_on (checks books) texts = or_end (trees_of texts) (λ roots. judges roots Read (ends [] accepted))
+work_on (lists_rules agent) texts = opens_filter agent at_rules
+work_on (decides agent packets) texts = or_end (packets_in texts) (λ found. opens_filter agent (at_decisions found))
+work_on (shadows agent) texts = opens_filter agent at_shadows
 
 -- the work that the words and what was read come to
 abbrev pub work : Option Asked → Result (List NamedText) End → Work

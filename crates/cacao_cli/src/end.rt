@@ -26,8 +26,12 @@ pub enum End<'w> {
     ShelfFailed { line: FaultLine<'w> },
     /// There is no file of this name.
     NoSuchFile { name: &'w str },
-    /// The file of this name has no tree.
+    /// The file of this name has no reading.
     NotReadable { name: &'w str, reason: Reason },
+    /// The file of this number on the disk holds nothing that the program wrote, from this place on.
+    Damaged { file: u8, place: u64 },
+    /// The disk failed.
+    DiskFailed,
     /// A line could not be said.
     Unsaid,
     /// Memory was wanted.
@@ -46,9 +50,11 @@ impl<'w> End<'w> {
             End::ShelfFailed { .. } => 3,
             End::NoSuchFile { .. } => 4,
             End::NotReadable { .. } => 5,
+            End::DiskFailed => 8,
             End::Unsaid => 9,
             End::NoMemory => 10,
             End::Past { .. } => 11,
+            End::Damaged { .. } => 13,
         }
     }
 
@@ -87,6 +93,8 @@ impl<'w> fmt::Display for End<'w> {
             End::ShelfFailed { line } => write!(f, "shelf failed: {}", line.name),
             End::NoSuchFile { name } => write!(f, "no such file: {name}"),
             End::NotReadable { name, reason } => write!(f, "not readable: {name} {reason}"),
+            End::Damaged { file, place } => write!(f, "damaged: file {file} place {place}"),
+            End::DiskFailed => f.write_str("disk failed"),
         }
     }
 }

@@ -1,21 +1,20 @@
 //! The commands of the program, from the words of the command line to the lines said and the exit status.
 #![tactic(auto)]
 
-mod book_names;
 mod canon;
 mod check;
 mod end;
 mod fault_line;
 mod file;
 mod file_text;
+mod filters;
 mod judge;
 mod limit;
-mod names;
+mod packets;
 mod program;
 mod reason;
 mod say;
 mod tree;
-mod words;
 
 pub use program::top;
 

@@ -1,8 +1,8 @@
 // The program as one call.
 ghost use Rattle.std.specs.Prelude.{◌≡◌, ◌≢◌, ◌≤◌, ◌∷◌, [], length, map, string_bytes, Some, None};
-ghost use Rattle.cacao_site.specs.Counts.{next_count};
+ghost use Rattle.cacao_site.specs.Counts.{Rose, next_count};
 ghost use Rattle.cacao_cli.specs.Asked.{asked};
-ghost use Rattle.cacao_cli.specs.Causes.{CanBeDone, IsMissing, IsPastLimit, IsRefused, IsUnreadable};
+ghost use Rattle.cacao_cli.specs.Causes.{CanBeDone, FindsItDamaged, IsMissing, IsPastLimit, IsRefused, IsUnreadable};
 ghost use Rattle.cacao_cli.specs.Command.{asked_by, end_of};
 ghost use Rattle.cacao_cli.specs.Ended.{Ended, Performed};
 ghost use Rattle.cacao_cli.specs.Exact.{Answers, ComesExactly, IfFilesTold, IfTold, faults_of};
@@ -12,28 +12,33 @@ ghost use Rattle.cacao_cli.specs.Leaves.{Leaves, NoFault, ReadsAtMost};
 use crate::canon::canon;
 use crate::check::check;
 use crate::end::End;
+use crate::filters::{decide, say_rules, say_shadows};
 use crate::say::finish;
-use crate::words::{Command, read_words};
 use cacao_site::{Shelf, Site};
+use cacao_words::{Command, read_words};
 use std::alloc::Global;
 
-/// Does what a command asks, all but the last line.
+/// Does what a command asks, all but the last line. A command that is not built is not understood.
 fn carry_out<'w, L: Shelf, S: Site>(
     alloc: Global,
     command: &Command<'w>,
     shelf: &mut L,
     site: &mut S,
 ) -> End<'w>
-    ensures performed { Performed (Some (asked_by command.entry.now))
+    ensures performed { Performed (asked_by command.entry.now)
         (shelf_call (L.told shelf.old) (L.faults shelf.old) (L.faults shelf.new) (L.reads shelf.old) (L.reads shelf.new))
         (S.view site.old) (S.view site.new) (end_of result) }
     ensures files { L.told shelf.new ≡ L.told shelf.old }
     ensures faults { L.faults shelf.old ≤ L.faults shelf.new }
-    ensures untouched { files_of (Some (asked_by command.entry.now)) ≡ [] → shelf.new ≡ shelf.old }
+    ensures untouched { files_of (asked_by command.entry.now) ≡ [] → shelf.new ≡ shelf.old }
 {
     match command {
         Command::Canon { book } => canon(alloc, book, shelf, site),
         Command::Check { books } => check(alloc, books.as_slice(), shelf, site),
+        Command::Rules { agent } => say_rules(alloc, *agent, site),
+        Command::Decide { agent, packets } => decide(alloc, *agent, packets, shelf, site),
+        Command::Shadow { agent } => say_shadows(alloc, *agent, site),
+        Command::Run { .. } | Command::Show | Command::Rehearse { .. } => End::NotUnderstood,
     }
 }
 
@@ -60,8 +65,8 @@ fn perform<'w, L: Shelf, S: Site>(
 
 /// Does what the words after the program's name ask, says its lines, and answers the exit status.
 ///
-/// Each status but 0 says why: 1 a rule is broken, 2 the words have no reading, 3 the shelf failed, 4 there is no such file, 5 a file has no tree, 9 a line
-/// could not be said, 10 memory was wanted, 11 a limit was passed. Where several causes hold, 2 comes before 11 for too many
+/// Each status but 0 says why: 1 a rule is broken, 2 the words have no reading, 3 the shelf failed, 4 there is no such file, 5 a file has no reading, 8 the
+/// disk failed, 9 a line could not be said, 10 memory was wanted, 11 a limit was passed, 13 a file of the disk is damaged. Where several causes hold, 2 comes before 11 for too many
 /// playbooks, then 3, 4 and 11 of one file before those of the next, all of them before 5, and 5 before 1.
 pub fn top<L: Shelf, S: Site>(alloc: Global, words: &[String], shelf: &mut L, site: &mut S) -> u8
     // All that the call does: what it reads, the work, the lines and the status.
@@ -85,12 +90,16 @@ pub fn top<L: Shelf, S: Site>(alloc: Global, words: &[String], shelf: &mut L, si
         ComesExactly 4 (3 ∷ 9 ∷ 10 ∷ []) (IsMissing files (files_of (asked (map string_bytes words.now)))) result) }
     ensures unreadable { IfFilesTold (files_of (asked (map string_bytes words.now))) (L.told shelf.old) (λ files.
         ComesExactly 5 (3 ∷ 9 ∷ 10 ∷ []) (IsUnreadable (asked (map string_bytes words.now)) files) result) }
+    ensures disk_failed { result ≡ 8 → Rose (S.view site.old).disk.faults (S.view site.new).disk.faults }
     ensures unsaid { result ≡ 9 → (S.view site.new).clock.unsaid ≡ next_count (S.view site.old).clock.unsaid }
     ensures said { result ≢ 9 → (S.view site.new).clock.unsaid ≡ (S.view site.old).clock.unsaid }
-    ensures no_memory { result ≡ 10 → NoFault (L.faults shelf.old) (L.faults shelf.new) (S.view site.old) (S.view site.new) }
+    ensures no_memory { result ≡ 10 → NoFault (asked (map string_bytes words.now)) (L.faults shelf.old) (L.faults shelf.new) (S.view site.old) (S.view site.new) }
     ensures past_limit { IfTold (asked (map string_bytes words.now)) (L.told shelf.old) (S.view site.old) (λ files.
         ComesExactly 11 (faults_of (asked (map string_bytes words.now)))
         (IsPastLimit (asked (map string_bytes words.now)) files (S.view site.old) (S.view site.new)) result) }
+    ensures damaged { IfTold (asked (map string_bytes words.now)) (L.told shelf.old) (S.view site.old) (λ files.
+        ComesExactly 13 (faults_of (asked (map string_bytes words.now)))
+        (FindsItDamaged (asked (map string_bytes words.now)) files (S.view site.old) (S.view site.new)) result) }
 
     // What stays as it was.
     ensures leaves { Leaves (asked (map string_bytes words.now)) (S.view site.old) (S.view site.new) result }

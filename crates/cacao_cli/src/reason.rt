@@ -1,7 +1,7 @@
-// Why a file has no tree.
+// Why a file has no reading.
 use std::fmt;
 
-/// Why the bytes of a file have no tree.
+/// Why the bytes of a file have no reading.
 #[derive(Clone, Copy, Debug, PartialEq, Eq)]
 pub enum Reason {
     /// They are no JSON text of the profile (RFC 8259; at most 127 levels).
@@ -10,6 +10,8 @@ pub enum Reason {
     RepeatedName { colons: u32, members: u32 },
     /// The number of this index, counted from 0, is not whole or past the range of the profile.
     NotWhole { index: u32 },
+    /// The line of this number, counted from 1, is no packet.
+    Line { number: u32 },
 }
 
 impl fmt::Display for Reason {
@@ -25,6 +27,7 @@ impl fmt::Display for Reason {
                 write!(f, "repeated name {colons} {members}")
             }
             Reason::NotWhole { index } => write!(f, "not whole {index}"),
+            Reason::Line { number } => write!(f, "line {number}"),
         }
     }
 }

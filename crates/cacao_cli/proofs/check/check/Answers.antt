@@ -5,7 +5,7 @@ use Rattle.serde_json.specs.Data.{Data}
 use Rattle.cacao_json.specs.Tree.{data_of}
 use Rattle.cacao_site.specs.View.{SiteView}
 use Rattle.cacao_check.specs.declared.breaks.Mode.TheVariants.{Read as Reading}
-use Rattle.cacao_cli.specs.Words.{Text}
+use Rattle.cacao_words.specs.Words.{Text}
 use Rattle.cacao_cli.specs.Command.{end_of, text_of, IsJudgement}
 use Rattle.cacao_cli.specs.Ends.{End, no_memory}
 use Rattle.cacao_cli.specs.Files.{File, ShelfCall, NamedText, book_file}

@@ -5,10 +5,10 @@ use Rattle.cacao_cli.specs.Asked.{asked}
 use Rattle.cacao_cli.specs.Command.{end_of}
 use Rattle.cacao_cli.specs.Ended.{Ended}
 use Rattle.cacao_cli.specs.Files.{ShelfCall}
-use Rattle.cacao_cli.proofs.CountLemmas.{failed-ended, steady-ended, unsaid-ended, said-ended, memory-ended}
+use Rattle.cacao_cli.proofs.CountLemmas.{disk-ended, failed-ended, steady-ended, unsaid-ended, said-ended, memory-ended}
 use Rattle.cacao_cli.proofs.ExactLemmas.{exact-ended}
 use Rattle.cacao_cli.proofs.LeaveLemmas.{leaves-ended, few-ended}
-use Rattle.cacao_cli.proofs.StatusLemmas.{done-ended, words-ended, missing-ended, unreadable-ended, past-ended, refused-ended}
+use Rattle.cacao_cli.proofs.StatusLemmas.{damaged-ended, done-ended, words-ended, missing-ended, unreadable-ended, past-ended, refused-ended}
 use Rattle.cacao_cli.proofs.program.top.Goals as goal
 
 pub returns-clause-exactly : goal.returns-clause-exactly
@@ -93,4 +93,16 @@ pub returns-clause-refused : goal.returns-clause-refused
 returns-clause-refused g c =
     let shelf : ShelfCall = record { told = g.L.Shelf.told c.args.shelf.now; before = g.L.Shelf.faults c.args.shelf.now; after = g.L.Shelf.faults c.perform-end.new.shelf; reads_before = g.L.Shelf.reads c.args.shelf.now; reads_after = g.L.Shelf.reads c.perform-end.new.shelf } in
     refused-ended (asked (map string_bytes c.args.words.now)) shelf (g.S.Disk.view c.args.site.now) (g.S.Disk.view c.finish.new.site) c.finish.result
+    (record { last = end_of c.perform-end.result; between = g.S.Disk.view c.perform-end.new.site; performed = c.perform-end.ensures.performed; tells = c.finish.ensures })
+
+pub returns-clause-disk_failed : goal.returns-clause-disk_failed
+returns-clause-disk_failed g c =
+    let shelf : ShelfCall = record { told = g.L.Shelf.told c.args.shelf.now; before = g.L.Shelf.faults c.args.shelf.now; after = g.L.Shelf.faults c.perform-end.new.shelf; reads_before = g.L.Shelf.reads c.args.shelf.now; reads_after = g.L.Shelf.reads c.perform-end.new.shelf } in
+    disk-ended (asked (map string_bytes c.args.words.now)) shelf (g.S.Disk.view c.args.site.now) (g.S.Disk.view c.finish.new.site) c.finish.result
+    (record { last = end_of c.perform-end.result; between = g.S.Disk.view c.perform-end.new.site; performed = c.perform-end.ensures.performed; tells = c.finish.ensures })
+
+pub returns-clause-damaged : goal.returns-clause-damaged
+returns-clause-damaged g c =
+    let shelf : ShelfCall = record { told = g.L.Shelf.told c.args.shelf.now; before = g.L.Shelf.faults c.args.shelf.now; after = g.L.Shelf.faults c.perform-end.new.shelf; reads_before = g.L.Shelf.reads c.args.shelf.now; reads_after = g.L.Shelf.reads c.perform-end.new.shelf } in
+    damaged-ended (asked (map string_bytes c.args.words.now)) shelf (g.S.Disk.view c.args.site.now) (g.S.Disk.view c.finish.new.site) c.finish.result
     (record { last = end_of c.perform-end.result; between = g.S.Disk.view c.perform-end.new.site; performed = c.perform-end.ensures.performed; tells = c.finish.ensures })

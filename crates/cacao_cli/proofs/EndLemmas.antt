@@ -1,0 +1,62 @@
+-- The status and the line of an end.
+use Rattle.std.proofs.Common.{◌≡◌, ◌∙◌, refl, sym, ap, arith, ℕ, List, [], ◌∷◌, ◌++◌, Option, Some, None}
+use Rattle.cacao_site.specs.View.{SiteView}
+use Rattle.cacao_words.specs.Words.{Text}
+use Rattle.cacao_cli.specs.Ends.{End, status_of, text_of, done, accepted, refused, not_understood, past, shelf_failed, no_such_file, not_readable, damaged, disk_failed, unsaid, no_memory}
+use Rattle.cacao_cli.specs.Lines.{Tells, TellsText}
+
+-- ---- the status and the line of an end
+
+pub end-unsaid : (end : End) → status_of end ≡ 9 → text_of end ≡ None
+end-unsaid done e = refl
+end-unsaid accepted e = absurd (omega (arith, e))
+end-unsaid (refused broken) e = absurd (omega (arith, e))
+end-unsaid not_understood e = absurd (omega (arith, e))
+end-unsaid (past limit) e = absurd (omega (arith, e))
+end-unsaid (shelf_failed name) e = absurd (omega (arith, e))
+end-unsaid (no_such_file name) e = absurd (omega (arith, e))
+end-unsaid (not_readable name reason) e = absurd (omega (arith, e))
+end-unsaid (damaged file place) e = absurd (omega (arith, e))
+end-unsaid disk_failed e = absurd (omega (arith, e))
+end-unsaid unsaid e = refl
+end-unsaid no_memory e = refl
+
+pub end-memory : (end : End) → status_of end ≡ 10 → text_of end ≡ None
+end-memory done e = refl
+end-memory accepted e = absurd (omega (arith, e))
+end-memory (refused broken) e = absurd (omega (arith, e))
+end-memory not_understood e = absurd (omega (arith, e))
+end-memory (past limit) e = absurd (omega (arith, e))
+end-memory (shelf_failed name) e = absurd (omega (arith, e))
+end-memory (no_such_file name) e = absurd (omega (arith, e))
+end-memory (not_readable name reason) e = absurd (omega (arith, e))
+end-memory (damaged file place) e = absurd (omega (arith, e))
+end-memory disk_failed e = absurd (omega (arith, e))
+end-memory unsaid e = refl
+end-memory no_memory e = refl
+
+pub end-failed : (end : End) → status_of end ≡ 3 → (name : Text) × (end ≡ shelf_failed name)
+end-failed done e = absurd (omega (arith, e))
+end-failed accepted e = absurd (omega (arith, e))
+end-failed (refused broken) e = absurd (omega (arith, e))
+end-failed not_understood e = absurd (omega (arith, e))
+end-failed (past limit) e = absurd (omega (arith, e))
+end-failed (shelf_failed name) e = (name, refl)
+end-failed (no_such_file name) e = absurd (omega (arith, e))
+end-failed (not_readable name reason) e = absurd (omega (arith, e))
+end-failed (damaged file place) e = absurd (omega (arith, e))
+end-failed disk_failed e = absurd (omega (arith, e))
+end-failed unsaid e = absurd (omega (arith, e))
+end-failed no_memory e = absurd (omega (arith, e))
+
+-- nothing stands behind an end without a line
+pub no-more : (last end : End) (mid new : SiteView) (answer : ℕ) → last ≡ end → text_of end ≡ None → Tells last mid new answer → (new ≡ mid) × (answer ≡ status_of end)
+no-more last end mid new answer is none h = go (text_of last) (ap text_of is ∙ none) h
+  where
+    go : (text : Option Text) → text ≡ None → TellsText last text mid new answer → (new ≡ mid) × (answer ≡ status_of end)
+    go None e h = (h.same, h.answers ∙ ap status_of is)
+    go (Some text) e h = absurd (cc)
+
+pub no_cons : (front behind : List Text) (first line : Text) → [] ≡ front ++ line ∷ behind → ⊥
+no_cons [] behind first line e = cc
+no_cons (x ∷ front) behind first line e = cc

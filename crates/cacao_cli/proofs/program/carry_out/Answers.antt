@@ -1,0 +1,31 @@
+-- The commands that open a filter, and those that are not built.
+use Rattle.std.proofs.Common.{◌≡◌, refl, sym, ap, subst, Option, None, ⊎_elim}
+use Rattle.cacao_site.specs.View.{SiteView}
+use Rattle.cacao_cli.specs.Asked.{Asked}
+use Rattle.cacao_cli.specs.Command.{asked_by, end_of}
+use Rattle.cacao_cli.specs.Ended.{Performed}
+use Rattle.cacao_cli.specs.Files.{ShelfCall}
+use Rattle.cacao_cli.proofs.PerformLemmas.{performed-none, rules-perform, shadows-perform}
+use Rattle.cacao_cli.proofs.program.carry_out.Goals as goal
+
+pub returns-in-Rules-clause-performed : goal.returns-in-Rules-clause-performed
+returns-in-Rules-clause-performed g c =
+    let shelf : ShelfCall = record { told = g.L.Shelf.told c.args.shelf.now; before = g.L.Shelf.faults c.args.shelf.now; after = g.L.Shelf.faults c.args.shelf.now; reads_before = g.L.Shelf.reads c.args.shelf.now; reads_after = g.L.Shelf.reads c.args.shelf.now } in
+    let old : SiteView = g.S.Disk.view c.args.site.now in
+    let new : SiteView = g.S.Disk.view c.say_rules.new.site in
+    subst (λ (a : Option Asked). Performed a shelf old new (end_of c.say_rules.result)) (sym (ap asked_by c.in-Rules.is))
+    (rules-perform c.in-Rules.agent.number shelf old new (end_of c.say_rules.result) refl refl c.say_rules.ensures)
+
+pub returns-in-Shadow-clause-performed : goal.returns-in-Shadow-clause-performed
+returns-in-Shadow-clause-performed g c =
+    let shelf : ShelfCall = record { told = g.L.Shelf.told c.args.shelf.now; before = g.L.Shelf.faults c.args.shelf.now; after = g.L.Shelf.faults c.args.shelf.now; reads_before = g.L.Shelf.reads c.args.shelf.now; reads_after = g.L.Shelf.reads c.args.shelf.now } in
+    let old : SiteView = g.S.Disk.view c.args.site.now in
+    let new : SiteView = g.S.Disk.view c.say_shadows.new.site in
+    subst (λ (a : Option Asked). Performed a shelf old new (end_of c.say_shadows.result)) (sym (ap asked_by c.in-Shadow.is))
+    (shadows-perform c.in-Shadow.agent.number shelf old new (end_of c.say_shadows.result) refl refl c.say_shadows.ensures)
+
+pub returns-in-Run-clause-performed : goal.returns-in-Run-clause-performed
+returns-in-Run-clause-performed g c =
+    let shelf : ShelfCall = record { told = g.L.Shelf.told c.args.shelf.now; before = g.L.Shelf.faults c.args.shelf.now; after = g.L.Shelf.faults c.args.shelf.now; reads_before = g.L.Shelf.reads c.args.shelf.now; reads_after = g.L.Shelf.reads c.args.shelf.now } in
+    let none : asked_by c.args.command.now ≡ None = ⊎_elim (λ h. ap asked_by h.1) (λ other. ⊎_elim (λ h. ap asked_by h) (λ h. ap asked_by h.1) other) c.in-Run.is in
+    performed-none (asked_by c.args.command.now) shelf (g.S.Disk.view c.args.site.now) none refl refl

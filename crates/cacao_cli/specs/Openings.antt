@@ -1,0 +1,66 @@
+-- What opening a file of the disk does, and what it finds there.
+use Rattle.std.specs.Prelude.{◌≡◌, ℕ, ◌+◌, ◌/◌, ◌≤◌, IsTrue, List, length}
+use Rattle.cacao_site.specs.Counts.{Rose}
+use Rattle.cacao_site.specs.DiskCalls.{IsLeft, OnlyFile}
+use Rattle.cacao_site.specs.View.{SiteView}
+use Rattle.run_records.specs.declared.act.Act.{Act}
+use Rattle.slpf_rules.specs.declared.rules.Rule.{Rule}
+use Rattle.slpf_acts.specs.Acts.{table_of}
+use Rattle.slpf_actuator.specs.ActLists.{IsHistory}
+use Rattle.slpf_actuator.specs.ActuatorView.{HoldsActs}
+use Rattle.slpf_actuator.specs.Damage.{IsDamaged}
+use Rattle.filter_reports.specs.Lines.{AreShadowLines, decision_lines, rule_lines}
+use Rattle.cacao_words.specs.Words.{Text}
+use Rattle.cacao_cli.specs.Ends.{End, damaged, disk_failed, done, no_memory}
+use Rattle.cacao_cli.specs.Lines.{SaysWork}
+use Rattle.cacao_cli.specs.Work.{Look, at_rules, at_decisions, at_shadows}
+
+-- The file was read, and nothing was written: each image that a crash may leave of it on the way was one before. At most three device
+-- calls were made, and one for each 4,096 bytes.
+pub record Opens (file : ℕ) (old new : SiteView) : Type 0 where
+  pub only : OnlyFile file old new (IsLeft old.disk file old.disk.beat)
+  pub calls : IsTrue old.disk.told → new.disk.calls ≤ old.disk.calls + 3 + length (new.disk.reads file) / 4096
+  pub written : new.disk.written ≤ old.disk.written
+
+-- the lines of a filter with these rules
+abbrev pub AreLines : Look → List Rule → List Text → Type 0
+AreLines at_rules rules lines = lines ≡ rule_lines rules
+AreLines (at_decisions packets) rules lines = lines ≡ decision_lines packets rules
+AreLines at_shadows rules lines = AreShadowLines rules lines
+
+-- the file was opened, it holds acts, and the lines of their table were said
+pub record SaysFilter (agent : ℕ) (look : Look) (old new : SiteView) (last : End) : Type 0 where
+  pub between : SiteView
+  pub opens : Opens agent old between
+  pub acts : List Act
+  pub history : IsHistory acts
+  pub holds : IsTrue old.disk.told → HoldsActs acts (between.disk.reads agent)
+  pub lines : List Text
+  pub are : AreLines look (table_of acts) lines
+  pub says : SaysWork lines done between new last
+
+-- the file was opened, and it is damaged
+pub record FindsDamage (agent : ℕ) (old new : SiteView) (last : End) : Type 0 where
+  pub opens : Opens agent old new
+  pub place : ℕ
+  pub is_damaged : IsTrue old.disk.told → IsDamaged (new.disk.reads agent) place
+  pub ends : last ≡ damaged agent place
+
+-- the disk failed while the file was opened
+pub record FailsToOpen (file : ℕ) (old new : SiteView) (last : End) : Type 0 where
+  pub opens : Opens file old new
+  pub cause : Rose old.disk.faults new.disk.faults
+  pub ends : last ≡ disk_failed
+
+-- memory was wanted while the file was opened or for the lines, and nothing was said
+pub record WantsToOpen (file : ℕ) (old new : SiteView) (last : End) : Type 0 where
+  pub opens : Opens file old new
+  pub ends : last ≡ no_memory
+
+-- the file of the agent holds acts of a filter
+abbrev pub HoldsFilter : ℕ → SiteView → Type 0
+HoldsFilter agent site = (acts : List Act) × IsHistory acts × HoldsActs acts (site.disk.reads agent)
+
+-- the file of the agent holds none
+abbrev pub IsDamagedFilter : ℕ → SiteView → Type 0
+IsDamagedFilter agent site = (place : ℕ) × IsDamaged (site.disk.reads agent) place
