@@ -5,9 +5,9 @@ use Rattle.serde_json.specs.Data.{Data}
 use Rattle.cacao_json.specs.Reading.{tree}
 use Rattle.cacao_site.specs.View.{SiteView}
 use Rattle.cacao_words.specs.Words.{Text}
-use Rattle.cacao_cli.specs.Ends.{End, most, status_of, no_such_file, past, not_readable}
-use Rattle.cacao_cli.specs.Files.{File, Files, Content, NamedText, whole, too_long, named, text_in, item_then, content_in, reading}
-use Rattle.cacao_cli.specs.Work.{Work, ends, or_end, tree_of, trees_of}
+use Rattle.cacao_cli.specs.Ends.{End, most, no_such_file, past, not_readable}
+use Rattle.cacao_cli.specs.Files.{File, Files, NamedText, whole, too_long, named, text_in, item_then, content_in, reading}
+use Rattle.cacao_cli.specs.Work.{Work, ends, or_end, trees_of}
 use Rattle.cacao_cli.specs.Exact.{IsOneOf, ComesExactly}
 use Rattle.cacao_cli.specs.Causes.{IsWithin, AllWithin, First, IsMissing, IsTooLong, Trees, SomeTreeless}
 use Rattle.cacao_cli.specs.declared.limit.Limit.{Limit}

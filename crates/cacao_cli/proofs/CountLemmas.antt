@@ -1,5 +1,5 @@
 -- Which counts a call raises, and which statuses come of which work.
-use Rattle.std.proofs.Common.{◌≡◌, ◌≢◌, ◌⊎◌, inl, inr, ◌∙◌, refl, sym, ap, subst, arith, ℕ, ◌≤◌, ◌==◌, Bool, true, false, List, [], ◌∷◌, ◌++◌, map, Option, Some, None, Result, Ok, Err}
+use Rattle.std.proofs.Common.{◌≡◌, ◌⊎◌, inl, inr, ◌∙◌, refl, sym, ap, subst, arith, ℕ, ◌≤◌, ◌==◌, Bool, true, false, List, [], ◌∷◌, map, Option, Some, None, Result, Ok, Err}
 use Rattle.std.specs.Prelude.{if◌then◌else◌}
 use Rattle.std.proofs.lemmas.Bool.{true≢false}
 use Rattle.serde_json.specs.Data.{Data}
@@ -9,11 +9,11 @@ use Rattle.cacao_check.specs.declared.breaks.Mode.TheVariants.{Read as Reading}
 use Rattle.oc2_nets.specs.declared.packets.Packet.{Packet}
 use Rattle.filter_reports.specs.PacketFiles.{packets_of}
 use Rattle.cacao_words.specs.Words.{Text}
-use Rattle.cacao_cli.specs.Asked.{Asked, canonises, checks, lists_rules, decides, shadows}
-use Rattle.cacao_cli.specs.Ends.{End, status_of, text_of, is_fault, done, accepted, refused, past, shelf_failed, no_such_file, not_readable, unsaid, no_memory}
-use Rattle.cacao_cli.specs.Files.{File, Files, Content, ShelfCall, NamedText, Reads, Gives, all_read, wants_memory, stops, goes_on, text_in, item_then, named, whole, missing, too_long, failed, no_room, faults_behind, files_of, named_by, has_too_many}
-use Rattle.cacao_cli.specs.Lines.{SaysLine, FailsToSay, SaysAll, SaysWork, Tells, TellsText}
-use Rattle.cacao_cli.specs.Work.{Work, ends, judges, opens_filter, at_decisions, or_end, packets_in, packets_or_end, trees_of, canon_line, work, work_on}
+use Rattle.cacao_cli.specs.Asked.{Asked, canonises, checks, shows, lists_rules, decides, shadows}
+use Rattle.cacao_cli.specs.Ends.{End, status_of, text_of, is_fault, done, accepted, refused, past, shelf_failed, no_such_file, unsaid, no_memory}
+use Rattle.cacao_cli.specs.Files.{File, Files, Content, ShelfCall, NamedText, Reads, all_read, wants_memory, stops, goes_on, text_in, item_then, named, whole, missing, too_long, failed, no_room, faults_behind, files_of, named_by, has_too_many}
+use Rattle.cacao_cli.specs.Lines.{SaysWork, Tells}
+use Rattle.cacao_cli.specs.Work.{Work, ends, judges, opens_filter, opens_run, at_decisions, or_end, packets_or_end, trees_of, canon_line, work, work_on}
 use Rattle.cacao_cli.specs.Ended.{Performs, Performed, Ended}
 use Rattle.cacao_cli.specs.Exact.{IsOneOf}
 use Rattle.cacao_cli.specs.Leaves.{NoDiskFault, NoFault}
@@ -23,6 +23,7 @@ use Rattle.cacao_cli.proofs.ExactLemmas.{Comes, IsPlain, performs-comes}
 use Rattle.cacao_cli.proofs.EndLemmas.{end-failed, no-more, no_cons}
 use Rattle.cacao_cli.proofs.LeaveLemmas.{IsBrief, silent, one_line, judged, brief-canon, brief-check}
 use Rattle.cacao_cli.proofs.OpenLemmas.{opens-grows, opens-said, opens-unsaid, opens-failed}
+use Rattle.cacao_cli.proofs.RunLemmas.{run-failed, run-grows, run-said, run-unsaid, shown-other}
 use Rattle.cacao_cli.proofs.UnsaidLemmas.{last-disk, last-said, last-unsaid, works-disk, works-said, works-unsaid}
 use Rattle.cacao_cli.proofs.LineLemmas.{IsCutOff, tells-status}
 use Rattle.cacao_cli.proofs.ReadLemmas.{Read, empty-read}
@@ -33,6 +34,7 @@ performs-disk (judges trees mode kept) old mid last plain (inl h) = performs-dis
 performs-disk (judges trees mode kept) old mid last plain (inr (inl h)) = ap (λ (s : SiteView). s.disk.faults) h.same
 performs-disk (judges trees mode kept) old mid last plain (inr (inr h)) = ap (λ (s : SiteView). s.disk.faults) h.same
 performs-disk (opens_filter agent look) old mid last plain h = absurd plain
+performs-disk opens_run old mid last plain h = absurd plain
 
 same-grows : (n m : ℕ) → m ≡ n → n ≤ m
 same-grows n m e = omega (arith, e)
@@ -43,6 +45,7 @@ performs-grows (judges trees mode kept) old mid last (inl h) = performs-grows ke
 performs-grows (judges trees mode kept) old mid last (inr (inl h)) = same-grows old.disk.faults mid.disk.faults (ap (λ (s : SiteView). s.disk.faults) h.same)
 performs-grows (judges trees mode kept) old mid last (inr (inr h)) = same-grows old.disk.faults mid.disk.faults (ap (λ (s : SiteView). s.disk.faults) h.same)
 performs-grows (opens_filter agent look) old mid last h = opens-grows agent look old mid last h
+performs-grows opens_run old mid last h = run-grows old mid mid last 0 h
 
 performs-said : (w : Work) (old mid new : SiteView) (last : End) (answer : ℕ) → Performs w old mid last → Tells last mid new answer → (answer ≡ 9 → ⊥) → new.clock.unsaid ≡ old.clock.unsaid
 performs-said (ends lines end) old mid new last answer h tells unlike = works-said lines end old mid new last answer h tells unlike
@@ -50,12 +53,14 @@ performs-said (judges trees mode kept) old mid new last answer (inl h) tells unl
 performs-said (judges trees mode kept) old mid new last answer (inr (inl h)) tells unlike = last-said last (text_of last) mid new answer tells unlike ∙ ap (λ (s : SiteView). s.clock.unsaid) h.same
 performs-said (judges trees mode kept) old mid new last answer (inr (inr h)) tells unlike = last-said last (text_of last) mid new answer tells unlike ∙ ap (λ (s : SiteView). s.clock.unsaid) h.same
 performs-said (opens_filter agent look) old mid new last answer h tells unlike = opens-said agent look old mid new last answer h tells unlike
+performs-said opens_run old mid new last answer h tells unlike = run-said old mid new last answer h tells unlike
 
 -- the work ends with other statuses than 2, 3, 8 and 9
 abbrev pub IsOther : Work → Type 0
 IsOther (ends lines end) = (status_of end ≡ 2 → ⊥) × (status_of end ≡ 3 → ⊥) × (status_of end ≡ 9 → ⊥) × (status_of end ≡ 8 → ⊥)
 IsOther (judges trees mode kept) = IsOther kept
 IsOther (opens_filter agent look) = Unit {0}
+IsOther opens_run = Unit {0}
 
 other-status : (w : Work) (old new : SiteView) (n : ℕ) → IsOther w → Comes w old new n → (n ≡ 2 → ⊥) × (n ≡ 3 → ⊥) × (n ≡ 9 → ⊥)
 other-status (ends lines end) old new n h is = (λ e. h.0 (sym is ∙ e), λ e. h.1 (sym is ∙ e), λ e. h.2 (sym is ∙ e))
@@ -64,17 +69,24 @@ other-status (judges trees mode kept) old new n h (inr is) = (λ e. omega (arith
 other-status (opens_filter agent look) old new n h (inl (inl is)) = (λ e. omega (arith, e, is.1), λ e. omega (arith, e, is.1), λ e. omega (arith, e, is.1))
 other-status (opens_filter agent look) old new n h (inl (inr is)) = (λ e. omega (arith, e, is.1), λ e. omega (arith, e, is.1), λ e. omega (arith, e, is.1))
 other-status (opens_filter agent look) old new n h (inr is) = (λ e. omega (arith, e, is), λ e. omega (arith, e, is), λ e. omega (arith, e, is))
+other-status opens_run old new n h is = (
+  λ e. shown-other old new n 2 is e (λ f. omega (arith, f)) (λ f. omega (arith, f)) (λ f. omega (arith, f)) (λ f. omega (arith, f)),
+  λ e. shown-other old new n 3 is e (λ f. omega (arith, f)) (λ f. omega (arith, f)) (λ f. omega (arith, f)) (λ f. omega (arith, f)),
+  λ e. shown-other old new n 9 is e (λ f. omega (arith, f)) (λ f. omega (arith, f)) (λ f. omega (arith, f)) (λ f. omega (arith, f)),
+)
 
 -- neither 8 nor 9 is told as the end of lines
 abbrev pub NotUnsaid : Work → Type 0
 NotUnsaid (ends lines end) = (status_of end ≡ 9 → ⊥) × (status_of end ≡ 8 → ⊥)
 NotUnsaid (judges trees mode kept) = NotUnsaid kept
 NotUnsaid (opens_filter agent look) = Unit {0}
+NotUnsaid opens_run = Unit {0}
 
 other-said : (w : Work) → IsOther w → NotUnsaid w
 other-said (ends lines end) h = (h.2, h.3)
 other-said (judges trees mode kept) h = other-said kept h
 other-said (opens_filter agent look) h = tt
+other-said opens_run h = tt
 
 performs-unsaid : (w : Work) (old mid new : SiteView) (last : End) (answer : ℕ) → NotUnsaid w → Performs w old mid last → Tells last mid new answer → answer ≡ 9 → new.clock.unsaid ≡ next_count old.clock.unsaid
 performs-unsaid (ends lines end) old mid new last answer other h tells e = works-unsaid lines end old mid new last answer other.0 h tells e
@@ -83,6 +95,7 @@ performs-unsaid (judges trees mode kept) old mid new last answer other (inr (inl
     last-unsaid last (text_of last) mid new answer (λ is. let k : status_of last ≡ 1 = ap status_of h.ends in omega (arith, is, k)) tells e ∙ ap (λ (s : SiteView). next_count s.clock.unsaid) h.same
 performs-unsaid (judges trees mode kept) old mid new last answer other (inr (inr h)) tells e = absurd (omega (arith, e, (no-more last no_memory mid new answer h.ends refl tells).1))
 performs-unsaid (opens_filter agent look) old mid new last answer other h tells e = opens-unsaid agent look old mid new last answer h tells e
+performs-unsaid opens_run old mid new last answer other h tells e = run-unsaid old mid new last answer h tells e
 
 eight : (end : End) (last : End) (mid new : SiteView) (answer : ℕ) → last ≡ end → (status_of end ≡ 8 → ⊥) → Tells last mid new answer → answer ≡ 8 → ⊥
 eight end last mid new answer is other tells e = go (tells-status last mid new answer tells)
@@ -101,6 +114,7 @@ performs-failed (judges trees mode kept) old mid new last answer other (inl h) t
 performs-failed (judges trees mode kept) old mid new last answer other (inr (inl h)) tells e = absurd (eight (refused h.broken) last mid new answer h.ends (λ f. omega (arith, f)) tells e)
 performs-failed (judges trees mode kept) old mid new last answer other (inr (inr h)) tells e = absurd (eight no_memory last mid new answer h.ends (λ f. omega (arith, f)) tells e)
 performs-failed (opens_filter agent look) old mid new last answer other h tells e = opens-failed agent look old mid new last answer h tells e
+performs-failed opens_run old mid new last answer other h tells e = run-failed old mid new last answer h tells e
 
 -- ---- the statuses of the work
 
@@ -132,6 +146,7 @@ trees-other texts does so = go (trees_case texts)
 texts-other : (asked : Asked) (texts : List NamedText) → IsOther (work_on asked texts)
 texts-other (canonises book) texts = trees-other texts (λ roots. ends (map canon_line roots) done) (λ roots. (λ e. omega (arith, e), λ e. omega (arith, e), λ e. omega (arith, e), λ e. omega (arith, e)))
 texts-other (checks books) texts = trees-other texts (λ roots. judges roots Reading (ends [] accepted)) (λ roots. (λ e. omega (arith, e), λ e. omega (arith, e), λ e. omega (arith, e), λ e. omega (arith, e)))
+texts-other shows texts = tt
 texts-other (lists_rules agent) texts = tt
 texts-other (shadows agent) texts = tt
 texts-other (decides agent packets) [] = tt
@@ -301,6 +316,7 @@ no-disk-fault asked shelf old new answer h = by asked h.performed
     by None p = plain None p tt
     by (Some (canonises book)) p = plain (Some (canonises book)) p (brief-plain (work (Some (canonises book)) p.read) (brief-canon book shelf.told p.reads.count p.read p.reads.reads))
     by (Some (checks books)) p = plain (Some (checks books)) p (brief-plain (work (Some (checks books)) p.read) (brief-check books p.read))
+    by (Some shows) p = grows (Some shows) p
     by (Some (lists_rules agent)) p = grows (Some (lists_rules agent)) p
     by (Some (decides agent packets)) p = grows (Some (decides agent packets)) p
     by (Some (shadows agent)) p = grows (Some (shadows agent)) p

@@ -1,21 +1,22 @@
 -- The status is that of the work that the files call for, but for faults.
-use Rattle.std.proofs.Common.{◌≡◌, ◌⊎◌, inl, inr, ◌∙◌, refl, sym, ap, subst, arith, ℕ, Bool, true, false, List, [], ◌∷◌, Option, Some, None, Result, Ok, Err}
-use Rattle.std.specs.Prelude.{IfSome, IsTrue, if◌then◌else◌, map}
+use Rattle.std.proofs.Common.{◌≡◌, ◌⊎◌, inl, inr, ◌∙◌, refl, sym, ap, subst, ℕ, Bool, true, false, List, [], ◌∷◌, Option, Some, None, Result, Ok, Err}
+use Rattle.std.specs.Prelude.{IsTrue, if◌then◌else◌, map}
 use Rattle.serde_json.specs.Data.{Data}
 use Rattle.cacao_check.specs.FirstBreak.{IsAccepted}
 use Rattle.cacao_check.specs.declared.breaks.Mode.TheVariants.{Read as Reading}
 use Rattle.cacao_site.specs.View.{SiteView}
 use Rattle.cacao_words.specs.Words.{Text}
-use Rattle.cacao_cli.specs.Asked.{Asked, canonises, checks, lists_rules, decides, shadows}
+use Rattle.cacao_cli.specs.Asked.{Asked, canonises, checks, shows, lists_rules, decides, shadows}
 use Rattle.cacao_cli.specs.Ends.{End, status_of, accepted, done, past, shelf_failed, no_memory}
-use Rattle.cacao_cli.specs.Files.{File, Files, ShelfCall, NamedText, Reads, files_of, named_by, has_too_many, reading}
+use Rattle.cacao_cli.specs.Files.{File, Files, ShelfCall, Reads, files_of, named_by, has_too_many, reading}
 use Rattle.cacao_cli.specs.Lines.{Tells}
-use Rattle.cacao_cli.specs.Work.{Work, ends, judges, opens_filter, or_end, canon_line, trees_of, work, work_on}
+use Rattle.cacao_cli.specs.Work.{Work, ends, judges, opens_filter, opens_run, or_end, canon_line, trees_of, work, work_on}
 use Rattle.cacao_cli.specs.Ended.{Performs, Performed, Ended}
 use Rattle.cacao_cli.specs.Exact.{IsBroken, IsOneOf, IfFilesTold, IfTold, HasStatus, Answers, file_faults, faults_of}
 use Rattle.cacao_cli.specs.declared.limit.Limit.TheVariants.{BookCount}
 use Rattle.cacao_cli.proofs.LineLemmas.{IsCutOff, cut-among, says-status, tells-status}
 use Rattle.cacao_cli.proofs.OpenLemmas.{ComesOpened, opens-comes}
+use Rattle.cacao_cli.proofs.RunLemmas.{ComesShown, run-comes}
 use Rattle.cacao_cli.proofs.ReadLemmas.{Read, Fails, by_shelf, by_memory, empty-read, reads-told}
 
 -- what may come of the work, whatever the disk tells
@@ -23,11 +24,13 @@ abbrev pub Comes : Work → SiteView → SiteView → ℕ → Type 0
 Comes (ends lines end) old new n = n ≡ status_of end
 Comes (judges trees mode kept) old new n = (IsAccepted trees mode × Comes kept old new n) ⊎ (IsBroken trees mode × (n ≡ 1))
 Comes (opens_filter agent look) old new n = ComesOpened agent old new n
+Comes opens_run old new n = ComesShown old new n
 
 -- the work was done, so the status is that of the work, or a line could not be said or memory was wanted
 pub performs-comes : (w : Work) (old mid new : SiteView) (last : End) (answer : ℕ) → Performs w old mid last → Tells last mid new answer → Comes w old new answer ⊎ IsCutOff answer
 performs-comes (ends lines end) old mid new last answer p tells = says-status lines end old mid new last answer p tells
 performs-comes (opens_filter agent look) old mid new last answer p tells = opens-comes agent look old mid new last answer p tells
+performs-comes opens_run old mid new last answer p tells = run-comes old mid new last answer p tells
 performs-comes (judges trees mode kept) old mid new last answer (inl (is_kept, p)) tells = go (performs-comes kept old mid new last answer p tells)
   where
     go : Comes kept old new answer ⊎ IsCutOff answer → Comes (judges trees mode kept) old new answer ⊎ IsCutOff answer
@@ -107,6 +110,7 @@ abbrev pub IsDiskTold : Option Asked → SiteView → Type 0
 IsDiskTold None old = Unit {0}
 IsDiskTold (Some (canonises book)) old = Unit {0}
 IsDiskTold (Some (checks books)) old = Unit {0}
+IsDiskTold (Some shows) old = IsTrue old.disk.told
 IsDiskTold (Some (lists_rules agent)) old = IsTrue old.disk.told
 IsDiskTold (Some (decides agent packets)) old = IsTrue old.disk.told
 IsDiskTold (Some (shadows agent)) old = IsTrue old.disk.told
@@ -116,6 +120,7 @@ abbrev pub IsPlain : Work → Type 0
 IsPlain (ends lines end) = Unit {0}
 IsPlain (judges trees mode kept) = IsPlain kept
 IsPlain (opens_filter agent look) = ⊥
+IsPlain opens_run = ⊥
 
 trees-plain : (r : Result (List Data) End) (does : List Data → Work) → ((roots : List Data) → IsPlain (does roots)) → IsPlain (or_end r does)
 trees-plain (Err end) does so = tt
@@ -139,6 +144,7 @@ pub if-asked : (asked : Option Asked) (told : Option Files) (old : SiteView) (P 
 if-asked None told old P h = if-told [] told P (h tt)
 if-asked (Some (canonises book)) told old P h = if-told (files_of (Some (canonises book))) told P (h tt)
 if-asked (Some (checks books)) told old P h = if-told (files_of (Some (checks books))) told P (h tt)
+if-asked (Some shows) told old P h = λ disk files. h disk files (by_none refl)
 if-asked (Some (lists_rules agent)) told old P h = λ disk files. h disk files (by_none refl)
 if-asked (Some (shadows agent)) told old P h = λ disk files. h disk files (by_none refl)
 if-asked (Some (decides agent packets)) told old P h = λ disk. if-told (files_of (Some (decides agent packets))) told P (h disk)
@@ -148,6 +154,7 @@ pub faults-with : (asked : Option Asked) (answer : ℕ) → IsOneOf answer (file
 faults-with None answer h = h
 faults-with (Some (canonises book)) answer h = h
 faults-with (Some (checks books)) answer h = h
+faults-with (Some shows) answer h = inr h
 faults-with (Some (lists_rules agent)) answer h = inr h
 faults-with (Some (shadows agent)) answer h = inr h
 faults-with (Some (decides agent packets)) answer (inl e) = inl e
@@ -159,6 +166,7 @@ plain-status (ends lines end) old new n plain h = h
 plain-status (judges trees mode kept) old new n plain (inl h) = inl (h.0, plain-status kept old new n plain h.1)
 plain-status (judges trees mode kept) old new n plain (inr h) = inr h
 plain-status (opens_filter agent look) old new n plain h = absurd plain
+plain-status opens_run old new n plain h = absurd plain
 
 -- over a disk that is told, what comes is the status, or 8
 pub told-status : (w : Work) (old new : SiteView) (n : ℕ) → IsTrue old.disk.told → Comes w old new n → HasStatus w old new n ⊎ (n ≡ 8)
@@ -172,6 +180,10 @@ told-status (judges trees mode kept) old new n told (inr h) = inl (inr h)
 told-status (opens_filter agent look) old new n told (inl (inl h)) = inl (inl (h.0 told, h.1))
 told-status (opens_filter agent look) old new n told (inl (inr h)) = inl (inr (h.0 told, h.1))
 told-status (opens_filter agent look) old new n told (inr e) = inr e
+told-status opens_run old new n told (inl h) = inl (inl (h.0 told, h.1))
+told-status opens_run old new n told (inr (inl h)) = inl (inr (inl (h.0 told, h.1)))
+told-status opens_run old new n told (inr (inr (inl h))) = inl (inr (inr (h.0 told, h.1)))
+told-status opens_run old new n told (inr (inr (inr e))) = inr e
 
 -- the status of a call over files and a disk that are told
 abbrev pub Answered : Option Asked → Files → SiteView → SiteView → ℕ → Type 0
@@ -196,6 +208,7 @@ status-told asked files shelf old new answer disk seen ended = go asked disk (st
     go None told h = plain None tt h
     go (Some (canonises book)) told h = plain (Some (canonises book)) (canon-plain book files) h
     go (Some (checks books)) told h = plain (Some (checks books)) (check-plain books files) h
+    go (Some shows) told h = opened (Some shows) told (λ e. inl e) h
     go (Some (lists_rules agent)) told h = opened (Some (lists_rules agent)) told (λ e. inl e) h
     go (Some (shadows agent)) told h = opened (Some (shadows agent)) told (λ e. inl e) h
     go (Some (decides agent packets)) told h = opened (Some (decides agent packets)) told (λ e. inr (inl e)) h

@@ -1,5 +1,5 @@
 -- The first break of playbooks, from the breaks that their readers tell.
-use Rattle.std.proofs.Common.{◌≡◌, ◌⊎◌, inl, inr, ◌∙◌, refl, sym, ap, subst, arith, ℕ, zero, suc, ◌<◌, List, [], ◌∷◌, ◌++◌, length, map, Option, Some, None}
+use Rattle.std.proofs.Common.{◌≡◌, inl, inr, ◌∙◌, refl, sym, ap, subst, arith, ℕ, zero, suc, ◌<◌, List, [], ◌∷◌, ◌++◌, length, map, Option, Some}
 use Rattle.std.specs.Prelude.{IfSome, option_and_then, slice_get}
 use Rattle.serde_json.specs.Data.{Data}
 use Rattle.cacao_book.specs.declared.books.Book.{Book}

@@ -1,8 +1,7 @@
 -- What a call leaves as it was, and which counts it raises.
-use Rattle.std.proofs.Common.{◌≡◌, ◌≢◌, ◌⊎◌, suc, inl, inr, ◌∙◌, refl, sym, ap, subst, arith, ℕ, ◌==◌, Bool, true, false, List, [], ◌∷◌, ◌++◌, length, map, Option, Some, None, Result, Ok, Err}
-use Rattle.std.specs.Prelude.{if◌then◌else◌, codes}
+use Rattle.std.proofs.Common.{◌≡◌, suc, inl, inr, ◌∙◌, refl, sym, ap, subst, arith, ℕ, Bool, true, false, List, [], ◌∷◌, ◌++◌, length, map, Option, Some, None, Result, Ok, Err}
+use Rattle.std.specs.Prelude.{if◌then◌else◌}
 use Rattle.serde_json.specs.Data.{Data}
-use Rattle.cacao_site.specs.Counts.{next_count}
 use Rattle.cacao_site.specs.SayCalls.{SaysOnly}
 use Rattle.cacao_site.specs.View.{SiteView}
 use Rattle.cacao_check.specs.declared.breaks.Mode.{Mode}
@@ -10,18 +9,18 @@ use Rattle.cacao_check.specs.declared.breaks.Mode.TheVariants.{Read as Reading}
 use Rattle.oc2_nets.specs.declared.packets.Packet.{Packet}
 use Rattle.filter_reports.specs.PacketFiles.{packets_of}
 use Rattle.cacao_words.specs.Words.{Text}
-use Rattle.cacao_cli.specs.Asked.{Asked, canonises, checks, lists_rules, decides, shadows}
-use Rattle.cacao_cli.specs.Ends.{End, status_of, text_of, is_fault, done, accepted, refused, not_understood, past, shelf_failed, no_such_file, not_readable, unsaid, no_memory}
-use Rattle.cacao_cli.specs.Files.{File, Files, Content, ShelfCall, NamedText, Reads, ReadsTo, Gives, all_read, wants_memory, stops, goes_on, text_in, item_then, whole, missing, too_long, failed, no_room, faults_behind, files_of, named_by, has_too_many, counted}
-use Rattle.cacao_cli.specs.Lines.{SaysLine, FailsToSay, SaysAll, SaysWork, Tells, TellsText}
-use Rattle.cacao_cli.specs.Work.{Work, ends, judges, opens_filter, at_rules, at_shadows, at_decisions, or_end, packets_or_end, tree_of, tree_or_end, trees_of, canon_line, work, work_on}
+use Rattle.cacao_cli.specs.Asked.{Asked, canonises, checks, shows, lists_rules, decides, shadows}
+use Rattle.cacao_cli.specs.Ends.{End, text_of, done, accepted, not_understood, past, not_readable, unsaid}
+use Rattle.cacao_cli.specs.Files.{File, Files, ShelfCall, NamedText, Reads, all_read, wants_memory, stops, goes_on, item_then, files_of, has_too_many}
+use Rattle.cacao_cli.specs.Lines.{SaysAll, Tells, TellsText}
+use Rattle.cacao_cli.specs.Work.{Work, ends, judges, opens_filter, opens_run, at_rules, at_shadows, at_decisions, or_end, packets_or_end, tree_of, trees_of, canon_line, work, work_on}
 use Rattle.cacao_cli.specs.Ended.{Performs, Performed, Ended}
-use Rattle.cacao_cli.specs.Exact.{IsOneOf}
 use Rattle.cacao_cli.specs.Leaves.{SaysAtMostOnce, Leaves, ReadsAtMost, WritesNothing}
 use Rattle.cacao_cli.specs.declared.limit.Limit.TheVariants.{BookCount}
 use Rattle.cacao_cli.specs.declared.reason.Reason.TheVariants.{Line}
 use Rattle.cacao_cli.proofs.EndLemmas.{end-unsaid, end-memory, no-more, no_cons}
 use Rattle.cacao_cli.proofs.OpenLemmas.{nothing-written, opens-refl, work-some, writes-nothing}
+use Rattle.cacao_cli.proofs.RunLemmas.{run-leaves}
 use Rattle.cacao_cli.proofs.ReadLemmas.{Read, reads-few, empty-read}
 
 -- ---- what is said by a command that says one line
@@ -124,6 +123,9 @@ brief-check books read = go (has_too_many (checks books))
 
 -- ---- the commands that open a filter
 
+pub show-performed : (shelf : ShelfCall) (old mid : SiteView) (last : End) → Performed (Some shows) shelf old mid last → Performs opens_run old mid last
+show-performed shelf old mid last p = subst (λ (r : Read). Performs (or_end r (work_on shows)) old mid last) (empty-read shelf.told p.reads.count p.read p.reads.reads).1 p.performs
+
 pub rules-performed : (agent : ℕ) (shelf : ShelfCall) (old mid : SiteView) (last : End) → Performed (Some (lists_rules agent)) shelf old mid last → Performs (opens_filter agent at_rules) old mid last
 rules-performed agent shelf old mid last p = subst (λ (r : Read). Performs (or_end r (work_on (lists_rules agent))) old mid last) (empty-read shelf.told p.reads.count p.read p.reads.reads).1 p.performs
 
@@ -144,6 +146,7 @@ leaves-ended None shelf old new answer h = brief-once (ends [] not_understood) o
 leaves-ended (Some (canonises book)) shelf old new answer h = brief-once (work (Some (canonises book)) h.performed.read) old h.between new h.last answer
     (brief-canon book shelf.told h.performed.reads.count h.performed.read h.performed.reads.reads) h.performed.performs h.tells
 leaves-ended (Some (checks books)) shelf old new answer h = brief-once (work (Some (checks books)) h.performed.read) old h.between new h.last answer (brief-check books h.performed.read) h.performed.performs h.tells
+leaves-ended (Some shows) shelf old new answer h = run-leaves old h.between new h.last answer (show-performed shelf old h.between h.last h.performed) h.tells
 leaves-ended (Some (lists_rules agent)) shelf old new answer h = writes-nothing agent at_rules old h.between new h.last answer (rules-performed agent shelf old h.between h.last h.performed) h.tells
 leaves-ended (Some (decides agent packets)) shelf old new answer h = decide-leaves agent packets old h.between new h.last answer h.performed.read h.performed.performs h.tells
 leaves-ended (Some (shadows agent)) shelf old new answer h = writes-nothing agent at_shadows old h.between new h.last answer (shadows-performed agent shelf old h.between h.last h.performed) h.tells

@@ -10,6 +10,7 @@ pub mod OpenLemmas
 pub mod PacketLemmas
 pub mod PerformLemmas
 pub mod ReadLemmas
+pub mod RunLemmas
 pub mod SayingLemmas
 pub mod StatusLemmas
 pub mod TreeLemmas

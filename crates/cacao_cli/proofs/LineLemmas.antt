@@ -1,8 +1,8 @@
 -- What is said, and the status that comes of it.
-use Rattle.std.proofs.Common.{◌≡◌, ◌⊎◌, inl, inr, refl, sym, subst, ℕ, Bool, true, false, List, [], ◌∷◌, Option, Some, None}
+use Rattle.std.proofs.Common.{◌≡◌, ◌⊎◌, inl, inr, refl, sym, subst, ℕ, List, [], ◌∷◌, Option, Some, None}
 use Rattle.cacao_site.specs.View.{SiteView}
 use Rattle.cacao_words.specs.Words.{Text}
-use Rattle.cacao_cli.specs.Ends.{End, status_of, text_of, unsaid, no_memory}
+use Rattle.cacao_cli.specs.Ends.{End, status_of, text_of}
 use Rattle.cacao_cli.specs.Exact.{IsOneOf}
 use Rattle.cacao_cli.specs.Files.{File}
 use Rattle.cacao_cli.specs.Exact.{file_faults}

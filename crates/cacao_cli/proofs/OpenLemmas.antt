@@ -1,22 +1,18 @@
 -- A file of the disk is opened, and something is said of it.
-use Rattle.std.proofs.Common.{◌≡◌, ◌⊎◌, ◌∙◌, inl, inr, refl, sym, ap, subst, arith, ℕ, ◌+◌, ◌/◌, ◌≤◌, ◌==◌, Bool, true, false, List, [], ◌∷◌, length, Option, Some, None}
+use Rattle.std.proofs.Common.{◌≡◌, ◌⊎◌, ◌∙◌, inl, inr, refl, sym, ap, subst, arith, ℕ, ◌+◌, ◌/◌, ◌≤◌, ◌==◌, Bool, true, false, List, length, Option, Some, None}
 use Rattle.std.specs.Prelude.{IfSome, IsTrue}
 use Rattle.cacao_site.specs.Counts.{Rose, next_count}
-use Rattle.cacao_site.specs.DiskCalls.{EachBeat, IsLeft, KeepsDisk, OnlyFile}
+use Rattle.cacao_site.specs.DiskCalls.{EachBeat, IsLeft, KeepsDisk}
 use Rattle.cacao_site.specs.View.{SiteView}
 use Rattle.cacao_site.proofs.Beats.{each-keeps, each-stays, since-start}
-use Rattle.run_records.specs.declared.act.Act.{Act}
-use Rattle.slpf_acts.specs.Acts.{table_of}
-use Rattle.slpf_actuator.specs.ActLists.{IsHistory}
 use Rattle.slpf_actuator.specs.ActuatorView.{HoldsActs}
 use Rattle.slpf_actuator.specs.Damage.{IsDamaged}
 use Rattle.cacao_words.specs.Words.{Text}
 use Rattle.cacao_cli.specs.Ends.{End, status_of, text_of, damaged, disk_failed, done, no_memory, unsaid}
 use Rattle.cacao_cli.specs.Ended.{Performs}
-use Rattle.cacao_cli.specs.Exact.{IsOneOf}
-use Rattle.cacao_cli.specs.Leaves.{CallsFew, SaysAtMost, WritesNothing}
+use Rattle.cacao_cli.specs.Leaves.{WritesNothing}
 use Rattle.cacao_cli.specs.Lines.{SaysWork, Tells}
-use Rattle.cacao_cli.specs.Openings.{AreLines, FailsToOpen, FindsDamage, HoldsFilter, IsDamagedFilter, Opens, SaysFilter, WantsToOpen}
+use Rattle.cacao_cli.specs.Openings.{HoldsFilter, IsDamagedFilter, Opens}
 use Rattle.cacao_cli.specs.Work.{Look, opens_filter}
 use Rattle.cacao_cli.proofs.EndLemmas.{no-more}
 use Rattle.cacao_cli.proofs.LineLemmas.{IsCutOff, says-status, tells-status}

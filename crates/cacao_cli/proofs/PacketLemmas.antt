@@ -1,19 +1,19 @@
 -- The statuses of `decide`, and their causes.
-use Rattle.std.proofs.Common.{◌≡◌, ◌⊎◌, inl, inr, ◌∙◌, refl, sym, ap, subst, arith, ℕ, ◌<◌, ◌≤◌, List, [], ◌∷◌, length, Option, Some, None, Result, Ok, Err}
+use Rattle.std.proofs.Common.{◌≡◌, inl, inr, ◌∙◌, refl, sym, ap, subst, ℕ, List, [], ◌∷◌, Option, Some, Result, Ok, Err}
 use Rattle.std.specs.Prelude.{IsSomeAnd}
 use Rattle.cacao_site.specs.View.{SiteView}
 use Rattle.oc2_nets.specs.declared.packets.Packet.{Packet}
 use Rattle.slpf_actuator.proofs.Damages.{no_acts_where_damaged}
 use Rattle.filter_reports.specs.PacketFiles.{packets_of}
 use Rattle.cacao_words.specs.Words.{Text}
-use Rattle.cacao_cli.specs.Ends.{End, most, no_such_file, past, not_readable}
+use Rattle.cacao_cli.specs.Ends.{no_such_file, past, not_readable}
 use Rattle.cacao_cli.specs.Files.{File, Files, NamedText, packet_file, reading}
 use Rattle.cacao_cli.specs.Work.{Work, ends, opens_filter, at_decisions, or_end, packets_in, packets_or_end}
 use Rattle.cacao_cli.specs.Openings.{HoldsFilter, IsDamagedFilter}
-use Rattle.cacao_cli.specs.Causes.{IsWithin, IsMissing, IsTooLong, HasPackets, IsPacketFile, HasBadLine}
+use Rattle.cacao_cli.specs.Causes.{IsWithin, IsMissing, IsTooLong, HasPackets, HasBadLine}
 use Rattle.cacao_cli.specs.declared.limit.Limit.{Limit}
 use Rattle.cacao_cli.specs.declared.reason.Reason.TheVariants.{Line}
-use Rattle.cacao_cli.proofs.CauseLemmas.{ReadingCase, Texts, all_within, one_missing, one_long, reading_case, some-both, missing-within, long-within, missing-long}
+use Rattle.cacao_cli.proofs.CauseLemmas.{ReadingCase, all_within, one_missing, one_long, reading_case, some-both, missing-within, long-within}
 use Rattle.cacao_cli.proofs.ReadLemmas.{Read}
 
 -- a file holds acts of a filter, or it is damaged

@@ -8,12 +8,12 @@ use Rattle.cacao_site.specs.View.{SiteView}
 use Rattle.oc2_nets.specs.declared.packets.Packet.{Packet}
 use Rattle.filter_reports.specs.PacketFiles.{packets_of}
 use Rattle.cacao_words.specs.Words.{Text}
-use Rattle.cacao_cli.specs.Asked.{Asked, canonises, checks, lists_rules, decides, shadows}
+use Rattle.cacao_cli.specs.Asked.{Asked, canonises, checks, shows, lists_rules, decides, shadows}
 use Rattle.cacao_cli.specs.Command.{IsJudgement}
 use Rattle.cacao_cli.specs.Ends.{End, accepted, past, not_understood, not_readable, no_memory}
 use Rattle.cacao_cli.specs.Files.{File, ShelfCall, NamedText, ReadsTo, book_file, packet_file, has_too_many}
 use Rattle.cacao_cli.specs.Lines.{SaysWork}
-use Rattle.cacao_cli.specs.Work.{Work, ends, judges, opens_filter, at_rules, at_shadows, at_decisions, or_end, packets_or_end, trees_of, work_on}
+use Rattle.cacao_cli.specs.Work.{ends, judges, opens_filter, opens_run, at_rules, at_shadows, at_decisions, or_end, packets_or_end, trees_of, work_on}
 use Rattle.cacao_cli.specs.Ended.{Performs, Performed}
 use Rattle.cacao_cli.specs.declared.limit.Limit.TheVariants.{BookCount}
 use Rattle.cacao_cli.proofs.CauseLemmas.{TreesCase, all_trees, one_treeless, trees_case}
@@ -54,6 +54,7 @@ performed-memory (Some (checks books)) shelf site same steady = go (has_too_many
       reads = subst (λ (b : Bool). ReadsTo shelf (if b then [] else map book_file books) p.0) (sym few) p.1.0;
       performs = subst (λ (b : Bool). Performs (if b then ends [] (past BookCount) else or_end p.0 (work_on (checks books))) site site no_memory) (sym few) p.1.1;
     }
+performed-memory (Some shows) shelf site same steady = record { read = Ok []; reads = none-read shelf same steady; performs = inr (inr (inr (inr (record { opens = opens-refl 0 site; ends = refl })))) }
 performed-memory (Some (lists_rules agent)) shelf site same steady = record { read = Ok []; reads = none-read shelf same steady; performs = inr (inr (inr (record { opens = opens-refl agent site; ends = refl }))) }
 performed-memory (Some (shadows agent)) shelf site same steady = record { read = Ok []; reads = none-read shelf same steady; performs = inr (inr (inr (record { opens = opens-refl agent site; ends = refl }))) }
 performed-memory (Some (decides agent packets)) shelf site same steady = record {
@@ -62,7 +63,10 @@ performed-memory (Some (decides agent packets)) shelf site same steady = record 
   performs = says-end no_memory site;
 }
 
--- ---- rules, shadow and decide
+-- ---- show, rules, shadow and decide
+
+pub show-perform : (shelf : ShelfCall) (old new : SiteView) (last : End) → shelf.reads_after ≡ shelf.reads_before → shelf.after ≡ shelf.before → Performs opens_run old new last → Performed (Some shows) shelf old new last
+show-perform shelf old new last same steady performs = record { read = Ok []; reads = none-read shelf same steady; performs = performs }
 
 pub rules-perform : (agent : ℕ) (shelf : ShelfCall) (old new : SiteView) (last : End) → shelf.reads_after ≡ shelf.reads_before → shelf.after ≡ shelf.before → Performs (opens_filter agent at_rules) old new last
     → Performed (Some (lists_rules agent)) shelf old new last

@@ -1,6 +1,6 @@
 -- What reading files comes to.
-use Rattle.std.proofs.Common.{zero, suc, ◌+◌, ◌++◌, take, drop, get_or, map, drop-cons, ◌≡◌, ◌⊎◌, inl, inr, ◌∙◌, refl, sym, ap, subst, arith, ℕ, ◌≤◌, ◌<◌, Bool, true, false, List, [], ◌∷◌, length, Option, Some, None, Result, Ok, Err}
-use Rattle.std.specs.Prelude.{IfSome, IsSomeAnd, nat_le, if◌then◌else◌}
+use Rattle.std.proofs.Common.{zero, suc, ◌+◌, ◌++◌, take, drop, get_or, map, drop-cons, ◌≡◌, ◌⊎◌, inl, inr, ◌∙◌, refl, sym, ap, subst, arith, ℕ, ◌≤◌, ◌<◌, true, false, List, [], ◌∷◌, length, Option, Some, None, Result, Ok, Err}
+use Rattle.std.specs.Prelude.{IsSomeAnd, nat_le, if◌then◌else◌}
 use Rattle.std.proofs.lemmas.List.{map-append, take_more, take-append-drop}
 use Rattle.cacao_site.specs.Counts.{CountsOne, next_count}
 use Rattle.cacao_words.specs.Words.{Text}

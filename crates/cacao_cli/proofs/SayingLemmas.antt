@@ -1,15 +1,15 @@
 -- What the calls of `say` leave as it was.
 use Rattle.std.proofs.Common.{◌≡◌, ◌∙◌, refl, sym, ap, subst, arith, inl, inr, ℕ, ◌+◌, ◌≤◌, List, [], ◌∷◌, ◌++◌, length, length-append, Option, Some, None}
-use Rattle.std.specs.Prelude.{IfSome, IsTrue}
-use Rattle.cacao_site.specs.DiskCalls.{EachBeat, GoesOn, IsLeft, KeepsDisk, StaysAt}
+use Rattle.std.specs.Prelude.{IfSome}
+use Rattle.cacao_site.specs.DiskCalls.{KeepsDisk}
 use Rattle.cacao_site.specs.LinkCalls.{Gains}
-use Rattle.cacao_site.specs.SayCalls.{KeepsTime, SaysOnly}
+use Rattle.cacao_site.specs.SayCalls.{KeepsTime}
 use Rattle.cacao_site.specs.View.{DiskView, SiteView}
-use Rattle.cacao_site.proofs.Beats.{goes_on-refl, goes_on-trans, stays-trans, told-goes_on}
+use Rattle.cacao_site.proofs.Beats.{goes_on-refl, goes_on-trans, stays-trans}
 use Rattle.cacao_words.specs.Words.{Text}
 use Rattle.cacao_cli.specs.Ends.{End, text_of}
 use Rattle.cacao_cli.specs.Leaves.{SaysAtMost}
-use Rattle.cacao_cli.specs.Lines.{FailsToSay, SaysAll, SaysLine, SaysWork, Tells, TellsText}
+use Rattle.cacao_cli.specs.Lines.{FailsToSay, SaysAll, SaysLine, Tells, TellsText}
 
 -- both are told, or neither is
 abbrev pub AreTold : Option (List (ℕ × Text)) → Option (List (ℕ × Text)) → Type 0

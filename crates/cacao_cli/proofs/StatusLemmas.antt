@@ -7,10 +7,10 @@ use Rattle.cacao_check.specs.FirstBreak.{IsAccepted}
 use Rattle.cacao_check.specs.declared.breaks.Mode.TheVariants.{Read}
 use Rattle.cacao_site.specs.View.{SiteView}
 use Rattle.cacao_words.specs.Words.{Text}
-use Rattle.cacao_cli.specs.Asked.{Asked, canonises, checks, lists_rules, decides, shadows}
+use Rattle.cacao_cli.specs.Asked.{Asked, canonises, checks, shows, lists_rules, decides, shadows}
 use Rattle.cacao_cli.specs.Ends.{done, accepted, no_such_file, not_readable, past}
 use Rattle.cacao_cli.specs.Files.{File, Files, ShelfCall, files_of, book_file, packet_file, has_too_many, reading}
-use Rattle.cacao_cli.specs.Work.{Work, ends, judges, opens_filter, at_decisions, or_end, canon_line, work, work_on}
+use Rattle.cacao_cli.specs.Work.{Work, ends, judges, opens_filter, opens_run, at_decisions, or_end, canon_line, work, work_on}
 use Rattle.cacao_cli.specs.Ended.{Ended}
 use Rattle.cacao_cli.specs.Exact.{IsOneOf, ComesExactly, IfFilesTold, IfTold, IsBroken, HasStatus, file_faults, faults_of}
 use Rattle.cacao_cli.specs.Causes.{AllWithin, SomeTreeless, Trees, IsMissing, IsTooLong, IsUnreadable, IsPastLimit, IsRefused, BreaksRule, KeepsRules, CanBeDone, FindsItDamaged}
@@ -21,6 +21,7 @@ use Rattle.cacao_cli.proofs.CauseLemmas.{EndsByTrees, missing-only, missing-alwa
 use Rattle.cacao_cli.proofs.CountLemmas.{understood-ended, not_understood-ended}
 use Rattle.cacao_cli.proofs.ExactLemmas.{Comes, status-seen, status-told, if-told, if-asked}
 use Rattle.cacao_cli.proofs.OpenLemmas.{ComesOpened}
+use Rattle.cacao_cli.proofs.RunLemmas.{damaged-run, done-run, large-run, run-damaged, run-done, run-large, shown-other}
 use Rattle.cacao_cli.proofs.PacketLemmas.{PacketWork, packet_work, packet_work_case, is_missing, is_too_long, is_bad, is_read, missing-apart, long-apart, bad-apart, holds-or-damaged}
 
 -- the status is one that may come of the work that these files call for
@@ -320,6 +321,14 @@ file-statuses None files old new n called = record {
 }
 file-statuses (Some (canonises book)) files old new n called = (canon-statuses book files old new n called).of_files
 file-statuses (Some (checks books)) files old new n called = (check-statuses books files old new n called).of_files
+file-statuses (Some shows) files old new n called = record {
+  is_refused = λ e. absurd (shown-other old new n 1 called e (λ f. omega (arith, f)) (λ f. omega (arith, f)) (λ f. omega (arith, f)) (λ f. omega (arith, f)));
+  refused_is = λ h. absurd h;
+  is_missing = λ e. absurd (shown-other old new n 4 called e (λ f. omega (arith, f)) (λ f. omega (arith, f)) (λ f. omega (arith, f)) (λ f. omega (arith, f)));
+  missing_is = λ h. absurd h;
+  is_unreadable = λ e. absurd (shown-other old new n 5 called e (λ f. omega (arith, f)) (λ f. omega (arith, f)) (λ f. omega (arith, f)) (λ f. omega (arith, f)));
+  unreadable_is = λ h. absurd h;
+}
 file-statuses (Some (lists_rules agent)) files old new n called = filter-files (Some (lists_rules agent)) agent files old new n called (λ h. h) (λ h. h) (λ h. h)
 file-statuses (Some (shadows agent)) files old new n called = filter-files (Some (shadows agent)) agent files old new n called (λ h. h) (λ h. h) (λ h. h)
 file-statuses (Some (decides agent packets)) files old new n called = decide-files agent packets files old new n called
@@ -331,6 +340,9 @@ has-comes (judges trees mode kept) old new n (inl h) = inl (h.0, has-comes kept 
 has-comes (judges trees mode kept) old new n (inr h) = inr h
 has-comes (opens_filter agent look) old new n (inl h) = inl (inl ((λ told. h.0), h.1))
 has-comes (opens_filter agent look) old new n (inr h) = inl (inr ((λ told. h.0), h.1))
+has-comes opens_run old new n (inl h) = inl ((λ told. h.0), h.1)
+has-comes opens_run old new n (inr (inl h)) = inr (inl ((λ told. h.0), h.1))
+has-comes opens_run old new n (inr (inr h)) = inr (inr (inl ((λ told. h.0), h.1)))
 
 abbrev Held : Option Asked → Files → SiteView → SiteView → ℕ → Type 0
 Held asked files old new n = HasStatus (work asked (reading files (files_of asked))) old new n
@@ -348,6 +360,14 @@ told-statuses (Some (canonises book)) files old new n held =
     (canon-statuses book files old new n (has-comes (work (Some (canonises book)) (reading files (files_of (Some (canonises book))))) old new n held)).told
 told-statuses (Some (checks books)) files old new n held =
     (check-statuses books files old new n (has-comes (work (Some (checks books)) (reading files (files_of (Some (checks books))))) old new n held)).told
+told-statuses (Some shows) files old new n held = record {
+  is_done = run-done new n held;
+  done_is = done-run new n held;
+  is_past = run-large new n held;
+  past_is = large-run new n held;
+  is_damaged = run-damaged new n held;
+  damaged_is = damaged-run new n held;
+}
 told-statuses (Some (lists_rules agent)) files old new n held = record {
   is_done = filter-done agent new n held;
   done_is = done-filter agent new n held;
@@ -382,6 +402,8 @@ apart-asked : (n : ℕ) (asked : Option Asked) → (n ≡ 3 → ⊥) → (n ≡ 
 apart-asked n None a f b c h = apart n a b c (inr h)
 apart-asked n (Some (canonises book)) a f b c h = apart n a b c h
 apart-asked n (Some (checks books)) a f b c h = apart-files n (files_of (Some (checks books))) a b c h
+apart-asked n (Some shows) a f b c (inl e) = f e
+apart-asked n (Some shows) a f b c (inr h) = apart n a b c (inr h)
 apart-asked n (Some (lists_rules agent)) a f b c (inl e) = f e
 apart-asked n (Some (lists_rules agent)) a f b c (inr h) = apart n a b c (inr h)
 apart-asked n (Some (shadows agent)) a f b c (inl e) = f e

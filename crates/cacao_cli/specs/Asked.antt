@@ -8,6 +8,7 @@ use Rattle.cacao_words.specs.Requests as words
 pub data Asked : Type 0 where
   canonises : (book : Text) → Asked
   checks : (books : List Text) → Asked
+  shows : Asked
   lists_rules : (agent : ℕ) → Asked
   decides : (agent : ℕ) (packets : Text) → Asked
   shadows : (agent : ℕ) → Asked
@@ -17,7 +18,7 @@ abbrev pub built : Request → Option Asked
 built (words.canonises book) = Some (canonises book)
 built (words.checks books) = Some (checks books)
 built (words.runs wanted) = None
-built words.shows = None
+built words.shows = Some shows
 built (words.lists_rules agent) = Some (lists_rules agent)
 built (words.decides agent packets) = Some (decides agent packets)
 built (words.rehearses positions) = None

@@ -8,10 +8,10 @@ use Rattle.cacao_check.specs.declared.breaks.Mode.TheVariants.{Read}
 use Rattle.oc2_nets.specs.declared.packets.Packet.{Packet}
 use Rattle.filter_reports.specs.PacketFiles.{packets_of}
 use Rattle.cacao_site.specs.View.{SiteView}
-use Rattle.cacao_cli.specs.Asked.{Asked, canonises, checks, lists_rules, decides, shadows}
+use Rattle.cacao_cli.specs.Asked.{Asked, canonises, checks, shows, lists_rules, decides, shadows}
 use Rattle.cacao_cli.specs.Ends.{most}
 use Rattle.cacao_cli.specs.Exact.{IsBroken}
-use Rattle.cacao_cli.specs.Openings.{HoldsFilter, IsDamagedFilter}
+use Rattle.cacao_cli.specs.Openings.{HoldsFilter, HoldsRun, IsDamagedFilter, IsDamagedRun, IsTooLargeRun}
 use Rattle.cacao_cli.specs.Files.{File, Files, files_of, has_too_many, packet_file}
 
 -- the file is there, within its limit
@@ -63,6 +63,7 @@ abbrev pub IsUnreadable : Option Asked → Files → Type 0
 IsUnreadable None files = ⊥
 IsUnreadable (Some (canonises book)) files = AllWithin files (files_of (Some (canonises book))) × SomeTreeless files (files_of (Some (canonises book)))
 IsUnreadable (Some (checks books)) files = AllWithin files (files_of (Some (checks books))) × SomeTreeless files (files_of (Some (checks books)))
+IsUnreadable (Some shows) files = ⊥
 IsUnreadable (Some (lists_rules agent)) files = ⊥
 IsUnreadable (Some (decides agent packets)) files = IsWithin files (packet_file packets) × HasBadLine files (packet_file packets)
 IsUnreadable (Some (shadows agent)) files = ⊥
@@ -77,6 +78,7 @@ abbrev pub IsRefused : Option Asked → Files → Type 0
 IsRefused None files = ⊥
 IsRefused (Some (canonises book)) files = ⊥
 IsRefused (Some (checks books)) files = (has_too_many (checks books) ≡ false) × BreaksRule files (files_of (Some (checks books))) Read
+IsRefused (Some shows) files = ⊥
 IsRefused (Some (lists_rules agent)) files = ⊥
 IsRefused (Some (decides agent packets)) files = ⊥
 IsRefused (Some (shadows agent)) files = ⊥
@@ -86,6 +88,7 @@ abbrev pub IsPastLimit : Option Asked → Files → SiteView → SiteView → Ty
 IsPastLimit None files old new = ⊥
 IsPastLimit (Some (canonises book)) files old new = (has_too_many (canonises book) ≡ true) ⊎ IsTooLong files (files_of (Some (canonises book)))
 IsPastLimit (Some (checks books)) files old new = (has_too_many (checks books) ≡ true) ⊎ IsTooLong files (files_of (Some (checks books)))
+IsPastLimit (Some shows) files old new = IsTooLargeRun new
 IsPastLimit (Some (lists_rules agent)) files old new = ⊥
 IsPastLimit (Some (decides agent packets)) files old new = IsTooLong files (files_of (Some (decides agent packets)))
 IsPastLimit (Some (shadows agent)) files old new = ⊥
@@ -101,6 +104,7 @@ abbrev pub CanBeDone : Option Asked → Files → SiteView → SiteView → Type
 CanBeDone None files old new = ⊥
 CanBeDone (Some (canonises book)) files old new = (root : Data) × Trees files (files_of (Some (canonises book))) (root ∷ [])
 CanBeDone (Some (checks books)) files old new = (has_too_many (checks books) ≡ false) × KeepsRules files (files_of (Some (checks books))) Read
+CanBeDone (Some shows) files old new = HoldsRun new
 CanBeDone (Some (lists_rules agent)) files old new = HoldsFilter agent new
 CanBeDone (Some (decides agent packets)) files old new = IsPacketFile files (packet_file packets) × HoldsFilter agent new
 CanBeDone (Some (shadows agent)) files old new = HoldsFilter agent new
@@ -110,6 +114,7 @@ abbrev pub FindsItDamaged : Option Asked → Files → SiteView → SiteView →
 FindsItDamaged None files old new = ⊥
 FindsItDamaged (Some (canonises book)) files old new = ⊥
 FindsItDamaged (Some (checks books)) files old new = ⊥
+FindsItDamaged (Some shows) files old new = IsDamagedRun new
 FindsItDamaged (Some (lists_rules agent)) files old new = IsDamagedFilter agent new
 FindsItDamaged (Some (decides agent packets)) files old new = IsPacketFile files (packet_file packets) × IsDamagedFilter agent new
 FindsItDamaged (Some (shadows agent)) files old new = IsDamagedFilter agent new

@@ -12,10 +12,13 @@ use Rattle.cacao_check.specs.declared.breaks.Mode.{Mode}
 use Rattle.cacao_json.specs.Tree.{data_of}
 use Rattle.cacao_json.specs.declared.tree.Tree.{Tree}
 use Rattle.oc2_nets.specs.declared.packets.Packet.{Packet}
+use Rattle.run_journal.specs.declared.error.JournalError.{JournalError}
+use Rattle.run_journal.specs.declared.error.JournalError.TheVariants as journal_error
+use Rattle.run_reports.specs.declared.error.ReportError.{ReportError}
+use Rattle.run_reports.specs.declared.error.ReportError.TheVariants as report_error
 use Rattle.slpf_actuator.specs.declared.error.ActError.{ActError}
 use Rattle.slpf_actuator.specs.declared.error.ActError.TheVariants as act_error
 use Rattle.filter_reports.specs.PacketFiles.{packets_of}
-use Rattle.cacao_words.specs.Words.{Text}
 use Rattle.cacao_words.specs.declared.words.Command.{Command}
 use Rattle.cacao_words.specs.Commands.{request_by}
 use Rattle.cacao_cli.specs.Asked.{Asked, built}
@@ -25,6 +28,7 @@ use Rattle.cacao_cli.specs.Work.{packets_or_end, tree_of, trees_of}
 use Rattle.cacao_cli.specs.declared.end.End.{End}
 use Rattle.cacao_cli.specs.declared.file_text.FileText.{FileText}
 use Rattle.cacao_cli.specs.declared.end.End.TheVariants as how
+use Rattle.cacao_cli.specs.declared.limit.Limit.TheVariants.{TaskCount}
 
 abbrev pub asked_by : Command → Option Asked
 asked_by command = built (request_by command)
@@ -73,6 +77,19 @@ open_end agent (act_error.Damaged place) = as_said.damaged agent place
 open_end agent (act_error.Full length) = as_said.no_memory
 open_end agent act_error.Broken = as_said.no_memory
 open_end agent act_error.Memory = as_said.no_memory
+
+-- and where the engine's file was not opened, or nothing can be said of its entries
+abbrev pub journal_end : JournalError → as_said.End
+journal_end journal_error.Disk = as_said.disk_failed
+journal_end (journal_error.Damaged place) = as_said.damaged 0 place
+journal_end (journal_error.Full needed) = as_said.no_memory
+journal_end journal_error.Broken = as_said.no_memory
+journal_end journal_error.Memory = as_said.no_memory
+
+abbrev pub report_end : ReportError → as_said.End
+report_end (report_error.Damaged place) = as_said.damaged 0 place
+report_end report_error.TooManyTasks = as_said.past TaskCount
+report_end report_error.Memory = as_said.no_memory
 
 -- the trees of the texts, or why the first has none; or memory was wanted
 abbrev pub AreTreesOrMemory : List NamedText → Result (Vec Tree Global) End → Type 0

@@ -3,18 +3,20 @@ use Rattle.std.specs.Prelude.{ℕ, Bool, true, false, ◌++◌, codes, decimal, 
 use Rattle.cacao_check.specs.declared.breaks.Break.{Break}
 use Rattle.cacao_words.specs.Words.{Text}
 use Rattle.cacao_cli.specs.declared.limit.Limit.{Limit}
-use Rattle.cacao_cli.specs.declared.limit.Limit.TheVariants.{FileBytes, BookCount}
+use Rattle.cacao_cli.specs.declared.limit.Limit.TheVariants.{FileBytes, BookCount, TaskCount}
 use Rattle.cacao_cli.specs.declared.reason.Reason.{Reason}
 use Rattle.cacao_cli.specs.declared.reason.Reason.TheVariants.{NotJson, RepeatedName, NotWhole, Line}
 
 abbrev pub limit_name : Limit → Text
 limit_name FileBytes = codes "file"
 limit_name BookCount = codes "books"
+limit_name TaskCount = codes "tasks"
 
 -- the most that is taken
 abbrev pub most : Limit → ℕ
 most FileBytes = 1048576
 most BookCount = 16
+most TaskCount = 1000000
 
 abbrev pub limit_text : Limit → Text
 limit_text limit = limit_name limit ++ (codes " " ++ decimal (most limit))

@@ -1,14 +1,14 @@
 -- Which status comes, where the outside tells what it holds.
-use Rattle.std.specs.Prelude.{◌≡◌, ◌⊎◌, ℕ, List, [], ◌∷◌, ◌++◌, Option, Some, None, IfSome, IsTrue}
+use Rattle.std.specs.Prelude.{◌≡◌, ◌⊎◌, ℕ, List, [], ◌∷◌, Option, Some, None, IfSome, IsTrue}
 use Rattle.serde_json.specs.Data.{Data}
 use Rattle.cacao_check.specs.FirstBreak.{Demand, IsAccepted, Keeps}
 use Rattle.cacao_check.specs.declared.breaks.Mode.{Mode}
 use Rattle.cacao_site.specs.View.{SiteView}
-use Rattle.cacao_cli.specs.Asked.{Asked, canonises, checks, lists_rules, decides, shadows}
+use Rattle.cacao_cli.specs.Asked.{Asked, canonises, checks, shows, lists_rules, decides, shadows}
 use Rattle.cacao_cli.specs.Ends.{status_of}
 use Rattle.cacao_cli.specs.Files.{File, Files, files_of, reading}
-use Rattle.cacao_cli.specs.Openings.{HoldsFilter, IsDamagedFilter}
-use Rattle.cacao_cli.specs.Work.{Work, ends, judges, opens_filter, work}
+use Rattle.cacao_cli.specs.Openings.{HoldsFilter, HoldsRun, IsDamagedFilter, IsDamagedRun, IsTooLargeRun}
+use Rattle.cacao_cli.specs.Work.{Work, ends, judges, opens_filter, opens_run, work}
 
 abbrev pub IsOneOf : ℕ → List ℕ → Type 0
 IsOneOf n [] = ⊥
@@ -33,6 +33,7 @@ abbrev pub IfTold : Option Asked → Option Files → SiteView → (Files → Ty
 IfTold None told old P = IfFilesTold [] told P
 IfTold (Some (canonises book)) told old P = IfFilesTold (files_of (Some (canonises book))) told P
 IfTold (Some (checks books)) told old P = IfFilesTold (files_of (Some (checks books))) told P
+IfTold (Some shows) told old P = IfDiskTold old P
 IfTold (Some (lists_rules agent)) told old P = IfDiskTold old P
 IfTold (Some (decides agent packets)) told old P = IsTrue old.disk.told → IfFilesTold (files_of (Some (decides agent packets))) told P
 IfTold (Some (shadows agent)) told old P = IfDiskTold old P
@@ -47,6 +48,7 @@ abbrev pub faults_of : Option Asked → List ℕ
 faults_of None = file_faults []
 faults_of (Some (canonises book)) = file_faults (files_of (Some (canonises book)))
 faults_of (Some (checks books)) = file_faults (files_of (Some (checks books)))
+faults_of (Some shows) = 8 ∷ 9 ∷ 10 ∷ []
 faults_of (Some (lists_rules agent)) = 8 ∷ 9 ∷ 10 ∷ []
 faults_of (Some (decides agent packets)) = 3 ∷ 8 ∷ 9 ∷ 10 ∷ []
 faults_of (Some (shadows agent)) = 8 ∷ 9 ∷ 10 ∷ []
@@ -60,6 +62,7 @@ abbrev pub HasStatus : Work → SiteView → SiteView → ℕ → Type 0
 HasStatus (ends lines end) old new answer = answer ≡ status_of end
 HasStatus (judges trees mode accepted) old new answer = (IsAccepted trees mode × HasStatus accepted old new answer) ⊎ (IsBroken trees mode × (answer ≡ 1))
 HasStatus (opens_filter agent look) old new answer = (HoldsFilter agent new × (answer ≡ 0)) ⊎ (IsDamagedFilter agent new × (answer ≡ 13))
+HasStatus opens_run old new answer = (HoldsRun new × (answer ≡ 0)) ⊎ ((IsDamagedRun new × (answer ≡ 13)) ⊎ (IsTooLargeRun new × (answer ≡ 11)))
 
 -- the status is that of the work that the files call for, or one of the faults that may stand in its place
 

@@ -4,7 +4,7 @@ use Rattle.std.specs.Prelude.{◌≡◌, ℕ, ◌<◌, ◌≤◌, ◌==◌, nat_
 use Rattle.std.specs.Prelude.{IfSome, IsSomeAnd, ⊤, if◌then◌else◌}
 use Rattle.cacao_site.specs.Counts.{next_count}
 use Rattle.cacao_words.specs.Words.{Text}
-use Rattle.cacao_cli.specs.Asked.{Asked, canonises, checks, lists_rules, decides, shadows}
+use Rattle.cacao_cli.specs.Asked.{Asked, canonises, checks, shows, lists_rules, decides, shadows}
 use Rattle.cacao_cli.specs.Ends.{End, most, status_of, past, shelf_failed, no_such_file, no_memory}
 use Rattle.cacao_cli.specs.declared.limit.Limit.{Limit}
 use Rattle.cacao_cli.specs.declared.limit.Limit.TheVariants.{FileBytes}
@@ -24,6 +24,7 @@ packet_file name = record { name = name; limit = FileBytes }
 abbrev pub books_of : Asked → List Text
 books_of (canonises book) = book ∷ []
 books_of (checks books) = books
+books_of shows = []
 books_of (lists_rules agent) = []
 books_of (decides agent packets) = []
 books_of (shadows agent) = []
@@ -35,6 +36,7 @@ has_too_many asked = nat_lt 16 (length (books_of asked))
 abbrev pub named_by : Asked → List File
 named_by (canonises book) = book_file book ∷ []
 named_by (checks books) = map book_file books
+named_by shows = []
 named_by (lists_rules agent) = []
 named_by (decides agent packets) = packet_file packets ∷ []
 named_by (shadows agent) = []

@@ -1,9 +1,9 @@
 -- What a call of the program leaves as it was.
-use Rattle.std.specs.Prelude.{◌≡◌, ◌⊎◌, ℕ, ◌+◌, ◌/◌, ◌≤◌, IsTrue, length, List, Option, Some, None, IfSome}
-use Rattle.cacao_site.specs.DiskCalls.{EachBeat, IsLeft, OnlyFile}
+use Rattle.std.specs.Prelude.{◌≡◌, ◌⊎◌, ℕ, ◌+◌, ◌/◌, ◌≤◌, IsTrue, length, Option, Some, None, IfSome}
+use Rattle.cacao_site.specs.DiskCalls.{EachBeat, IsLeft}
 use Rattle.cacao_site.specs.SayCalls.{KeepsTime, SaysOnly}
 use Rattle.cacao_site.specs.View.{LinkView, SiteView}
-use Rattle.cacao_cli.specs.Asked.{Asked, canonises, checks, lists_rules, decides, shadows}
+use Rattle.cacao_cli.specs.Asked.{Asked, canonises, checks, shows, lists_rules, decides, shadows}
 use Rattle.cacao_cli.specs.Files.{Counts}
 
 -- at most one call of `say` was made, and nothing else changed
@@ -38,6 +38,7 @@ abbrev pub Leaves : Option Asked → SiteView → SiteView → ℕ → Type 0
 Leaves None old new answer = SaysAtMostOnce old new answer
 Leaves (Some (canonises book)) old new answer = SaysAtMostOnce old new answer
 Leaves (Some (checks books)) old new answer = SaysAtMostOnce old new answer
+Leaves (Some shows) old new answer = WritesNothing 0 old new
 Leaves (Some (lists_rules agent)) old new answer = WritesNothing agent old new
 Leaves (Some (decides agent packets)) old new answer = WritesNothing agent old new
 Leaves (Some (shadows agent)) old new answer = WritesNothing agent old new
@@ -51,6 +52,7 @@ abbrev pub NoDiskFault : Option Asked → SiteView → SiteView → Type 0
 NoDiskFault None old new = new.disk.faults ≡ old.disk.faults
 NoDiskFault (Some (canonises book)) old new = new.disk.faults ≡ old.disk.faults
 NoDiskFault (Some (checks books)) old new = new.disk.faults ≡ old.disk.faults
+NoDiskFault (Some shows) old new = old.disk.faults ≤ new.disk.faults
 NoDiskFault (Some (lists_rules agent)) old new = old.disk.faults ≤ new.disk.faults
 NoDiskFault (Some (decides agent packets)) old new = old.disk.faults ≤ new.disk.faults
 NoDiskFault (Some (shadows agent)) old new = old.disk.faults ≤ new.disk.faults

@@ -4,16 +4,20 @@ use Rattle.cacao_site.specs.Counts.{Rose}
 use Rattle.cacao_site.specs.DiskCalls.{IsLeft, OnlyFile}
 use Rattle.cacao_site.specs.View.{SiteView}
 use Rattle.run_records.specs.declared.act.Act.{Act}
+use Rattle.run_journal.specs.Layout.{Stands}
 use Rattle.slpf_rules.specs.declared.rules.Rule.{Rule}
 use Rattle.slpf_acts.specs.Acts.{table_of}
 use Rattle.slpf_actuator.specs.ActLists.{IsHistory}
 use Rattle.slpf_actuator.specs.ActuatorView.{HoldsActs}
 use Rattle.slpf_actuator.specs.Damage.{IsDamaged}
 use Rattle.filter_reports.specs.Lines.{AreShadowLines, decision_lines, rule_lines}
+use Rattle.run_reports.specs.RunFiles as run
+use Rattle.run_reports.specs.RunLines.{HoldsReport, Reports, lines_of}
 use Rattle.cacao_words.specs.Words.{Text}
-use Rattle.cacao_cli.specs.Ends.{End, damaged, disk_failed, done, no_memory}
+use Rattle.cacao_cli.specs.Ends.{End, damaged, disk_failed, done, no_memory, past}
 use Rattle.cacao_cli.specs.Lines.{SaysWork}
 use Rattle.cacao_cli.specs.Work.{Look, at_rules, at_decisions, at_shadows}
+use Rattle.cacao_cli.specs.declared.limit.Limit.TheVariants.{TaskCount}
 
 -- The file was read, and nothing was written: each image that a crash may leave of it on the way was one before. At most three device
 -- calls were made, and one for each 4,096 bytes.
@@ -64,3 +68,38 @@ HoldsFilter agent site = (acts : List Act) × IsHistory acts × HoldsActs acts (
 -- the file of the agent holds none
 abbrev pub IsDamagedFilter : ℕ → SiteView → Type 0
 IsDamagedFilter agent site = (place : ℕ) × IsDamaged (site.disk.reads agent) place
+
+-- ---- the run of the engine's file, which is file 0
+
+-- the file was opened, and the report of its entries was said
+pub record SaysRun (old new : SiteView) (last : End) : Type 0 where
+  pub between : SiteView
+  pub opens : Opens 0 old between
+  pub entries : List (List ℕ)
+  pub holds : IsTrue old.disk.told → Stands (between.disk.reads 0) entries
+  pub text : Text
+  pub reports : Reports entries text
+  pub says : SaysWork (lines_of text) done between new last
+
+-- the file was opened, and it holds no run
+pub record FindsNoRun (old new : SiteView) (last : End) : Type 0 where
+  pub opens : Opens 0 old new
+  pub place : ℕ
+  pub is_damaged : IsTrue old.disk.told → run.IsDamaged (new.disk.reads 0) place
+  pub ends : last ≡ damaged 0 place
+
+-- the file was opened, and its run would have too many tasks
+pub record FindsTooMany (old new : SiteView) (last : End) : Type 0 where
+  pub opens : Opens 0 old new
+  pub is_large : IsTrue old.disk.told → run.IsTooLarge (new.disk.reads 0)
+  pub ends : last ≡ past TaskCount
+
+-- there is a report of the file; it is damaged; its run would have too many tasks
+abbrev pub HoldsRun : SiteView → Type 0
+HoldsRun site = (text : Text) × HoldsReport (site.disk.reads 0) text
+
+abbrev pub IsDamagedRun : SiteView → Type 0
+IsDamagedRun site = (place : ℕ) × run.IsDamaged (site.disk.reads 0) place
+
+abbrev pub IsTooLargeRun : SiteView → Type 0
+IsTooLargeRun site = run.IsTooLarge (site.disk.reads 0)

@@ -14,6 +14,7 @@ mod packets;
 mod program;
 mod reason;
 mod say;
+mod show;
 mod tree;
 
 pub use program::top;

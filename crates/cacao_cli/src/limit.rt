@@ -8,6 +8,8 @@ pub enum Limit {
     FileBytes,
     /// The playbooks of one call.
     BookCount,
+    /// The tasks of a run.
+    TaskCount,
 }
 
 impl Limit {
@@ -21,6 +23,7 @@ impl Limit {
         match self {
             Limit::FileBytes => "file",
             Limit::BookCount => "books",
+            Limit::TaskCount => "tasks",
         }
     }
 
@@ -31,6 +34,7 @@ impl Limit {
         match self {
             Limit::FileBytes => 1_048_576,
             Limit::BookCount => 16,
+            Limit::TaskCount => 1_000_000,
         }
     }
 }

@@ -14,6 +14,7 @@ use crate::check::check;
 use crate::end::End;
 use crate::filters::{decide, say_rules, say_shadows};
 use crate::say::finish;
+use crate::show::show;
 use cacao_site::{Shelf, Site};
 use cacao_words::{Command, read_words};
 use std::alloc::Global;
@@ -35,10 +36,11 @@ fn carry_out<'w, L: Shelf, S: Site>(
     match command {
         Command::Canon { book } => canon(alloc, book, shelf, site),
         Command::Check { books } => check(alloc, books.as_slice(), shelf, site),
+        Command::Show => show(alloc, site),
         Command::Rules { agent } => say_rules(alloc, *agent, site),
         Command::Decide { agent, packets } => decide(alloc, *agent, packets, shelf, site),
         Command::Shadow { agent } => say_shadows(alloc, *agent, site),
-        Command::Run { .. } | Command::Show | Command::Rehearse { .. } => End::NotUnderstood,
+        Command::Run { .. } | Command::Rehearse { .. } => End::NotUnderstood,
     }
 }
 

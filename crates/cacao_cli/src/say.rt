@@ -1,10 +1,12 @@
 // The lines that a call of the program says.
 ghost use Rattle.std.specs.Prelude.{◌≡◌, ◌∷◌, [], map, string_bytes};
+ghost use Rattle.run_reports.specs.RunLines.{lines_of};
 ghost use Rattle.cacao_cli.specs.Command.{end_of};
 ghost use Rattle.cacao_cli.specs.Lines.{SaysOrFails, SaysOrStops, SaysWork, Tells};
 
 use crate::end::End;
 use cacao_site::Site;
+use run_reports::next_line;
 use std::alloc::Global;
 
 /// Says the line; the end is this one, if it was said.
@@ -37,6 +39,32 @@ fn say_lines<S: Site>(lines: &[String], site: &mut S) -> bool
             Ok(()) => {}
             Err(_) => return false,
         }
+    }
+    true
+}
+
+/// Says the lines of a text in order; the end is this one, if all were said.
+pub fn say_text<'w, S: Site>(text: &[u8], end: End<'w>, site: &mut S) -> End<'w>
+    ensures { SaysWork (lines_of text.now) (end_of end.entry) (S.view site.old) (S.view site.new) (end_of result) }
+{
+    if say_each(text, site) {
+        end
+    } else {
+        End::Unsaid
+    }
+}
+
+/// Says the lines of a text in order; false where one could not be said.
+fn say_each<S: Site>(text: &[u8], site: &mut S) -> bool
+    ensures { SaysOrStops (lines_of text.now) result (S.view site.old) (S.view site.new) }
+{
+    let mut rest = text;
+    while let Some((line, behind)) = next_line(rest) {
+        match site.say(line) {
+            Ok(()) => {}
+            Err(_) => return false,
+        }
+        rest = behind;
     }
     true
 }

@@ -1,5 +1,6 @@
 //! What the program says and answers, through `top`, on texts whose canonical form is known from outside.
 mod filters;
+mod runs;
 
 use crate::top;
 use cacao_site::{CallList, MemoryShelf, MemorySite, SitePlan, WeatherList};

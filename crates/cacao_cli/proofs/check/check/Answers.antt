@@ -1,5 +1,5 @@
 -- The files are read, then their trees, and then they are judged.
-use Rattle.std.proofs.Common.{◌≡◌, ◌⊎◌, ◌∙◌, refl, sym, ap, subst, arith, ◌≤◌, Bor, List, length, map, Ok, Err}
+use Rattle.std.proofs.Common.{◌≡◌, ◌⊎◌, ◌∙◌, refl, sym, ap, subst, arith, Bor, List, length, map, Ok, Err}
 use Rattle.std.proofs.lemmas.List.{length-map}
 use Rattle.serde_json.specs.Data.{Data}
 use Rattle.cacao_json.specs.Tree.{data_of}
@@ -8,7 +8,7 @@ use Rattle.cacao_check.specs.declared.breaks.Mode.TheVariants.{Read as Reading}
 use Rattle.cacao_words.specs.Words.{Text}
 use Rattle.cacao_cli.specs.Command.{end_of, text_of, IsJudgement}
 use Rattle.cacao_cli.specs.Ends.{End, no_memory}
-use Rattle.cacao_cli.specs.Files.{File, ShelfCall, NamedText, book_file}
+use Rattle.cacao_cli.specs.Files.{ShelfCall, NamedText, book_file}
 use Rattle.cacao_cli.specs.Work.{trees_of}
 use Rattle.cacao_cli.specs.declared.file_text.FileText.{FileText}
 use Rattle.cacao_cli.proofs.LeaveLemmas.{reads-length}

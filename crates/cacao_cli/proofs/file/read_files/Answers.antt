@@ -1,5 +1,5 @@
 -- The files read so far are those before the one that is read.
-use Rattle.std.proofs.Common.{◌≡◌, ◌∙◌, refl, sym, ap, subst, arith, ℕ, ◌+◌, ◌≤◌, Bor, List, [], ◌∷◌, ◌++◌, length, map, take, drop, get_or, take_all, Ok}
+use Rattle.std.proofs.Common.{◌≡◌, ◌∙◌, refl, sym, ap, subst, arith, ℕ, ◌+◌, Bor, List, [], ◌∷◌, ◌++◌, length, map, take, drop, get_or, take_all, Ok}
 use Rattle.std.proofs.lemmas.List.{map-append, length-append}
 use Rattle.cacao_words.specs.Words.{Text}
 use Rattle.cacao_cli.specs.Command.{end_of, text_of}

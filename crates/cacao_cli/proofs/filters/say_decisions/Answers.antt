@@ -1,5 +1,5 @@
 -- The filter was not opened.
-use Rattle.std.proofs.Common.{◌≡◌, ◌∙◌, inl, sym, ap, subst, Err, List, map, String, Global, string_bytes}
+use Rattle.std.proofs.Common.{◌∙◌, inl, sym, ap, subst, Err, List, map, String, Global, string_bytes}
 use Rattle.filter_reports.specs.Lines.{decision_lines}
 use Rattle.cacao_cli.specs.Command.{end_of}
 use Rattle.cacao_cli.specs.Lines.{SaysWork}

@@ -1,5 +1,5 @@
 -- The filter was not opened.
-use Rattle.std.proofs.Common.{◌≡◌, sym, ap, subst, Err}
+use Rattle.std.proofs.Common.{sym, ap, subst, Err}
 use Rattle.cacao_site.specs.View.{SiteView}
 use Rattle.cacao_cli.specs.Ends.{End}
 use Rattle.cacao_cli.specs.Ended.{Performs}

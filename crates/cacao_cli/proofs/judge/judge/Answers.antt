@@ -7,7 +7,6 @@ use Rattle.cacao_book.specs.Reading.{RefusesTree}
 use Rattle.cacao_json.specs.Tree.{data_of}
 use Rattle.cacao_json.specs.declared.tree.Tree.{Tree}
 use Rattle.cacao_cli.specs.Command.{IsJudgement}
-use Rattle.cacao_cli.specs.Ends.{End}
 use Rattle.cacao_cli.proofs.JudgeLemmas.{AllShaped, shaped-more, judged-shape, judged-sense, judged-sound}
 use Rattle.cacao_cli.proofs.ReadLemmas.{map-split, map-more}
 use Rattle.cacao_cli.proofs.judge.judge.Goals as goal

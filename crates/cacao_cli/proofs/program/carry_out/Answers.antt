@@ -5,8 +5,16 @@ use Rattle.cacao_cli.specs.Asked.{Asked}
 use Rattle.cacao_cli.specs.Command.{asked_by, end_of}
 use Rattle.cacao_cli.specs.Ended.{Performed}
 use Rattle.cacao_cli.specs.Files.{ShelfCall}
-use Rattle.cacao_cli.proofs.PerformLemmas.{performed-none, rules-perform, shadows-perform}
+use Rattle.cacao_cli.proofs.PerformLemmas.{performed-none, rules-perform, shadows-perform, show-perform}
 use Rattle.cacao_cli.proofs.program.carry_out.Goals as goal
+
+pub returns-in-Show-clause-performed : goal.returns-in-Show-clause-performed
+returns-in-Show-clause-performed g c =
+    let shelf : ShelfCall = record { told = g.L.Shelf.told c.args.shelf.now; before = g.L.Shelf.faults c.args.shelf.now; after = g.L.Shelf.faults c.args.shelf.now; reads_before = g.L.Shelf.reads c.args.shelf.now; reads_after = g.L.Shelf.reads c.args.shelf.now } in
+    let old : SiteView = g.S.Disk.view c.args.site.now in
+    let new : SiteView = g.S.Disk.view c.show.new.site in
+    subst (λ (a : Option Asked). Performed a shelf old new (end_of c.show.result)) (sym (ap asked_by c.in-Show.is))
+    (show-perform shelf old new (end_of c.show.result) refl refl c.show.ensures)
 
 pub returns-in-Rules-clause-performed : goal.returns-in-Rules-clause-performed
 returns-in-Rules-clause-performed g c =
@@ -27,5 +35,5 @@ returns-in-Shadow-clause-performed g c =
 pub returns-in-Run-clause-performed : goal.returns-in-Run-clause-performed
 returns-in-Run-clause-performed g c =
     let shelf : ShelfCall = record { told = g.L.Shelf.told c.args.shelf.now; before = g.L.Shelf.faults c.args.shelf.now; after = g.L.Shelf.faults c.args.shelf.now; reads_before = g.L.Shelf.reads c.args.shelf.now; reads_after = g.L.Shelf.reads c.args.shelf.now } in
-    let none : asked_by c.args.command.now ≡ None = ⊎_elim (λ h. ap asked_by h.1) (λ other. ⊎_elim (λ h. ap asked_by h) (λ h. ap asked_by h.1) other) c.in-Run.is in
+    let none : asked_by c.args.command.now ≡ None = ⊎_elim (λ h. ap asked_by h.1) (λ h. ap asked_by h.1) c.in-Run.is in
     performed-none (asked_by c.args.command.now) shelf (g.S.Disk.view c.args.site.now) none refl refl

@@ -1,9 +1,7 @@
 -- Each clause holds of a call that went as `Ended` says.
-use Rattle.std.proofs.Common.{ℕ, map, string_bytes}
-use Rattle.cacao_site.specs.View.{SiteView}
+use Rattle.std.proofs.Common.{map, string_bytes}
 use Rattle.cacao_cli.specs.Asked.{asked}
 use Rattle.cacao_cli.specs.Command.{end_of}
-use Rattle.cacao_cli.specs.Ended.{Ended}
 use Rattle.cacao_cli.specs.Files.{ShelfCall}
 use Rattle.cacao_cli.proofs.CountLemmas.{disk-ended, failed-ended, steady-ended, unsaid-ended, said-ended, memory-ended}
 use Rattle.cacao_cli.proofs.ExactLemmas.{exact-ended}

@@ -1,5 +1,5 @@
 -- All the lines were said, or one could not be.
-use Rattle.std.proofs.Common.{inl, inr, refl, subst, true, false, Bool, map, string_bytes}
+use Rattle.std.proofs.Common.{inl, inr, refl, subst, Bool, map, string_bytes}
 use Rattle.cacao_cli.specs.Lines.{FailsAmong, SaysAll, SaysOrStops}
 use Rattle.cacao_cli.proofs.say.say_all.Goals as goal
 

@@ -1,8 +1,8 @@
 -- The lines so far were said.
-use Rattle.std.proofs.Common.{◌≡◌, ◌∙◌, sym, ap, subst, ℕ, ◌+◌, List, [], ◌∷◌, ◌++◌, map, take, take_all, drop, get_or, length, String, Global, string_bytes}
+use Rattle.std.proofs.Common.{◌≡◌, ◌∙◌, sym, ap, subst, ℕ, ◌+◌, List, map, take, take_all, drop, get_or, String, Global, string_bytes}
 use Rattle.cacao_site.specs.View.{SiteView}
 use Rattle.cacao_words.specs.Words.{Text}
-use Rattle.cacao_cli.specs.Lines.{FailsToSay, SaysAll, SaysLine}
+use Rattle.cacao_cli.specs.Lines.{SaysAll, SaysLine}
 use Rattle.cacao_cli.proofs.ReadLemmas.{map-more, map-split}
 use Rattle.cacao_cli.proofs.UnsaidLemmas.{says-more}
 use Rattle.cacao_cli.proofs.say.say_lines.Goals as goal

@@ -1,0 +1,226 @@
+-- The engine's file is opened, and something is said of it.
+use Rattle.std.proofs.Common.{◌≡◌, ◌⊎◌, ◌∙◌, inl, inr, refl, sym, ap, subst, arith, ℕ, ◌≤◌, List, []}
+use Rattle.std.specs.Prelude.{IsTrue}
+use Rattle.cacao_site.specs.Counts.{Rose, next_count}
+use Rattle.cacao_site.specs.View.{SiteView}
+use Rattle.run_journal.specs.Layout.{Stands}
+use Rattle.run_journal.specs.declared.error.JournalError.{JournalError}
+use Rattle.run_journal.specs.declared.error.JournalError.TheVariants as journal_error
+use Rattle.run_reports.specs.RunFiles as run
+use Rattle.run_reports.specs.RunLines.{HoldsReport, lines_of}
+use Rattle.run_reports.specs.declared.error.ReportError.{ReportError}
+use Rattle.run_reports.specs.declared.error.ReportError.TheVariants as report_error
+use Rattle.run_reports.proofs.OneAnswer.{damaged-or-large, report-or-damaged, report-or-large}
+use Rattle.cacao_words.specs.Words.{Text}
+use Rattle.cacao_cli.specs.Command.{journal_end, report_end}
+use Rattle.cacao_cli.specs.Ends.{End, status_of, text_of, damaged, disk_failed, done, no_memory, past}
+use Rattle.cacao_cli.specs.Ended.{Performs}
+use Rattle.cacao_cli.specs.Leaves.{WritesNothing}
+use Rattle.cacao_cli.specs.Lines.{SaysWork, Tells}
+use Rattle.cacao_cli.specs.Openings.{FailsToOpen, FindsNoRun, FindsTooMany, HoldsRun, IsDamagedRun, IsTooLargeRun, Opens, SaysRun, WantsToOpen}
+use Rattle.cacao_cli.specs.Work.{opens_run}
+use Rattle.cacao_cli.specs.declared.limit.Limit.TheVariants.{TaskCount}
+use Rattle.cacao_cli.proofs.LineLemmas.{IsCutOff, says-status}
+use Rattle.cacao_cli.proofs.OpenLemmas.{nothing-written, work-some}
+use Rattle.cacao_cli.proofs.UnsaidLemmas.{last-disk, works-disk, works-said, works-unsaid}
+
+-- ---- the file was not opened, or has no report
+
+pub not-opened : (old new : SiteView) (error : JournalError) → Opens 0 old new
+    → ((place : ℕ) → error ≡ journal_error.Damaged place → IsTrue old.disk.told → run.IsDamaged (new.disk.reads 0) place)
+    → (error ≡ journal_error.Disk → Rose old.disk.faults new.disk.faults)
+    → (error ≡ journal_error.Broken → ⊥) → ((needed : ℕ) → error ≡ journal_error.Full needed → ⊥)
+    → Performs opens_run old new (journal_end error)
+not-opened old new journal_error.Disk opens bad failed broken full = inr (inr (inr (inl (record { opens = opens; cause = failed refl; ends = refl }))))
+not-opened old new (journal_error.Damaged place) opens bad failed broken full = inr (inl (record { opens = opens; place = place; is_damaged = bad place refl; ends = refl }))
+not-opened old new (journal_error.Full needed) opens bad failed broken full = absurd (full needed refl)
+not-opened old new journal_error.Broken opens bad failed broken full = absurd (broken refl)
+not-opened old new journal_error.Memory opens bad failed broken full = inr (inr (inr (inr (record { opens = opens; ends = refl }))))
+
+pub no-report : (old new : SiteView) (entries : List (List ℕ)) (error : ReportError) → Opens 0 old new → (IsTrue old.disk.told → Stands (new.disk.reads 0) entries)
+    → ((place : ℕ) → error ≡ report_error.Damaged place → run.BreaksOff entries place) → (error ≡ report_error.TooManyTasks → run.Overgrows entries)
+    → Performs opens_run old new (report_end error)
+no-report old new entries (report_error.Damaged place) opens stands breaks grows =
+    inr (inl (record { opens = opens; place = place; is_damaged = λ told. inr (entries, stands told, breaks place refl); ends = refl }))
+no-report old new entries report_error.TooManyTasks opens stands breaks grows =
+    inr (inr (inl (record { opens = opens; is_large = λ told. (entries, stands told, grows refl); ends = refl })))
+no-report old new entries report_error.Memory opens stands breaks grows = inr (inr (inr (inr (record { opens = opens; ends = refl }))))
+
+-- ---- what came of the opening, however it went
+
+record Went (lines : List Text) (end : End) (Holds : List ℕ → Type 0) (old mid : SiteView) (last : End) : Type 0 where
+  between : SiteView
+  opens : Opens 0 old between
+  holds : IsTrue old.disk.told → Holds (between.disk.reads 0)
+  says : SaysWork lines end between mid last
+
+abbrev IsReport : List ℕ → Type 0
+IsReport image = (text : Text) × HoldsReport image text
+
+abbrev IsBad : List ℕ → Type 0
+IsBad image = (place : ℕ) × run.IsDamaged image place
+
+of-said : (old mid : SiteView) (last : End) → (h : SaysRun old mid last) → Went (lines_of h.text) done IsReport old mid last
+of-said old mid last h = record {
+  between = h.between;
+  opens = h.opens;
+  holds = λ told. (h.text, (h.entries, h.holds told, h.reports));
+  says = h.says;
+}
+
+of-none : (old mid : SiteView) (last : End) → (h : FindsNoRun old mid last) → Went [] (damaged 0 h.place) IsBad old mid last
+of-none old mid last h = record { between = mid; opens = h.opens; holds = λ told. (h.place, h.is_damaged told); says = inl (record { says = refl; ends = h.ends }) }
+
+of-many : (old mid : SiteView) (last : End) → FindsTooMany old mid last → Went [] (past TaskCount) run.IsTooLarge old mid last
+of-many old mid last h = record { between = mid; opens = h.opens; holds = h.is_large; says = inl (record { says = refl; ends = h.ends }) }
+
+of-failed : (old mid : SiteView) (last : End) → FailsToOpen 0 old mid last → Went [] disk_failed (λ image. Unit {0}) old mid last
+of-failed old mid last h = record { between = mid; opens = h.opens; holds = λ told. tt; says = inl (record { says = refl; ends = h.ends }) }
+
+of-wanted : (old mid : SiteView) (last : End) → WantsToOpen 0 old mid last → Went [] no_memory (λ image. Unit {0}) old mid last
+of-wanted old mid last h = record { between = mid; opens = h.opens; holds = λ told. tt; says = inl (record { says = refl; ends = h.ends }) }
+
+module _ (lines : List Text) (end : End) (Holds : List ℕ → Type 0) (old mid new : SiteView) (last : End) (answer : ℕ) where
+  went-leaves : Went lines end Holds old mid last → Tells last mid new answer → WritesNothing 0 old new
+  went-leaves h tells = nothing-written 0 old h.between new h.opens (work-some lines end h.between mid new last answer h.says tells)
+
+  went-comes : Went lines end Holds old mid last → Tells last mid new answer → ((IsTrue old.disk.told → Holds (new.disk.reads 0)) × (answer ≡ status_of end)) ⊎ IsCutOff answer
+  went-comes h tells = go (says-status lines end h.between mid new last answer h.says tells)
+    where
+      same : new.disk.reads 0 ≡ h.between.disk.reads 0
+      same = ((work-some lines end h.between mid new last answer h.says tells).disk.stays 0).reads
+
+      go : (answer ≡ status_of end) ⊎ IsCutOff answer → ((IsTrue old.disk.told → Holds (new.disk.reads 0)) × (answer ≡ status_of end)) ⊎ IsCutOff answer
+      go (inr c) = inr c
+      go (inl e) = inl ((λ told. subst Holds (sym same) (h.holds told)), e)
+
+  went-grows : Went lines end Holds old mid last → old.disk.faults ≤ mid.disk.faults
+  went-grows h = omega (arith, h.opens.only.each.goes_on.faults, works-disk lines end h.between mid last h.says)
+
+  went-steady : Went lines end Holds old mid last → (status_of end ≡ 8 → ⊥) → Tells last mid new answer → answer ≡ 8 → ⊥
+  went-steady h other tells e = go (says-status lines end h.between mid new last answer h.says tells)
+    where
+      go : (answer ≡ status_of end) ⊎ IsCutOff answer → ⊥
+      go (inl f) = other (sym f ∙ e)
+      go (inr (inl f)) = omega (arith, e, f)
+      go (inr (inr (inl f))) = omega (arith, e, f)
+      go (inr (inr (inr f))) = f
+
+  went-said : Went lines end Holds old mid last → Tells last mid new answer → (answer ≡ 9 → ⊥) → new.clock.unsaid ≡ old.clock.unsaid
+  went-said h tells unlike = works-said lines end h.between mid new last answer h.says tells unlike ∙ ap (λ c. c.unsaid) h.opens.only.rest.clock
+
+  went-unsaid : Went lines end Holds old mid last → (status_of end ≡ 9 → ⊥) → Tells last mid new answer → answer ≡ 9 → new.clock.unsaid ≡ next_count old.clock.unsaid
+  went-unsaid h other tells e = works-unsaid lines end h.between mid new last answer other h.says tells e ∙ ap next_count (ap (λ c. c.unsaid) h.opens.only.rest.clock)
+
+-- ---- the cases
+
+-- what may come of the opening of the engine's file
+abbrev pub ComesShown : SiteView → SiteView → ℕ → Type 0
+ComesShown old new n =
+    ((IsTrue old.disk.told → HoldsRun new) × (n ≡ 0))
+    ⊎ (((IsTrue old.disk.told → IsDamagedRun new) × (n ≡ 13)) ⊎ (((IsTrue old.disk.told → IsTooLargeRun new) × (n ≡ 11)) ⊎ (n ≡ 8)))
+
+module _ (old mid new : SiteView) (last : End) (answer : ℕ) where
+  pub run-leaves : Performs opens_run old mid last → Tells last mid new answer → WritesNothing 0 old new
+  run-leaves (inl h) tells = went-leaves (lines_of h.text) done IsReport old mid new last answer (of-said old mid last h) tells
+  run-leaves (inr (inl h)) tells = went-leaves [] (damaged 0 h.place) IsBad old mid new last answer (of-none old mid last h) tells
+  run-leaves (inr (inr (inl h))) tells = went-leaves [] (past TaskCount) run.IsTooLarge old mid new last answer (of-many old mid last h) tells
+  run-leaves (inr (inr (inr (inl h)))) tells = went-leaves [] disk_failed (λ image. Unit {0}) old mid new last answer (of-failed old mid last h) tells
+  run-leaves (inr (inr (inr (inr h)))) tells = went-leaves [] no_memory (λ image. Unit {0}) old mid new last answer (of-wanted old mid last h) tells
+
+  pub run-comes : Performs opens_run old mid last → Tells last mid new answer → ComesShown old new answer ⊎ IsCutOff answer
+  run-comes (inl h) tells = go (went-comes (lines_of h.text) done IsReport old mid new last answer (of-said old mid last h) tells)
+    where
+      go : ((IsTrue old.disk.told → HoldsRun new) × (answer ≡ 0)) ⊎ IsCutOff answer → ComesShown old new answer ⊎ IsCutOff answer
+      go (inl c) = inl (inl c)
+      go (inr c) = inr c
+  run-comes (inr (inl h)) tells = go (went-comes [] (damaged 0 h.place) IsBad old mid new last answer (of-none old mid last h) tells)
+    where
+      go : ((IsTrue old.disk.told → IsDamagedRun new) × (answer ≡ 13)) ⊎ IsCutOff answer → ComesShown old new answer ⊎ IsCutOff answer
+      go (inl c) = inl (inr (inl c))
+      go (inr c) = inr c
+  run-comes (inr (inr (inl h))) tells = go (went-comes [] (past TaskCount) run.IsTooLarge old mid new last answer (of-many old mid last h) tells)
+    where
+      go : ((IsTrue old.disk.told → IsTooLargeRun new) × (answer ≡ 11)) ⊎ IsCutOff answer → ComesShown old new answer ⊎ IsCutOff answer
+      go (inl c) = inl (inr (inr (inl c)))
+      go (inr c) = inr c
+  run-comes (inr (inr (inr (inl h)))) tells = go (went-comes [] disk_failed (λ image. Unit {0}) old mid new last answer (of-failed old mid last h) tells)
+    where
+      go : ((IsTrue old.disk.told → Unit {0}) × (answer ≡ 8)) ⊎ IsCutOff answer → ComesShown old new answer ⊎ IsCutOff answer
+      go (inl c) = inl (inr (inr (inr c.1)))
+      go (inr c) = inr c
+  run-comes (inr (inr (inr (inr h)))) tells = go (went-comes [] no_memory (λ image. Unit {0}) old mid new last answer (of-wanted old mid last h) tells)
+    where
+      go : ((IsTrue old.disk.told → Unit {0}) × (answer ≡ 10)) ⊎ IsCutOff answer → ComesShown old new answer ⊎ IsCutOff answer
+      go (inl c) = inr (inr (inl c.1))
+      go (inr c) = inr c
+
+  pub run-grows : Performs opens_run old mid last → old.disk.faults ≤ mid.disk.faults
+  run-grows (inl h) = went-grows (lines_of h.text) done IsReport old mid new last answer (of-said old mid last h)
+  run-grows (inr (inl h)) = h.opens.only.each.goes_on.faults
+  run-grows (inr (inr (inl h))) = h.opens.only.each.goes_on.faults
+  run-grows (inr (inr (inr (inl h)))) = h.opens.only.each.goes_on.faults
+  run-grows (inr (inr (inr (inr h)))) = h.opens.only.each.goes_on.faults
+
+  pub run-failed : Performs opens_run old mid last → Tells last mid new answer → answer ≡ 8 → Rose old.disk.faults new.disk.faults
+  run-failed (inl h) tells e = absurd (went-steady (lines_of h.text) done IsReport old mid new last answer (of-said old mid last h) (λ f. omega (arith, f)) tells e)
+  run-failed (inr (inl h)) tells e = absurd (went-steady [] (damaged 0 h.place) IsBad old mid new last answer (of-none old mid last h) (λ f. omega (arith, f)) tells e)
+  run-failed (inr (inr (inl h))) tells e = absurd (went-steady [] (past TaskCount) run.IsTooLarge old mid new last answer (of-many old mid last h) (λ f. omega (arith, f)) tells e)
+  run-failed (inr (inr (inr (inl h)))) tells e = subst (λ (n : ℕ). Rose old.disk.faults n) (sym (last-disk last (text_of last) mid new answer tells)) h.cause
+  run-failed (inr (inr (inr (inr h)))) tells e = absurd (went-steady [] no_memory (λ image. Unit {0}) old mid new last answer (of-wanted old mid last h) (λ f. omega (arith, f)) tells e)
+
+  pub run-said : Performs opens_run old mid last → Tells last mid new answer → (answer ≡ 9 → ⊥) → new.clock.unsaid ≡ old.clock.unsaid
+  run-said (inl h) tells unlike = went-said (lines_of h.text) done IsReport old mid new last answer (of-said old mid last h) tells unlike
+  run-said (inr (inl h)) tells unlike = went-said [] (damaged 0 h.place) IsBad old mid new last answer (of-none old mid last h) tells unlike
+  run-said (inr (inr (inl h))) tells unlike = went-said [] (past TaskCount) run.IsTooLarge old mid new last answer (of-many old mid last h) tells unlike
+  run-said (inr (inr (inr (inl h)))) tells unlike = went-said [] disk_failed (λ image. Unit {0}) old mid new last answer (of-failed old mid last h) tells unlike
+  run-said (inr (inr (inr (inr h)))) tells unlike = went-said [] no_memory (λ image. Unit {0}) old mid new last answer (of-wanted old mid last h) tells unlike
+
+  pub run-unsaid : Performs opens_run old mid last → Tells last mid new answer → answer ≡ 9 → new.clock.unsaid ≡ next_count old.clock.unsaid
+  run-unsaid (inl h) tells e = went-unsaid (lines_of h.text) done IsReport old mid new last answer (of-said old mid last h) (λ f. omega (arith, f)) tells e
+  run-unsaid (inr (inl h)) tells e = went-unsaid [] (damaged 0 h.place) IsBad old mid new last answer (of-none old mid last h) (λ f. omega (arith, f)) tells e
+  run-unsaid (inr (inr (inl h))) tells e = went-unsaid [] (past TaskCount) run.IsTooLarge old mid new last answer (of-many old mid last h) (λ f. omega (arith, f)) tells e
+  run-unsaid (inr (inr (inr (inl h)))) tells e = went-unsaid [] disk_failed (λ image. Unit {0}) old mid new last answer (of-failed old mid last h) (λ f. omega (arith, f)) tells e
+  run-unsaid (inr (inr (inr (inr h)))) tells e = went-unsaid [] no_memory (λ image. Unit {0}) old mid new last answer (of-wanted old mid last h) (λ f. omega (arith, f)) tells e
+
+-- ---- the status settles the cause
+
+abbrev pub ShownStatus : SiteView → ℕ → Type 0
+ShownStatus new n = (HoldsRun new × (n ≡ 0)) ⊎ ((IsDamagedRun new × (n ≡ 13)) ⊎ (IsTooLargeRun new × (n ≡ 11)))
+
+pub run-done : (new : SiteView) (n : ℕ) → ShownStatus new n → n ≡ 0 → HoldsRun new
+run-done new n (inl h) e = h.0
+run-done new n (inr (inl h)) e = absurd (omega (arith, e, h.1))
+run-done new n (inr (inr h)) e = absurd (omega (arith, e, h.1))
+
+pub done-run : (new : SiteView) (n : ℕ) → ShownStatus new n → HoldsRun new → n ≡ 0
+done-run new n (inl h) holds = h.1
+done-run new n (inr (inl h)) holds = absurd (report-or-damaged (new.disk.reads 0) holds.0 h.0.0 holds.1 h.0.1)
+done-run new n (inr (inr h)) holds = absurd (report-or-large (new.disk.reads 0) holds.0 holds.1 h.0)
+
+pub run-damaged : (new : SiteView) (n : ℕ) → ShownStatus new n → n ≡ 13 → IsDamagedRun new
+run-damaged new n (inl h) e = absurd (omega (arith, e, h.1))
+run-damaged new n (inr (inl h)) e = h.0
+run-damaged new n (inr (inr h)) e = absurd (omega (arith, e, h.1))
+
+pub damaged-run : (new : SiteView) (n : ℕ) → ShownStatus new n → IsDamagedRun new → n ≡ 13
+damaged-run new n (inl h) is = absurd (report-or-damaged (new.disk.reads 0) h.0.0 is.0 h.0.1 is.1)
+damaged-run new n (inr (inl h)) is = h.1
+damaged-run new n (inr (inr h)) is = absurd (damaged-or-large (new.disk.reads 0) is.0 is.1 h.0)
+
+pub run-large : (new : SiteView) (n : ℕ) → ShownStatus new n → n ≡ 11 → IsTooLargeRun new
+run-large new n (inl h) e = absurd (omega (arith, e, h.1))
+run-large new n (inr (inl h)) e = absurd (omega (arith, e, h.1))
+run-large new n (inr (inr h)) e = h.0
+
+pub large-run : (new : SiteView) (n : ℕ) → ShownStatus new n → IsTooLargeRun new → n ≡ 11
+large-run new n (inl h) is = absurd (report-or-large (new.disk.reads 0) h.0.0 h.0.1 is)
+large-run new n (inr (inl h)) is = absurd (damaged-or-large (new.disk.reads 0) h.0.0 h.0.1 is)
+large-run new n (inr (inr h)) is = h.1
+
+-- and others do not come
+pub shown-other : (old new : SiteView) (n m : ℕ) → ComesShown old new n → n ≡ m → (0 ≡ m → ⊥) → (13 ≡ m → ⊥) → (11 ≡ m → ⊥) → (8 ≡ m → ⊥) → ⊥
+shown-other old new n m (inl h) e a b c d = a (sym h.1 ∙ e)
+shown-other old new n m (inr (inl h)) e a b c d = b (sym h.1 ∙ e)
+shown-other old new n m (inr (inr (inl h))) e a b c d = c (sym h.1 ∙ e)
+shown-other old new n m (inr (inr (inr h))) e a b c d = d (sym h ∙ e)

@@ -1,0 +1,5 @@
+pub mod BeginLemmas
+pub mod AcceptLemmas
+pub mod LineLemmas
+pub mod OneAnswer
+pub mod ReplayLemmas

@@ -1,0 +1,4 @@
+pub mod Beginnings
+pub mod Replaying
+pub mod RunFiles
+pub mod RunLines
