@@ -6,28 +6,30 @@ use Rattle.std.proofs.lemmas.Cmp.{nat_list_cmp_total}
 use Rattle.std.proofs.lemmas.List.{at_drop_more, drop_all}
 use Rattle.serde_json.specs.Data.{Data, item, Members, no_members, member, put}
 use Rattle.cacao_json.specs.declared.tree.Tree.{Tree}
-use Rattle.cacao_json.specs.declared.tree.Pair.{Pair}
-use Rattle.cacao_json.specs.Tree.{data_of, items_of, pair_data, members_of}
+use Rattle.cacao_json.specs.Tree.{data_of, items_of, members_of}
 use Rattle.cacao_json.specs.Profile.{IsBelow, AreSortedMembers}
 use Rattle.cacao_json.specs.Size.{size, items_size, members_size}
 use Rattle.flow_rules.specs.State.{Lists}
 use Rattle.flow_rules.specs.Filled.{filled, filled_items, filled_members}
+use Rattle.flow_core.specs.declared.contents.Content.{Content}
+use Rattle.flow_core.specs.declared.contents.Entry.{Entry}
+use Rattle.flow_core.specs.Contents.{content_data, entry_data}
 
 -- ---- items
 
 module _ (s : Lists) (scope : ℕ) where
-  pub items_filled : (ts : List Tree) → items_of (map (λ t. filled s scope (data_of t)) ts) ≡ filled_items s scope (items_of (map data_of ts))
+  pub items_filled : (cs : List Content) → items_of (map (λ c. filled s scope (content_data c)) cs) ≡ filled_items s scope (items_of (map content_data cs))
   items_filled [] = refl
-  items_filled (t ∷ ts) = ap (item (filled s scope (data_of t))) (items_filled ts)
+  items_filled (c ∷ cs) = ap (item (filled s scope (content_data c))) (items_filled cs)
 
   -- the first ones filled, and what is left
-  abbrev pub AreFilled : List Tree → List Tree → ℕ → Type 0
-  AreFilled ts made i = map data_of made ++ map (λ t. filled s scope (data_of t)) (drop i ts) ≡ map (λ t. filled s scope (data_of t)) ts
+  abbrev pub AreFilled : List Content → List Tree → ℕ → Type 0
+  AreFilled cs made i = map data_of made ++ map (λ c. filled s scope (content_data c)) (drop i cs) ≡ map (λ c. filled s scope (content_data c)) cs
 
-  pub items_done : (ts made : List Tree) (i : ℕ) → length ts ≤ i → AreFilled ts made i → items_of (map data_of made) ≡ filled_items s scope (items_of (map data_of ts))
-  items_done ts made i past w =
-      let f : Tree → Data = λ t. filled s scope (data_of t) in
-      ap items_of (sym (append-nil (map data_of made)) ∙ ap (λ l. map data_of made ++ map f l) (sym (drop_all i ts past)) ∙ w) ∙ items_filled ts
+  pub items_done : (cs : List Content) (made : List Tree) (i : ℕ) → length cs ≤ i → AreFilled cs made i → items_of (map data_of made) ≡ filled_items s scope (items_of (map content_data cs))
+  items_done cs made i past w =
+      let f : Content → Data = λ c. filled s scope (content_data c) in
+      ap items_of (sym (append-nil (map data_of made)) ∙ ap (λ l. map data_of made ++ map f l) (sym (drop_all i cs past)) ∙ w) ∙ items_filled cs
 
 -- ---- members
 
@@ -72,33 +74,33 @@ module _ (s : Lists) (scope : ℕ) where
   rising_filled no_members w = tt
   rising_filled (member k d ms) w = (below_filled k ms w.2, rising_filled ms w.3)
 
-  abbrev pub MembersFilled : List Pair → Members → ℕ → Type 0
-  MembersFilled ps made i = followed made (filled_members s scope (members_of (map pair_data (drop i ps)))) ≡ filled_members s scope (members_of (map pair_data ps))
+  abbrev pub MembersFilled : List Entry → Members → ℕ → Type 0
+  MembersFilled ps made i = followed made (filled_members s scope (members_of (map entry_data (drop i ps)))) ≡ filled_members s scope (members_of (map entry_data ps))
 
-  pub members_more : (ps : List Pair) (old new : Members) (i : ℕ) (p : Pair) (name : List ℕ) (d : Data) → AreSortedMembers (members_of (map pair_data ps)) → i < length ps → p ≡ get_or ps i p
-      → name ≡ p.name → d ≡ filled s scope (data_of p.tree) → new ≡ put name d old → MembersFilled ps old i → MembersFilled ps new (i + 1)
+  pub members_more : (ps : List Entry) (old new : Members) (i : ℕ) (p : Entry) (name : List ℕ) (d : Data) → AreSortedMembers (members_of (map entry_data ps)) → i < length ps → p ≡ get_or ps i p
+      → name ≡ p.name → d ≡ filled s scope (content_data p.content) → new ≡ put name d old → MembersFilled ps old i → MembersFilled ps new (i + 1)
   members_more ps old new i p name d sorted below at n e more w =
-      let f : List Pair → Members = λ ps. filled_members s scope (members_of (map pair_data ps)) in
+      let f : List Entry → Members = λ ps. filled_members s scope (members_of (map entry_data ps)) in
       let left = f (drop (i + 1) ps) in
       let next : f (drop i ps) ≡ member name d left =
-      at_drop_more f ps i p below ∙ ap (λ (q : Pair). member q.name (filled s scope (data_of q.tree)) left) (sym at)
-      ∙ ap (λ k. member k (filled s scope (data_of p.tree)) left) (sym n) ∙ ap (λ x. member name x left) (sym e) in
+      at_drop_more f ps i p below ∙ ap (λ (q : Entry). member q.name (filled s scope (content_data q.content)) left) (sym at)
+      ∙ ap (λ k. member k (filled s scope (content_data p.content)) left) (sym n) ∙ ap (λ x. member name x left) (sym e) in
       let whole : followed old (member name d left) ≡ f ps = ap (followed old) (sym next) ∙ w in
-      let rises : AreRising (followed old (member name d left)) = subst AreRising (sym whole) (rising_filled (members_of (map pair_data ps)) sorted) in
+      let rises : AreRising (followed old (member name d left)) = subst AreRising (sym whole) (rising_filled (members_of (map entry_data ps)) sorted) in
       ap (λ ms. followed ms left) (more ∙ put_last name d old left rises) ∙ followed_twice old (member name d no_members) left ∙ whole
 
-  pub members_done : (ps : List Pair) (made : Members) (i : ℕ) → length ps ≤ i → MembersFilled ps made i → made ≡ filled_members s scope (members_of (map pair_data ps))
+  pub members_done : (ps : List Entry) (made : Members) (i : ℕ) → length ps ≤ i → MembersFilled ps made i → made ≡ filled_members s scope (members_of (map entry_data ps))
   members_done ps made i past w =
-      sym (followed_none made) ∙ ap (λ l. followed made (filled_members s scope (members_of (map pair_data l)))) (sym (drop_all i ps past)) ∙ w
+      sym (followed_none made) ∙ ap (λ l. followed made (filled_members s scope (members_of (map entry_data l)))) (sym (drop_all i ps past)) ∙ w
 
 -- ---- parts are smaller
 
-pub item_within : (ts : List Tree) (i : ℕ) (t : Tree) → i < length ts → t ≡ get_or ts i t → size (data_of t) < items_size (items_of (map data_of ts))
+pub item_within : (ts : List Content) (i : ℕ) (t : Content) → i < length ts → t ≡ get_or ts i t → size (content_data t) < items_size (items_of (map content_data ts))
 item_within [] i t h e = absurd (omega arith)
-item_within (u ∷ ts) zero t h e = omega (arith, ap (λ x. size (data_of x)) e)
+item_within (u ∷ ts) zero t h e = omega (arith, ap (λ x. size (content_data x)) e)
 item_within (u ∷ ts) (suc i) t h e = omega (arith, item_within ts i t (omega arith) e)
 
-pub pair_within : (ps : List Pair) (i : ℕ) (p : Pair) → i < length ps → p ≡ get_or ps i p → size (data_of p.tree) < members_size (members_of (map pair_data ps))
-pair_within [] i p h e = absurd (omega arith)
-pair_within (q ∷ ps) zero p h e = omega (arith, ap (λ x. size (data_of x.tree)) e)
-pair_within (q ∷ ps) (suc i) p h e = omega (arith, pair_within ps i p (omega arith) e)
+pub entry_within : (ps : List Entry) (i : ℕ) (p : Entry) → i < length ps → p ≡ get_or ps i p → size (content_data p.content) < members_size (members_of (map entry_data ps))
+entry_within [] i p h e = absurd (omega arith)
+entry_within (q ∷ ps) zero p h e = omega (arith, ap (λ x. size (content_data x.content)) e)
+entry_within (q ∷ ps) (suc i) p h e = omega (arith, entry_within ps i p (omega arith) e)

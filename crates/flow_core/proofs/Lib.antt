@@ -1,7 +1,7 @@
 pub mod AddingLemmas
 pub mod AddressLemmas
 pub mod AnswerLemmas
-pub mod BoundLemmas
+pub mod ContentLemmas
 pub mod CountLemmas
 pub mod DeclaredLemmas
 pub mod DueFacts
@@ -18,6 +18,7 @@ pub mod LookLemmas
 pub mod MemberLemmas
 pub mod MoveEdits
 pub mod MoveFacts
+pub mod PhraseLemmas
 pub mod PlaceLemmas
 pub mod PlanLemmas
 pub mod PresentLemmas
@@ -43,3 +44,4 @@ pub mod TruthLemmas
 pub mod UnitLemmas
 pub mod WaitLemmas
 pub mod WholeLemmas
+pub mod WordLemmas

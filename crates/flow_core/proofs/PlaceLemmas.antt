@@ -17,6 +17,7 @@ use Rattle.cacao_check.specs.Uses.{content_tree}
 use Rattle.flow_core.specs.declared.places.Place.{Place}
 use Rattle.flow_core.specs.declared.places.Place.TheVariants as place
 use Rattle.flow_core.specs.PlaceViews.{IsPlaceOf, IsOfCommand}
+use Rattle.flow_core.specs.Questions.{question_of}
 
 module _ {X : Type 0} where
   get_front : (xs ys : List X) (n : ℕ) → n < length xs → slice_get (xs ++ ys) n ≡ slice_get xs n
@@ -91,7 +92,8 @@ pub of_command : (commands : List StepCommand) (number : ℕ) (command : StepCom
     → IsPlaceOf command number p → IsOfCommand commands p
 of_command commands number command (place.Filter n content to) below at w =
     w.1 ∙ ap (option_and_then content_tree) (sym (ap (slice_get commands) w.0 ∙ slice_get_read commands (length commands) number command refl below at))
-of_command commands number command (place.Operator content) below at w = tt
+of_command commands number command (place.Operator n content) below at w =
+    w.1 ∙ ap (option_and_then question_of) (sym (ap (slice_get commands) w.0 ∙ slice_get_read commands (length commands) number command refl below at))
 
 pub any_of_command : (commands : List StepCommand) (number : ℕ) (command : StepCommand) (o : Option Place) → number < length commands → command ≡ get_or commands number command
     → IfSome o (IsPlaceOf command number) → IfSome o (IsOfCommand commands)

@@ -42,28 +42,18 @@ condition_read law given at parts h =
 
 -- ---- contents
 
-same_at : {X Y Z : Type 0} (f : X → Option Z) (g : Y → Option Z) (xs : List X) (ys : List Y) (k : ℕ) → map f xs ≡ map g ys → option_and_then f (slice_get xs k) ≡ option_and_then g (slice_get ys k)
+pub same_at : {X Y Z : Type 0} (f : X → Option Z) (g : Y → Option Z) (xs : List X) (ys : List Y) (k : ℕ) → map f xs ≡ map g ys → option_and_then f (slice_get xs k) ≡ option_and_then g (slice_get ys k)
 same_at f g [] [] k e = refl
 same_at f g [] (y ∷ ys) k e = absurd (cc)
 same_at f g (x ∷ xs) [] k e = absurd (cc)
 same_at f g (x ∷ xs) (y ∷ ys) zero e = cc
 same_at f g (x ∷ xs) (y ∷ ys) (suc k) e = same_at f g xs ys k (let rest : map f xs ≡ map g ys = cc in rest)
 
-pub content_read : (given : Given) (at : Option Step) (parts : Parts) (command : ℕ) → AreParts given at parts
-    → option_and_then (option_map data_of) (slice_get parts.contents.items command) ≡ option_and_then (λ (s : Step). option_and_then content_tree (slice_get (commands_of s.kind) command)) at
-content_read given at parts command h =
-    same_at (option_map data_of) content_tree parts.contents.items (commands_of h.step.kind) command h.reads.contents
-    ∙ sym (ap (option_and_then (λ (s : Step). option_and_then content_tree (slice_get (commands_of s.kind) command))) h.step_is)
-
 -- ---- what is behind a reference
 
 pub tree_behind : (o : Option (Bor Cond)) → option_map (λ (cond : Bor Cond). tree_of cond.now) o ≡ option_map tree_of (option_copied o)
 tree_behind None = refl
 tree_behind (Some cond) = refl
-
-pub data_behind : (o : Option (Bor Tree)) → option_map (λ (tree : Bor Tree). data_of tree.now) o ≡ option_map data_of (option_copied o)
-data_behind None = refl
-data_behind (Some tree) = refl
 
 -- ---- what is found
 

@@ -10,9 +10,7 @@ use Rattle.std.proofs.lemmas.List.{at_drop_more, drop_all}
 use Rattle.std.proofs.lemmas.Slice.Eq.{bytes_eq-Decides}
 use Rattle.serde_json.specs.Data.{Data, null, boolean, number, string, array, object, Items, no_items, item, Members, no_members, member}
 use Rattle.serde_json.specs.Find.{get_member, of_integer}
-use Rattle.cacao_json.specs.declared.tree.Tree.{Tree}
-use Rattle.cacao_json.specs.declared.tree.Pair.{Pair}
-use Rattle.cacao_json.specs.Tree.{data_of, items_of, pair_data, members_of, without}
+use Rattle.cacao_json.specs.Tree.{items_of, members_of, without}
 use Rattle.cacao_json.specs.Profile.{AreSortedMembers}
 use Rattle.cacao_text.specs.Canon.{escaped, whole_text, string_text, in_order, after_commas, joined, member_text, canon, item_texts, named_texts}
 use Rattle.cacao_text.proofs.Sorting.{total, total-in_order}
@@ -20,9 +18,14 @@ use Rattle.cacao_vars.specs.References.{Found, references, references_from, firs
 use Rattle.flow_rules.specs.State.{Lists}
 use Rattle.flow_rules.specs.Values.{text_at}
 use Rattle.flow_rules.specs.Filled.{replaced, filled, filled_items, filled_members, with_member, set_member, completed, command_id, addressed}
+use Rattle.flow_core.specs.declared.contents.Content.{Content}
+use Rattle.flow_core.specs.declared.contents.Entry.{Entry}
+use Rattle.flow_core.specs.declared.phrases.Reference.{Reference}
 use Rattle.flow_core.specs.declared.sizing.Setting.{Setting}
 use Rattle.flow_core.specs.declared.sizing.Setting.TheVariants as setting
 use Rattle.flow_core.specs.Completed.{completed_args}
+use Rattle.flow_core.specs.Contents.{content_data, entry_data}
+use Rattle.flow_core.specs.Phrases.{spelled_by}
 use Rattle.flow_core.specs.Sizes.{text_bytes, is_set, items_bytes, member_bytes, members_bytes, id_bytes}
 use Rattle.flow_core.proofs.MemberLemmas.{Lacks, IsOnce, with_itself, with_other, get_itself, get_other, without_itself, without_other, without_lacking, other_name, once_with, get_with, without_with, once_sorted}
 
@@ -53,38 +56,32 @@ byte_taken text i x left new below e =
 
 -- ---- references
 
-module _ (s : Lists) (scope : ℕ) where
-  abbrev part : Found → List ℕ
-  part found = found.before ++ text_at s scope found.name
+module _ (f : List ℕ → List ℕ) (quoted : Bool) where
+  abbrev reference_bytes : Reference → ℕ
+  reference_bytes r = text_bytes quoted r.before + text_bytes quoted (f r.name)
 
-  pub replaced_none : (text : List ℕ) → ReferencesGoOn → first_reference text ≡ None → replaced s scope text ≡ text
-  replaced_none text go e = ap (λ (r : List Found × List ℕ). flat_map part r.0 ++ r.1) (go text ∙ ap (λ o. references_from o text) e)
+  -- the bytes of references, each with what stands before it
+  abbrev pub references_bytes : List Reference → ℕ
+  references_bytes [] = 0
+  references_bytes (r ∷ rs) = reference_bytes r + references_bytes rs
 
-  pub replaced_some : (text : List ℕ) (found : Found) → ReferencesGoOn → first_reference text ≡ Some found
-      → replaced s scope text ≡ found.before ++ (text_at s scope found.name ++ replaced s scope found.rest)
-  replaced_some text found go e =
-      ap (λ (r : List Found × List ℕ). flat_map part r.0 ++ r.1) (go text ∙ ap (λ o. references_from o text) e)
-      ∙ append_assoc (part found) (flat_map part (references found.rest).0) (references found.rest).1
-      ∙ append_assoc found.before (text_at s scope found.name) (replaced s scope found.rest)
+  none_spelled : (b : Bool) → text_bytes b [] ≡ 0
+  none_spelled true = refl
+  none_spelled false = refl
 
-  -- one more reference is taken
-  replaced_more : (quoted : Bool) (text : List ℕ) (found : Found) (left : ℕ) → ReferencesGoOn → first_reference text ≡ Some found
-      → left - text_bytes quoted found.before - text_bytes quoted (text_at s scope found.name) - text_bytes quoted (replaced s scope found.rest) ≡ left - text_bytes quoted (replaced s scope text)
-  replaced_more quoted text found left go e =
-      omega (
-        arith,
-        ap (text_bytes quoted) (replaced_some text found go e),
-        text_bytes-append quoted found.before (text_at s scope found.name ++ replaced s scope found.rest),
-        text_bytes-append quoted (text_at s scope found.name) (replaced s scope found.rest),
-      )
+  spelled_bytes : (rs : List Reference) → text_bytes quoted (spelled_by f rs) ≡ references_bytes rs
+  spelled_bytes [] = none_spelled quoted
+  spelled_bytes (r ∷ rs) = omega (arith, text_bytes-append quoted (r.before ++ f r.name) (spelled_by f rs), text_bytes-append quoted r.before (f r.name), spelled_bytes rs)
 
-  pub replaced_taken : (quoted : Bool) (text : List ℕ) (found : Found) (left middle new : ℕ) (name : List ℕ) → ReferencesGoOn → first_reference text ≡ Some found
-      → middle ≡ left - text_bytes quoted found.before → name ≡ found.name → new ≡ middle - text_bytes quoted (text_at s scope name)
-      → new - text_bytes quoted (replaced s scope found.rest) ≡ left - text_bytes quoted (replaced s scope text)
-  replaced_taken quoted text found left middle new name go e m n f =
-      let t : text_bytes quoted (text_at s scope name) ≡ text_bytes quoted (text_at s scope found.name) = ap (λ k. text_bytes quoted (text_at s scope k)) n in
-      ap (λ k. k - text_bytes quoted (replaced s scope found.rest)) (f ∙ ap (λ k. middle - k) t ∙ ap (λ k. k - text_bytes quoted (text_at s scope found.name)) m)
-      ∙ replaced_more quoted text found left go e
+  pub reference_taken : (rs : List Reference) (i : ℕ) (r : Reference) (left middle new : ℕ) (before : List ℕ) → i < length rs → r ≡ get_or rs i r → before ≡ r.before
+      → middle ≡ left - text_bytes quoted before → new ≡ middle - text_bytes quoted (f r.name) → new - references_bytes (drop (i + 1) rs) ≡ left - references_bytes (drop i rs)
+  reference_taken rs i r left middle new before below at is e g =
+      omega (arith, e, g, ap (text_bytes quoted) is, at_drop_more references_bytes rs i r below, ap reference_bytes at)
+
+  pub references_done : (rs : List Reference) (rest text last : List ℕ) (i left initial new : ℕ) → length rs ≤ i → last ≡ rest → text ≡ spelled_by f rs ++ rest
+      → left - references_bytes (drop i rs) ≡ initial - references_bytes rs → new ≡ left - text_bytes quoted last → new ≡ initial - text_bytes quoted text
+  references_done rs rest text last i left initial new past same is w e =
+      omega (arith, w, e, ap (text_bytes quoted) same, ap references_bytes (drop_all i rs past), ap (text_bytes quoted) is, text_bytes-append quoted (spelled_by f rs) rest, spelled_bytes rs)
 
 -- ---- arrays
 
@@ -100,38 +97,38 @@ array_bytes d ds = omega (arith, length-append (joined (item_texts (item d ds)))
 
 module _ (s : Lists) (scope : ℕ) where
   -- the bytes of filled trees
-  abbrev pub trees_bytes : List Tree → ℕ
-  trees_bytes ts = items_bytes (filled_items s scope (items_of (map data_of ts)))
+  abbrev pub trees_bytes : List Content → ℕ
+  trees_bytes ts = items_bytes (filled_items s scope (items_of (map content_data ts)))
 
-  pub tree_taken : (ts : List Tree) (i : ℕ) (t : Tree) (left new : ℕ) → i < length ts → t ≡ get_or ts i t → new ≡ left - 1 - length (canon (filled s scope (data_of t)))
+  pub tree_taken : (ts : List Content) (i : ℕ) (t : Content) (left new : ℕ) → i < length ts → t ≡ get_or ts i t → new ≡ left - 1 - length (canon (filled s scope (content_data t)))
       → new - trees_bytes (drop (i + 1) ts) ≡ left - trees_bytes (drop i ts)
   tree_taken ts i t left new below at e =
-      omega (arith, e, at_drop_more trees_bytes ts i t below, ap (λ (u : Tree). length (canon (filled s scope (data_of u)))) at)
+      omega (arith, e, at_drop_more trees_bytes ts i t below, ap (λ (u : Content). length (canon (filled s scope (content_data u)))) at)
 
-  pub trees_done : (ts : List Tree) (i left initial : ℕ) → length ts ≤ i → left - trees_bytes (drop i ts) ≡ initial - trees_bytes ts → left ≡ initial - trees_bytes ts
+  pub trees_done : (ts : List Content) (i left initial : ℕ) → length ts ≤ i → left - trees_bytes (drop i ts) ≡ initial - trees_bytes ts → left ≡ initial - trees_bytes ts
   trees_done ts i left initial past e = omega (arith, e, ap trees_bytes (drop_all i ts past))
 
   -- and of filled members
-  abbrev pub pairs_bytes : Setting → List Pair → ℕ
-  pairs_bytes set ps = members_bytes set (filled_members s scope (members_of (map pair_data ps)))
+  abbrev pub pairs_bytes : Setting → List Entry → ℕ
+  pairs_bytes set ps = members_bytes set (filled_members s scope (members_of (map entry_data ps)))
 
-  abbrev pair_bytes : Setting → Pair → ℕ
-  pair_bytes set p = member_bytes set p.name (filled s scope (data_of p.tree))
+  abbrev pair_bytes : Setting → Entry → ℕ
+  pair_bytes set p = member_bytes set p.name (filled s scope (content_data p.content))
 
-  pub pair_taken : (set : Setting) (ps : List Pair) (i : ℕ) (p : Pair) (left new : ℕ) → i < length ps → p ≡ get_or ps i p → new ≡ left - pair_bytes set p
+  pub pair_taken : (set : Setting) (ps : List Entry) (i : ℕ) (p : Entry) (left new : ℕ) → i < length ps → p ≡ get_or ps i p → new ≡ left - pair_bytes set p
       → new - pairs_bytes set (drop (i + 1) ps) ≡ left - pairs_bytes set (drop i ps)
   pair_taken set ps i p left new below at e = omega (arith, e, at_drop_more (pairs_bytes set) ps i p below, ap (pair_bytes set) at)
 
-  pub pairs_done : (set : Setting) (ps : List Pair) (i left initial : ℕ) → length ps ≤ i → left - pairs_bytes set (drop i ps) ≡ initial - pairs_bytes set ps → left ≡ initial - pairs_bytes set ps
+  pub pairs_done : (set : Setting) (ps : List Entry) (i left initial : ℕ) → length ps ≤ i → left - pairs_bytes set (drop i ps) ≡ initial - pairs_bytes set ps → left ≡ initial - pairs_bytes set ps
   pairs_done set ps i left initial past e = omega (arith, e, ap (pairs_bytes set) (drop_all i ps past))
 
   -- brackets and items
-  array_taken : (ts : List Tree) (left new : ℕ) → new ≡ left - (if length ts == 0 then 2 else 1) - trees_bytes ts → new ≡ left - length (canon (array (filled_items s scope (items_of (map data_of ts)))))
+  array_taken : (ts : List Content) (left new : ℕ) → new ≡ left - (if length ts == 0 then 2 else 1) - trees_bytes ts → new ≡ left - length (canon (array (filled_items s scope (items_of (map content_data ts)))))
   array_taken [] left new e = omega (arith, e)
   array_taken (t ∷ ts) left new e =
-      omega (arith, e, brackets_some (length ts), array_bytes (filled s scope (data_of t)) (filled_items s scope (items_of (map data_of ts))))
+      omega (arith, e, brackets_some (length ts), array_bytes (filled s scope (content_data t)) (filled_items s scope (items_of (map content_data ts))))
 
-  pub items_taken : (ts : List Tree) (ds : Items) (i left first initial brackets : ℕ) → items_of (map data_of ts) ≡ ds → brackets ≡ (if length ts == 0 then 2 else 1) → initial ≡ first - brackets
+  pub items_taken : (ts : List Content) (ds : Items) (i left first initial brackets : ℕ) → items_of (map content_data ts) ≡ ds → brackets ≡ (if length ts == 0 then 2 else 1) → initial ≡ first - brackets
       → length ts ≤ i → left - trees_bytes (drop i ts) ≡ initial - trees_bytes ts → left ≡ first - length (canon (array (filled_items s scope ds)))
   items_taken ts ds i left first initial brackets is b e past w =
       subst (λ ds. left ≡ first - length (canon (array (filled_items s scope ds)))) is
@@ -166,12 +163,12 @@ object_bytes ms =
     omega (arith, length-append (joined (map member_text texts)) (125 ∷ []), length-joined texts, total-in_order behind (λ (m : Named). m.0) (named_texts ms), total_is ms)
 
 module _ (s : Lists) (scope : ℕ) where
-  object_of : (ps : List Pair) (left new : ℕ) → new ≡ left - (if length ps == 0 then 2 else 1) - pairs_bytes s scope setting.Nothing ps
-      → new ≡ left - length (canon (object (filled_members s scope (members_of (map pair_data ps)))))
+  object_of : (ps : List Entry) (left new : ℕ) → new ≡ left - (if length ps == 0 then 2 else 1) - pairs_bytes s scope setting.Nothing ps
+      → new ≡ left - length (canon (object (filled_members s scope (members_of (map entry_data ps)))))
   object_of [] left new e = omega (arith, e)
-  object_of (p ∷ ps) left new e = omega (arith, e, brackets_some (length ps), object_bytes (filled_members s scope (members_of (map pair_data (p ∷ ps)))))
+  object_of (p ∷ ps) left new e = omega (arith, e, brackets_some (length ps), object_bytes (filled_members s scope (members_of (map entry_data (p ∷ ps)))))
 
-  pub object_taken : (ps : List Pair) (ms : Members) (left middle new brackets : ℕ) → members_of (map pair_data ps) ≡ ms → brackets ≡ (if length ps == 0 then 2 else 1) → middle ≡ left - brackets
+  pub object_taken : (ps : List Entry) (ms : Members) (left middle new brackets : ℕ) → members_of (map entry_data ps) ≡ ms → brackets ≡ (if length ps == 0 then 2 else 1) → middle ≡ left - brackets
       → new ≡ middle - members_bytes setting.Nothing (filled_members s scope ms) → new ≡ left - length (canon (object (filled_members s scope ms)))
   object_taken ps ms left middle new brackets is b e f =
       subst (λ ms. new ≡ middle - members_bytes setting.Nothing (filled_members s scope ms) → new ≡ left - length (canon (object (filled_members s scope ms)))) is
@@ -347,18 +344,18 @@ pub none_bytes : length (canon (completed_args None)) ≡ 33
 unfolding escaped
 none_bytes = refl
 
-filled_twice : (s : Lists) (scope : ℕ) (o : Option (Bor Tree)) → option_map (λ tree. filled s scope (data_of tree.now)) o ≡ option_map (filled s scope) (option_map (λ found. data_of found.now) o)
+filled_twice : (s : Lists) (scope : ℕ) (o : Option (Bor Content)) → option_map (λ content. filled s scope (content_data content.now)) o ≡ option_map (filled s scope) (option_map (λ found. content_data found.now) o)
 filled_twice s scope None = refl
 filled_twice s scope (Some t) = refl
 
-pub command_taken : (s : Lists) (scope run issue : ℕ) (ms : Members) (args : Option (Bor Tree)) (left one two three four new count : ℕ) → AreSortedMembers ms
-    → one ≡ left - 1 → two ≡ one - id_bytes run count → count ≡ issue → three ≡ two - 8 → option_map (λ found. data_of found.now) args ≡ get_member (codes "args") ms
-    → four ≡ three - length (canon (completed_args (option_map (λ tree. filled s scope (data_of tree.now)) args)))
+pub command_taken : (s : Lists) (scope run issue : ℕ) (ms : Members) (args : Option (Bor Content)) (left one two three four new count : ℕ) → AreSortedMembers ms
+    → one ≡ left - 1 → two ≡ one - id_bytes run count → count ≡ issue → three ≡ two - 8 → option_map (λ found. content_data found.now) args ≡ get_member (codes "args") ms
+    → four ≡ three - length (canon (completed_args (option_map (λ content. filled s scope (content_data content.now)) args)))
     → new ≡ four - members_bytes setting.Command (filled_members s scope ms)
     → new ≡ left - length (canon (addressed run issue (object (filled_members s scope ms))))
 command_taken s scope run issue ms args left one two three four new count sorted e f n g h i j =
     let ns = filled_members s scope ms in
-    let found : option_map (λ tree. filled s scope (data_of tree.now)) args ≡ get_member (codes "args") ns =
+    let found : option_map (λ content. filled s scope (content_data content.now)) args ≡ get_member (codes "args") ns =
     filled_twice s scope args ∙ ap (option_map (filled s scope)) h ∙ sym (get_filled s scope (codes "args") ms) in
     let bytes = command_bytes run issue ns (once_filled s scope (codes "args") ms (once_sorted (codes "args") ms sorted)) (once_filled s scope (codes "command_id") ms (once_sorted (codes "command_id") ms sorted)) in
     omega (arith, e, f, g, i, j, bytes, ap (λ o. length (canon (completed_args o))) found, ap (λ m. id_bytes run m) n)

@@ -1,5 +1,7 @@
 pub mod Adding
 pub mod Completed
+pub mod ContentFalls
+pub mod Contents
 pub mod Entered
 pub mod Fits
 pub mod Flows
@@ -7,9 +9,11 @@ pub mod Heads
 pub mod Issuings
 pub mod Joined
 pub mod MoveKinds
+pub mod Phrases
 pub mod PlaceViews
 pub mod Planned
 pub mod Present
+pub mod Questions
 pub mod RunFacts
 pub mod SetupGivens
 pub mod SetupLaws
@@ -22,3 +26,4 @@ pub mod TableFacts
 pub mod Truths
 pub mod Views
 pub mod Waits
+pub mod Wordings

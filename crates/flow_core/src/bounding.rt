@@ -19,124 +19,96 @@ use std::alloc::{AllocError, Global};
 
 impl Run {
     // Whether the command of a filter's place has so many bytes or more.
-    fn command_reaches(
-        &self,
-        alloc: Global,
-        stand: Stand<'_>,
-        place: Place<'_>,
-        bytes: usize,
-    ) -> Result<bool, AllocError>
+    fn command_reaches(&self, stand: Stand<'_>, place: Place<'_>, bytes: usize) -> bool
         requires well { IsWell self.now }
         requires stands { StandsThere self.now stand }
         requires command { IsOfCommand (commands_of stand.step.now.kind) place }
-        ensures { IfOk result (λ long. long ≡ reaches bytes (command_at (here_of (shown_of self.now) stand.entry) (place_view place.entry))) }
+        ensures { result ≡ reaches bytes (command_at (here_of (shown_of self.now) stand.entry) (place_view place.entry)) }
     {
         let Place::Filter { command, .. } = place else {
-            return Ok(false);
+            return false;
         };
         let Some(scope) = stand.task.step_scope else {
-            return Ok(false);
+            return false;
         };
-        let Some(tree) = self
+        let Some(content) = self
             .setup
             .content(stand.task.book, stand.task.step, command)
         else {
-            return Ok(false);
+            return false;
         };
         let mut left = bytes;
-        self.take_command(alloc, &mut left, scope, tree)?;
-        Ok(left == 0)
+        self.take_command(&mut left, scope, content);
+        left == 0
     }
 
     // Whether the question of an operator's place has so many bytes or more.
-    fn question_reaches(
-        &self,
-        alloc: Global,
-        stand: Stand<'_>,
-        place: Place<'_>,
-        bytes: usize,
-    ) -> Result<bool, AllocError>
+    fn question_reaches(&self, stand: Stand<'_>, place: Place<'_>, bytes: usize) -> bool
         requires well { IsWell self.now }
         requires stands { StandsThere self.now stand }
-        ensures { IfOk result (λ long. long ≡ reaches bytes (question_at (here_of (shown_of self.now) stand.entry) (place_view place.entry))) }
+        requires command { IsOfCommand (commands_of stand.step.now.kind) place }
+        ensures { result ≡ reaches bytes (question_at (here_of (shown_of self.now) stand.entry) (place_view place.entry)) }
     {
-        let Place::Operator { content } = place else {
-            return Ok(false);
-        };
-        let Some(content) = content else {
-            return Ok(false);
+        let Place::Operator { command, .. } = place else {
+            return false;
         };
         let Some(scope) = stand.task.step_scope else {
-            return Ok(false);
+            return false;
+        };
+        let Some(phrase) = self
+            .setup
+            .question(stand.task.book, stand.task.step, command)
+        else {
+            return false;
         };
         let mut left = bytes;
-        self.take_replaced(alloc, &mut left, scope, content.as_str(), false)?;
-        Ok(left == 0)
+        self.take_replaced(&mut left, scope, phrase, false);
+        left == 0
     }
 
-    /// Whether the command that a task sends next has so many bytes or more.
-    pub(crate) fn next_command_reaches(
-        &self,
-        alloc: Global,
-        now: u64,
-        t: u32,
-        bytes: usize,
-    ) -> Result<bool, AllocError>
+    /// Whether the command that a task sends next has so many bytes or more. It takes no memory.
+    pub(crate) fn next_command_reaches(&self, now: u64, t: u32, bytes: usize) -> bool
         requires { IsWell self.now }
-        ensures { IfOk result (λ long. long ≡ next_reaches bytes (next_command (shown_of self.now) now t)) }
+        ensures { result ≡ next_reaches bytes (next_command (shown_of self.now) now t) }
     {
         let Some(stand) = self.stand(now, t) else {
-            return Ok(false);
+            return false;
         };
         let Phase::Sending { place } = stand.task.phase else {
-            return Ok(false);
+            return false;
         };
         let Some(found) = place_in(&stand.step.kind, place) else {
-            return Ok(false);
+            return false;
         };
-        let long = self.command_reaches(alloc, stand, found, bytes)?;
-        Ok(long)
+        self.command_reaches(stand, found, bytes)
     }
 
-    /// Whether what a task asks an operator next has so many bytes or more.
-    pub(crate) fn next_question_reaches(
-        &self,
-        alloc: Global,
-        now: u64,
-        t: u32,
-        bytes: usize,
-    ) -> Result<bool, AllocError>
+    /// Whether what a task asks an operator next has so many bytes or more. It takes no memory.
+    pub(crate) fn next_question_reaches(&self, now: u64, t: u32, bytes: usize) -> bool
         requires { IsWell self.now }
-        ensures { IfOk result (λ long. long ≡ next_reaches bytes (next_question (shown_of self.now) now t)) }
+        ensures { result ≡ next_reaches bytes (next_question (shown_of self.now) now t) }
     {
         let Some(stand) = self.stand(now, t) else {
-            return Ok(false);
+            return false;
         };
         let Phase::Sending { place } = stand.task.phase else {
-            return Ok(false);
+            return false;
         };
         let Some(found) = place_in(&stand.step.kind, place) else {
-            return Ok(false);
+            return false;
         };
-        let long = self.question_reaches(alloc, stand, found, bytes)?;
-        Ok(long)
+        self.question_reaches(stand, found, bytes)
     }
 
-    fn is_long(&self, alloc: Global, step: Move, moment: u64) -> Result<bool, AllocError>
+    fn is_long(&self, step: Move, moment: u64) -> bool
         requires { IsWell self.now }
-        ensures { IfOk result (λ long. long ≡ is_long_move (shown_of self.now) moment step) }
+        ensures { result ≡ is_long_move (shown_of self.now) moment step }
     {
         match step {
-            Move::Walk { .. } => Ok(false),
-            Move::Upgrade => Ok(false),
-            Move::Send { task } => {
-                let long = self.next_command_reaches(alloc, moment, task, MOST_COMMAND + 1)?;
-                Ok(long)
-            }
-            Move::Ask { task } => {
-                let long = self.next_question_reaches(alloc, moment, task, MOST_COMMAND + 1)?;
-                Ok(long)
-            }
+            Move::Walk { .. } => false,
+            Move::Upgrade => false,
+            Move::Send { task } => self.next_command_reaches(moment, task, MOST_COMMAND + 1),
+            Move::Ask { task } => self.next_question_reaches(moment, task, MOST_COMMAND + 1),
         }
     }
 }
@@ -153,7 +125,7 @@ impl Flow {
             return Err(AllocError);
         }
         setup_law(&self.run.setup);
-        self.run.is_long(self.alloc, step, moment)
+        Ok(self.run.is_long(step, moment))
     }
 
     /// Why such a move is refused: it may not come next, or its command is too long.

@@ -4,15 +4,18 @@ ghost use Rattle.cacao_json.specs.Tree.{data_of};
 ghost use Rattle.cacao_text.specs.Canon.{canon};
 ghost use Rattle.flow_rules.specs.Values.{text_at, number_of, has_numbers};
 ghost use Rattle.flow_rules.specs.Filled.{replaced, whole_reference, filled_string, filled, filled_items, filled_members, addressed};
+ghost use Rattle.flow_core.specs.Contents.{content_data};
 ghost use Rattle.flow_core.specs.TableFacts.{lists_of};
 ghost use Rattle.flow_core.specs.RunFacts.{IsWell};
 
 use crate::addressing::addressed;
+use crate::contents::{Content, Contents, Entries};
+use crate::phrases::Phrase;
 use crate::run::{Run, Sight};
 use cacao_json::{Items, Pairs, Text, Tree};
 use cacao_site::Bytes;
 use cacao_text::canonical;
-use cacao_vars::{Kind, Name, find_reference, references_go_on, whole_reference};
+use cacao_vars::{Kind, Name};
 use decimals::read_integer;
 use std::alloc::{AllocError, Global};
 
@@ -46,20 +49,17 @@ impl Run {
         &self,
         alloc: Global,
         scope: u32,
-        text: &str,
+        phrase: &Phrase,
     ) -> Result<String, AllocError>
         requires well { IsWell self.now }
         requires there { scope < length self.now.tables.scopes.items }
-        ensures { IfOk result (λ made. string_bytes made ≡ replaced (lists_of self.now.tables) scope text.now) }
+        ensures { IfOk result (λ made. string_bytes made ≡ replaced (lists_of self.now.tables) scope phrase.now) }
     {
-        references_go_on();
+        let (references, rest) = phrase.parts();
         let mut made = String::new(alloc);
-        let mut rest = text;
-        while let Some(found) = find_reference(rest) {
-            made.push_str(found.before)?;
-            let name = Name::new(alloc, found.name)?;
-            self.add_value(&mut made, scope, &name)?;
-            rest = found.rest;
+        for reference in references {
+            made.push_str(reference.before.as_str())?;
+            self.add_value(&mut made, scope, &reference.name)?;
         }
         made.push_str(rest)?;
         Ok(made)
@@ -85,104 +85,107 @@ impl Run {
     }
 
     // The whole number that a text stands for that is one whole reference.
-    pub(crate) fn whole_number(
-        &self,
-        alloc: Global,
-        scope: u32,
-        text: &str,
-    ) -> Result<Option<i64>, AllocError>
+    pub(crate) fn whole_number(&self, scope: u32, phrase: &Phrase) -> Option<i64>
         requires well { IsWell self.now }
         requires there { scope < length self.now.tables.scopes.items }
-        ensures { IfOk result (λ number. number ≡ option_and_then (number_of (lists_of self.now.tables) scope) (whole_reference text.now)) }
+        ensures { result ≡ option_and_then (number_of (lists_of self.now.tables) scope) (whole_reference phrase.now) }
     {
-        let Some(found) = whole_reference(text) else {
-            return Ok(None);
-        };
-        let name = Name::new(alloc, found)?;
-        let number = self.number_of(scope, &name);
-        Ok(number)
+        match phrase.whole() {
+            Some(name) => self.number_of(scope, name),
+            None => None,
+        }
     }
 
     // A string value, filled.
-    fn filled_text(&self, alloc: Global, scope: u32, text: &str) -> Result<Tree, AllocError>
+    fn filled_text(&self, alloc: Global, scope: u32, phrase: &Phrase) -> Result<Tree, AllocError>
         requires well { IsWell self.now }
         requires there { scope < length self.now.tables.scopes.items }
-        ensures { IfOk result (λ tree. data_of tree ≡ filled_string (lists_of self.now.tables) scope text.now) }
+        ensures { IfOk result (λ tree. data_of tree ≡ filled_string (lists_of self.now.tables) scope phrase.now) }
     {
-        match self.whole_number(alloc, scope, text)? {
+        match self.whole_number(scope, phrase) {
             Some(number) => Ok(Tree::Whole(number)),
             None => {
-                let text = self.replaced(alloc, scope, text)?;
+                let text = self.replaced(alloc, scope, phrase)?;
                 Ok(Tree::Text(Text::from_string(text)))
             }
         }
     }
 
-    // The tree with each string value filled.
+    // The tree of the content with each string value filled.
     #[cycle(filled)]
-    fn filled(&self, alloc: Global, scope: u32, tree: &Tree) -> Result<Tree, AllocError>
+    fn filled(&self, alloc: Global, scope: u32, content: &Content) -> Result<Tree, AllocError>
         requires well { IsWell self.now }
         requires there { scope < length self.now.tables.scopes.items }
-        ensures { IfOk result (λ new. data_of new ≡ filled (lists_of self.now.tables) scope (data_of tree.now)) }
+        ensures { IfOk result (λ new. data_of new ≡ filled (lists_of self.now.tables) scope (content_data content.now)) }
     {
-        match tree {
-            Tree::Null => Ok(Tree::Null),
-            Tree::Flag(flag) => Ok(Tree::Flag(*flag)),
-            Tree::Whole(number) => Ok(Tree::Whole(*number)),
-            Tree::Text(text) => {
-                let tree = self.filled_text(alloc, scope, text.as_str())?;
+        match content {
+            Content::Null => Ok(Tree::Null),
+            Content::Flag(flag) => Ok(Tree::Flag(*flag)),
+            Content::Whole(number) => Ok(Tree::Whole(*number)),
+            Content::Text(phrase) => {
+                let tree = self.filled_text(alloc, scope, phrase)?;
                 Ok(tree)
             }
-            Tree::List(items) => {
+            Content::List(items) => {
                 let items = self.filled_items(alloc, scope, items)?;
                 Ok(Tree::List(items))
             }
-            Tree::Members(pairs) => {
-                let pairs = self.filled_pairs(alloc, scope, pairs)?;
+            Content::Members(entries) => {
+                let pairs = self.filled_pairs(alloc, scope, entries)?;
                 Ok(Tree::Members(pairs))
             }
         }
     }
 
     #[cycle(filled)]
-    fn filled_items(&self, alloc: Global, scope: u32, items: &Items) -> Result<Items, AllocError>
+    fn filled_items(&self, alloc: Global, scope: u32, items: &Contents) -> Result<Items, AllocError>
         requires well { IsWell self.now }
         requires there { scope < length self.now.tables.scopes.items }
         ensures { IfOk result (λ new. new ≡ filled_items (lists_of self.now.tables) scope items.now) }
     {
-        let trees = items.as_slice();
-        let mut made = Vec::with_capacity(alloc, trees.len())?;
-        for tree in trees {
-            made.push(self.filled(alloc, scope, tree)?)?;
+        let contents = items.as_slice();
+        let mut made = Vec::with_capacity(alloc, contents.len())?;
+        for content in contents {
+            made.push(self.filled(alloc, scope, content)?)?;
         }
         Ok(Items::from_vec(made))
     }
 
     #[cycle(filled)]
-    fn filled_pairs(&self, alloc: Global, scope: u32, pairs: &Pairs) -> Result<Pairs, AllocError>
+    fn filled_pairs(
+        &self,
+        alloc: Global,
+        scope: u32,
+        entries: &Entries,
+    ) -> Result<Pairs, AllocError>
         requires well { IsWell self.now }
         requires there { scope < length self.now.tables.scopes.items }
-        ensures { IfOk result (λ new. new ≡ filled_members (lists_of self.now.tables) scope pairs.now) }
+        ensures { IfOk result (λ new. new ≡ filled_members (lists_of self.now.tables) scope entries.now) }
     {
-        let members = pairs.as_slice();
+        let members = entries.as_slice();
         let mut made = Pairs::new(alloc);
-        for pair in members {
-            let name = pair.name.clone()?;
-            let tree = self.filled(alloc, scope, &pair.tree)?;
+        for entry in members {
+            let name = entry.name.clone()?;
+            let tree = self.filled(alloc, scope, &entry.content)?;
             made.put(name, tree)?;
         }
         Ok(made)
     }
 
     /// The bytes of the command with this content, for the next issue.
-    pub(crate) fn fill(&self, alloc: Global, tree: &Tree, scope: u32) -> Result<Bytes, AllocError>
+    pub(crate) fn fill(
+        &self,
+        alloc: Global,
+        content: &Content,
+        scope: u32,
+    ) -> Result<Bytes, AllocError>
         requires well { IsWell self.now }
         requires there { scope < length self.now.tables.scopes.items }
         ensures { IfOk result (λ bytes. bytes ≡ canon (addressed self.now.number (length self.now.tables.issues.items)
-            (filled (lists_of self.now.tables) scope (data_of tree.now)))) }
+            (filled (lists_of self.now.tables) scope (content_data content.now)))) }
     {
         let issue = self.tables.issues.len() as u32;
-        let tree = self.filled(alloc, scope, tree)?;
+        let tree = self.filled(alloc, scope, content)?;
         let tree = addressed(alloc, self.number, issue, tree)?;
         let text = canonical(alloc, &tree)?;
         Ok(Bytes::from_vec(text.into_vec()))

@@ -105,13 +105,13 @@ impl Run {
         let Some(scope) = stand.task.step_scope else {
             return Ok(None);
         };
-        let Some(tree) = self
+        let Some(content) = self
             .setup
             .content(stand.task.book, stand.task.step, command)
         else {
             return Ok(None);
         };
-        let bytes = self.fill(alloc, tree, scope)?;
+        let bytes = self.fill(alloc, content, scope)?;
         let agent = self.setup.filter_of(to);
         Ok(Some(issue_with(stand, agent, bytes)))
     }
@@ -125,19 +125,23 @@ impl Run {
     ) -> Result<Option<Issue>, AllocError>
         requires well { IsWell self.now }
         requires stands { StandsThere self.now stand }
+        requires command { IsOfCommand (commands_of stand.step.now.kind) place }
         ensures question { IfOk result (λ o. o ≡ question_at (here_of (shown_of self.now) stand.entry) (place_view place.entry)) }
         ensures text { IfOk result (λ o. IfSome o (λ issue. IsUtf8 issue.bytes)) }
     {
-        let Place::Operator { content } = place else {
-            return Ok(None);
-        };
-        let Some(content) = content else {
+        let Place::Operator { command, .. } = place else {
             return Ok(None);
         };
         let Some(scope) = stand.task.step_scope else {
             return Ok(None);
         };
-        let text = self.replaced(alloc, scope, content.as_str())?;
+        let Some(phrase) = self
+            .setup
+            .question(stand.task.book, stand.task.step, command)
+        else {
+            return Ok(None);
+        };
+        let text = self.replaced(alloc, scope, phrase)?;
         let bytes = Bytes::from_vec(text.into_bytes());
         Ok(Some(issue_with(stand, 0, bytes)))
     }
@@ -225,7 +229,7 @@ impl Run {
         ensures edits { IfOk result (λ o. option_map (λ plan. edits_of plan.items) o ≡ send (shown_of self.now) now task issue agent bytes.now) }
         ensures declared { IfOk result (λ o. IfSome o (λ plan. AreDeclared plan.items)) }
     {
-        if self.next_command_reaches(alloc, now, task, bytes.as_slice().len() + 1)? {
+        if self.next_command_reaches(now, task, bytes.as_slice().len() + 1) {
             return Ok(None);
         }
         let Some(made) = self.next_command(alloc, now, task)? else {
@@ -251,7 +255,7 @@ impl Run {
         ensures edits { IfOk result (λ o. option_map (λ plan. edits_of plan.items) o ≡ ask (shown_of self.now) now task issue bytes.now) }
         ensures declared { IfOk result (λ o. IfSome o (λ plan. AreDeclared plan.items)) }
     {
-        if self.next_question_reaches(alloc, now, task, bytes.as_slice().len() + 1)? {
+        if self.next_question_reaches(now, task, bytes.as_slice().len() + 1) {
             return Ok(None);
         }
         let Some(made) = self.next_question(alloc, now, task)? else {

@@ -18,14 +18,15 @@ pub(crate) enum Place<'a> {
         content: Option<&'a Text>,
         to: &'a Text,
     },
-    /// A text for an operator.
+    /// The text of the command with this number, for an operator.
     Operator {
+        command: u32,
         content: Option<&'a Text>,
     },
 }
 
-// Whether the command is for an operator.
-fn is_manual(command: &StepCommand) -> bool
+/// Whether the command is for an operator.
+pub(crate) fn is_manual(command: &StepCommand) -> bool
     ensures { result ≡ is_manual command.now }
 {
     command.kind.as_str() == "manual"
@@ -74,7 +75,10 @@ fn place_of<'a>(
         if n != 0 {
             return None;
         }
-        return Some(Place::Operator { content });
+        return Some(Place::Operator {
+            command: number,
+            content,
+        });
     }
     let to = addressee(agent, targets, n)?;
     Some(Place::Filter {

@@ -2,7 +2,6 @@
 ghost use Rattle.std.specs.Prelude.{◌≡◌, ◌≤◌, length, map, All, IfOk, IfErr, option_map, option_and_then, unwrap_or, position, find, slice_get};
 ghost use Rattle.std.specs.Option.{option_copied};
 ghost use Rattle.std.specs.Str.{bytes_eq};
-ghost use Rattle.cacao_json.specs.Tree.{data_of};
 ghost use Rattle.cacao_cond.specs.Trees.{tree_of};
 ghost use Rattle.cacao_book.specs.Steps.{IsInKeyOrder, place_of};
 ghost use Rattle.cacao_check.specs.Fits.{FitsKind};
@@ -12,14 +11,20 @@ ghost use Rattle.flow_rules.specs.Accepted.{Accepted};
 ghost use Rattle.flow_core.specs.Setups.{AreAccepted, IsReadable, IsSetup, condition_at, content_at};
 ghost use Rattle.flow_core.specs.SetupGivens.{AreInOrder, PartsOf};
 ghost use Rattle.flow_core.specs.SetupReading.{RefusesTexts};
+ghost use Rattle.flow_core.specs.Contents.{content_data};
+ghost use Rattle.flow_core.specs.Questions.{question_text};
+ghost use Rattle.flow_core.specs.Wordings.{step_said, step_words};
 
 use crate::bindings::{Bound, read_bound};
+use crate::contents::Content;
+use crate::phrases::Phrase;
 use crate::setup_errors::SetupError;
 use crate::setup_reading::{canonical_bind, canonical_texts, judge, read_bindings, read_trees};
+use crate::wordings::{BookWords, StepWords, read_words};
 use cacao_book::{Book, Step, find_place};
 use cacao_check::{Checked, Parts, sound_gives};
 use cacao_cond::Cond;
-use cacao_json::{Text, Tree};
+use cacao_json::Text;
 use cacao_site::Bytes;
 use cacao_text::canonical_law;
 use cacao_vars::{Name, Word};
@@ -38,6 +43,7 @@ pub struct Setup {
     bind: Bytes,
     agents: Vec<(Text, u8)>,
     variables: Vec<(Name, Word)>,
+    words: Vec<BookWords>,
 }
 
 impl Model for Setup {
@@ -50,7 +56,9 @@ impl Model for Setup {
 
     ghost view = { λ s. given_by s.checked.books s.texts s.bind s.agents.items s.variables.items };
 
-    ghost invariant = { λ s. IsSetup (given_by s.checked.books s.texts s.bind s.agents.items s.variables.items) };
+    ghost use Rattle.flow_core.specs.Wordings.{AreWordsOf};
+
+    ghost invariant = { λ s. IsSetup (given_by s.checked.books s.texts s.bind s.agents.items s.variables.items) × AreWordsOf s.checked.books s.words.items };
 }
 
 /// What holds of each setup: its canonical texts are accepted and give it again, it can be run, it has 1 to 16 playbooks of at
@@ -98,12 +106,36 @@ fn find_bound<'a>(agents: &'a [(Text, u8)], to: &str) -> Option<&'a (Text, u8)>
     }
 }
 
-// The tree at this place, if there is one.
-fn content_in(contents: &[Option<Tree>], command: u32) -> Option<&Tree>
-    ensures { option_map (λ tree. data_of tree.now) result ≡ option_and_then (λ content. option_map data_of content) (slice_get contents.now command) }
+// What was read of the playbook at this place, if there is one.
+fn book_words_in(words: &[BookWords], book: u32) -> Option<&BookWords>
+    ensures { option_copied result ≡ slice_get words.now book }
+{
+    words.get(book as usize)
+}
+
+// What was read of the step at this place, if there is one.
+fn step_words_in(steps: &[StepWords], step: u32) -> Option<&StepWords>
+    ensures { option_copied result ≡ slice_get steps.now step }
+{
+    steps.get(step as usize)
+}
+
+// The content at this place, if there is one.
+fn content_in(contents: &[Option<Content>], command: u32) -> Option<&Content>
+    ensures { option_map (λ content. content_data content.now) result ≡ option_and_then (λ content. option_map content_data content) (slice_get contents.now command) }
 {
     match contents.get(command as usize) {
         Some(content) => content.as_ref(),
+        None => None,
+    }
+}
+
+// The text for an operator at this place, if there is one.
+fn question_in(questions: &[Option<Phrase>], command: u32) -> Option<&Phrase>
+    ensures { option_copied result ≡ option_and_then (λ question. question) (slice_get questions.now command) }
+{
+    match questions.get(command as usize) {
+        Some(question) => question.as_ref(),
         None => None,
     }
 }
@@ -139,6 +171,7 @@ impl Setup {
         };
         let texts = canonical_texts(alloc, trees.as_slice())?;
         let bind = canonical_bind(alloc, bind, &bindings)?;
+        let words = read_words(alloc, &checked)?;
         sound_gives();
         canonical_law();
         let Bound { agents, variables } = bound;
@@ -148,6 +181,7 @@ impl Setup {
             bind,
             agents,
             variables,
+            words,
         })
     }
 
@@ -263,14 +297,35 @@ impl Setup {
         parts.condition.as_ref()
     }
 
-    /// The tree of the content of a step's command, as it was read when the setup was; None where there is none, and of a command
-    /// for an operator. Commands have numbers from 0. It takes no memory.
-    pub fn content(&self, book: u32, step: u32, command: u32) -> Option<&Tree>
-        ensures { option_map (λ tree. data_of tree.now) result ≡ content_at self.now book step command }
+    // What the commands of a step say.
+    fn step_words(&self, book: u32, step: u32) -> Option<&StepWords>
+        ensures { option_map step_words (option_copied result) ≡ option_map step_said (step_at self.now book step) }
     {
-        let Some(parts) = self.parts(book, step) else {
+        let Some(words) = book_words_in(self.words.as_slice(), book) else {
             return None;
         };
-        content_in(parts.contents.as_slice(), command)
+        step_words_in(words.steps.as_slice(), step)
+    }
+
+    /// The content of a step's command, as it was read when the setup was; None where there is none, and of a command for an operator.
+    /// Commands have numbers from 0. It takes no memory.
+    pub(crate) fn content(&self, book: u32, step: u32, command: u32) -> Option<&Content>
+        ensures { option_map (λ content. content_data content.now) result ≡ content_at self.now book step command }
+    {
+        let Some(words) = self.step_words(book, step) else {
+            return None;
+        };
+        content_in(words.contents.as_slice(), command)
+    }
+
+    /// The text of a step's command for an operator, as it was read when the setup was; None where there is none, and of a command
+    /// for filters. It takes no memory.
+    pub(crate) fn question(&self, book: u32, step: u32, command: u32) -> Option<&Phrase>
+        ensures { option_copied result ≡ question_text self.now book step command }
+    {
+        let Some(words) = self.step_words(book, step) else {
+            return None;
+        };
+        question_in(words.questions.as_slice(), command)
     }
 }

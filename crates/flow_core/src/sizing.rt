@@ -2,23 +2,23 @@
 //!
 //! `left` are the bytes that are left of a limit. Each function takes from them the bytes of a part, and where there are
 //! fewer, all.
-ghost use Rattle.std.specs.Prelude.{◌≡◌, ◌-◌, ◌<◌, ◌==◌, OnOk, length, flat_map, option_map, if◌then◌else◌};
+ghost use Rattle.std.specs.Prelude.{◌≡◌, ◌-◌, ◌<◌, ◌==◌, length, flat_map, option_map, if◌then◌else◌};
 ghost use Rattle.serde_json.specs.Data.{array};
 ghost use Rattle.serde_json.specs.Find.{of_integer};
-ghost use Rattle.cacao_json.specs.Tree.{data_of};
 ghost use Rattle.cacao_text.specs.Canon.{escaped, whole_text, canon};
 ghost use Rattle.flow_rules.specs.Values.{text_at};
 ghost use Rattle.flow_rules.specs.Filled.{replaced, filled_string, filled, filled_items, filled_members, addressed};
+ghost use Rattle.flow_core.specs.Contents.{content_data};
 ghost use Rattle.flow_core.specs.TableFacts.{lists_of};
 ghost use Rattle.flow_core.specs.RunFacts.{IsWell};
 ghost use Rattle.flow_core.specs.Completed.{completed_args};
 ghost use Rattle.flow_core.specs.Sizes.{text_bytes, is_set, member_bytes, members_bytes, id_bytes};
 
+use crate::contents::{Content, Contents, Entries, Entry};
+use crate::phrases::Phrase;
 use crate::run::{Run, Sight};
-use cacao_json::{Items, Pair, Pairs, Tree, member};
-use cacao_vars::{Name, find_reference, references_go_on};
+use cacao_vars::Name;
 use itoa::Buffer;
-use std::alloc::{AllocError, Global};
 
 /// Members of an object whose values the rules set, whatever stands there: they are counted apart.
 #[derive(Clone, Copy)]
@@ -132,208 +132,128 @@ impl Run {
     }
 
     /// A text whose references are replaced, inside a string or as it is.
-    pub(crate) fn take_replaced(
-        &self,
-        alloc: Global,
-        left: &mut usize,
-        scope: u32,
-        text: &str,
-        quoted: bool,
-    ) -> Result<(), AllocError>
+    pub(crate) fn take_replaced(&self, left: &mut usize, scope: u32, phrase: &Phrase, quoted: bool)
         requires well { IsWell self.now }
         requires there { scope < length self.now.tables.scopes.items }
-        ensures { OnOk result (left.new ≡ left.old - text_bytes quoted (replaced (lists_of self.now.tables) scope text.now)) }
+        ensures { left.new ≡ left.old - text_bytes quoted (replaced (lists_of self.now.tables) scope phrase.now) }
     {
-        references_go_on();
-        let mut rest = text;
-        while let Some(found) = find_reference(rest) {
-            take_text(left, found.before, quoted);
-            let name = Name::new(alloc, found.name)?;
-            self.take_value(left, scope, &name, quoted);
-            rest = found.rest;
+        let (references, rest) = phrase.parts();
+        for reference in references {
+            take_text(left, reference.before.as_str(), quoted);
+            self.take_value(left, scope, &reference.name, quoted);
         }
         take_text(left, rest, quoted);
-        Ok(())
     }
 
-    fn take_filled_text(
-        &self,
-        alloc: Global,
-        left: &mut usize,
-        scope: u32,
-        text: &str,
-    ) -> Result<(), AllocError>
+    fn take_filled_text(&self, left: &mut usize, scope: u32, phrase: &Phrase)
         requires well { IsWell self.now }
         requires there { scope < length self.now.tables.scopes.items }
-        ensures { OnOk result (left.new ≡ left.old - length (canon (filled_string (lists_of self.now.tables) scope text.now))) }
+        ensures { left.new ≡ left.old - length (canon (filled_string (lists_of self.now.tables) scope phrase.now)) }
     {
-        match self.whole_number(alloc, scope, text)? {
-            Some(number) => {
-                take_whole(left, number);
-                Ok(())
-            }
+        match self.whole_number(scope, phrase) {
+            Some(number) => take_whole(left, number),
             None => {
                 take(left, 2);
-                self.take_replaced(alloc, left, scope, text, true)?;
-                Ok(())
+                self.take_replaced(left, scope, phrase, true);
             }
         }
     }
 
     #[cycle(sizing)]
-    fn take_filled(
-        &self,
-        alloc: Global,
-        left: &mut usize,
-        scope: u32,
-        tree: &Tree,
-    ) -> Result<(), AllocError>
+    fn take_filled(&self, left: &mut usize, scope: u32, content: &Content)
         requires well { IsWell self.now }
         requires there { scope < length self.now.tables.scopes.items }
-        ensures { OnOk result (left.new ≡ left.old - length (canon (filled (lists_of self.now.tables) scope (data_of tree.now)))) }
+        ensures { left.new ≡ left.old - length (canon (filled (lists_of self.now.tables) scope (content_data content.now))) }
     {
-        match tree {
-            Tree::Null => {
-                take(left, 4);
-                Ok(())
-            }
-            Tree::Flag(flag) => {
-                take(left, if *flag { 4 } else { 5 });
-                Ok(())
-            }
-            Tree::Whole(number) => {
-                take_whole(left, *number);
-                Ok(())
-            }
-            Tree::Text(text) => {
-                self.take_filled_text(alloc, left, scope, text.as_str())?;
-                Ok(())
-            }
-            Tree::List(items) => {
-                self.take_items(alloc, left, scope, items)?;
-                Ok(())
-            }
-            Tree::Members(pairs) => {
-                take(left, brackets(pairs.as_slice().len()));
-                self.take_pairs(alloc, left, scope, pairs, Setting::Nothing)?;
-                Ok(())
+        match content {
+            Content::Null => take(left, 4),
+            Content::Flag(flag) => take(left, if *flag { 4 } else { 5 }),
+            Content::Whole(number) => take_whole(left, *number),
+            Content::Text(phrase) => self.take_filled_text(left, scope, phrase),
+            Content::List(items) => self.take_items(left, scope, items),
+            Content::Members(entries) => {
+                take(left, brackets(entries.as_slice().len()));
+                self.take_entries(left, scope, entries, Setting::Nothing);
             }
         }
     }
 
     #[cycle(sizing)]
-    fn take_items(
-        &self,
-        alloc: Global,
-        left: &mut usize,
-        scope: u32,
-        items: &Items,
-    ) -> Result<(), AllocError>
+    fn take_items(&self, left: &mut usize, scope: u32, items: &Contents)
         requires well { IsWell self.now }
         requires there { scope < length self.now.tables.scopes.items }
-        ensures { OnOk result (left.new ≡ left.old - length (canon (array (filled_items (lists_of self.now.tables) scope items.now)))) }
+        ensures { left.new ≡ left.old - length (canon (array (filled_items (lists_of self.now.tables) scope items.now))) }
     {
-        let trees = items.as_slice();
-        take(left, brackets(trees.len()));
-        for tree in trees {
+        let contents = items.as_slice();
+        take(left, brackets(contents.len()));
+        for content in contents {
             take(left, 1);
-            self.take_filled(alloc, left, scope, tree)?;
+            self.take_filled(left, scope, content);
         }
-        Ok(())
     }
 
     #[cycle(sizing)]
-    fn take_pair(
-        &self,
-        alloc: Global,
-        left: &mut usize,
-        scope: u32,
-        pair: &Pair,
-        setting: Setting,
-    ) -> Result<(), AllocError>
+    fn take_entry(&self, left: &mut usize, scope: u32, entry: &Entry, setting: Setting)
         requires well { IsWell self.now }
         requires there { scope < length self.now.tables.scopes.items }
-        ensures { OnOk result (left.new ≡ left.old - member_bytes setting pair.now.name (filled (lists_of self.now.tables) scope (data_of pair.now.tree))) }
+        ensures { left.new ≡ left.old - member_bytes setting entry.now.name (filled (lists_of self.now.tables) scope (content_data entry.now.content)) }
     {
-        if setting.has(pair.name.as_str()) {
-            return Ok(());
+        if setting.has(entry.name.as_str()) {
+            return;
         }
         take(left, 4);
-        take_text(left, pair.name.as_str(), true);
-        self.take_filled(alloc, left, scope, &pair.tree)?;
-        Ok(())
+        take_text(left, entry.name.as_str(), true);
+        self.take_filled(left, scope, &entry.content);
     }
 
     #[cycle(sizing)]
-    fn take_pairs(
-        &self,
-        alloc: Global,
-        left: &mut usize,
-        scope: u32,
-        pairs: &Pairs,
-        setting: Setting,
-    ) -> Result<(), AllocError>
+    fn take_entries(&self, left: &mut usize, scope: u32, entries: &Entries, setting: Setting)
         requires well { IsWell self.now }
         requires there { scope < length self.now.tables.scopes.items }
-        ensures { OnOk result (left.new ≡ left.old - members_bytes setting (filled_members (lists_of self.now.tables) scope pairs.now)) }
+        ensures { left.new ≡ left.old - members_bytes setting (filled_members (lists_of self.now.tables) scope entries.now) }
     {
-        let members = pairs.as_slice();
-        for pair in members {
-            self.take_pair(alloc, left, scope, pair, setting)?;
+        let members = entries.as_slice();
+        for entry in members {
+            self.take_entry(left, scope, entry, setting);
         }
-        Ok(())
     }
 
     // The arguments of a command by those that it has, if it has any.
-    fn take_args(
-        &self,
-        alloc: Global,
-        left: &mut usize,
-        scope: u32,
-        args: Option<&Tree>,
-    ) -> Result<(), AllocError>
+    fn take_args(&self, left: &mut usize, scope: u32, args: Option<&Content>)
         requires well { IsWell self.now }
         requires there { scope < length self.now.tables.scopes.items }
-        ensures { OnOk result (left.new ≡ left.old
-            - length (canon (completed_args (option_map (λ tree. filled (lists_of self.now.tables) scope (data_of tree.now)) args.entry)))) }
+        ensures { left.new ≡ left.old
+            - length (canon (completed_args (option_map (λ content. filled (lists_of self.now.tables) scope (content_data content.now)) args.entry))) }
     {
-        let Some(tree) = args else {
+        let Some(content) = args else {
             take(left, COMPLETE);
-            return Ok(());
+            return;
         };
-        let Tree::Members(pairs) = tree else {
-            self.take_filled(alloc, left, scope, tree)?;
-            return Ok(());
+        let Content::Members(entries) = content else {
+            self.take_filled(left, scope, content);
+            return;
         };
-        let _ = pairs.as_slice();
+        let _ = entries.as_slice();
         take(left, COMPLETE);
-        self.take_pairs(alloc, left, scope, pairs, Setting::Args)?;
-        Ok(())
+        self.take_entries(left, scope, entries, Setting::Args);
     }
 
     /// The command with this content, for the next issue.
-    pub(crate) fn take_command(
-        &self,
-        alloc: Global,
-        left: &mut usize,
-        scope: u32,
-        tree: &Tree,
-    ) -> Result<(), AllocError>
+    pub(crate) fn take_command(&self, left: &mut usize, scope: u32, content: &Content)
         requires well { IsWell self.now }
         requires there { scope < length self.now.tables.scopes.items }
-        ensures { OnOk result (left.new ≡ left.old - length (canon (addressed self.now.number (length self.now.tables.issues.items)
-            (filled (lists_of self.now.tables) scope (data_of tree.now))))) }
+        ensures { left.new ≡ left.old - length (canon (addressed self.now.number (length self.now.tables.issues.items)
+            (filled (lists_of self.now.tables) scope (content_data content.now)))) }
     {
-        let Tree::Members(pairs) = tree else {
-            self.take_filled(alloc, left, scope, tree)?;
-            return Ok(());
+        let Content::Members(entries) = content else {
+            self.take_filled(left, scope, content);
+            return;
         };
-        let _ = pairs.as_slice();
+        let _ = entries.as_slice();
         take(left, 1);
         take_id(left, self.number, self.tables.issues.len() as u32);
         take(left, ARGS);
-        self.take_args(alloc, left, scope, member(tree, "args"))?;
-        self.take_pairs(alloc, left, scope, pairs, Setting::Command)?;
-        Ok(())
+        self.take_args(left, scope, entries.member("args"));
+        self.take_entries(left, scope, entries, Setting::Command);
     }
 }

@@ -1,11 +1,8 @@
-use Rattle.std.proofs.Common.{◌≡◌, ◌++◌, length, IsUtf8, string_bytes}
-use Rattle.flow_rules.specs.Filled.{replaced}
+use Rattle.std.proofs.Common.{◌≡◌, take, string_bytes}
+use Rattle.flow_rules.specs.Values.{text_at}
+use Rattle.flow_core.specs.Phrases.{spelled_by}
 use Rattle.flow_core.specs.TableFacts.{lists_of}
 use Rattle.flow_core.proofs.run.Run.replaced.Given as goal
 
-abbrev pub invariant-loop-found : goal.invariant-loop-found
-invariant-loop-found l =
-    IsUtf8 l.rest × (string_bytes l.made ++ replaced (lists_of l.self.tables) l.scope l.rest ≡ replaced (lists_of l.self.tables) l.scope l.text)
-
-abbrev pub decreases-loop-found : goal.decreases-loop-found
-decreases-loop-found l = length l.rest
+abbrev pub invariant-loop-reference : goal.invariant-loop-reference
+invariant-loop-reference l = string_bytes l.made ≡ spelled_by (text_at (lists_of l.self.tables) l.scope) (take l.reference-index l.references)

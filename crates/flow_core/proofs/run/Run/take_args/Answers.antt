@@ -9,4 +9,4 @@ returns-in_default c = rw c.in_default.is (c.take.ensures ∙ ap (λ n. c.args.l
 pub returns : goal.returns
 returns c =
     rw (c.in-Some.is, c.in-Members.is)
-    (omega (arith, c.take-2.ensures, c.in_ok-take_pairs.ensures, args_bytes (lists_of c.args.self.now.tables) c.args.scope c.in-Members.pairs c.as_slice.ensures.sorted))
+    (omega (arith, c.take-2.ensures, c.take_entries.ensures, args_bytes (lists_of c.args.self.now.tables) c.args.scope c.in-Members.entries c.as_slice.ensures.sorted))

@@ -1,12 +1,12 @@
-use Rattle.std.proofs.Common.{rules, ◌∙◌}
+use Rattle.std.proofs.Common.{refl}
+use Rattle.flow_rules.specs.Values.{text_at}
+use Rattle.flow_rules.specs.Filled.{replaced}
 use Rattle.flow_core.specs.TableFacts.{lists_of}
-use Rattle.flow_core.proofs.SizeLemmas.{replaced_taken}
+use Rattle.flow_core.proofs.SizeLemmas.{references_done}
 use Rattle.flow_core.proofs.run.Run.take_replaced.Goals as goal
 
-pub loop-found-preserved : goal.loop-found-preserved
-loop-found-preserved c = (
-  search rules,
-  replaced_taken (lists_of c.args.self.now.tables) c.args.scope c.args.quoted c.loop-found.rest.now _ c.loop-found.left _ _ _
-      c.references_go_on.ensures c.in-Some.ensures.exact c.take_text.ensures c.in_ok-name.ensures c.take_value.ensures
-      ∙ c.loop-found.invariant.1,
-)
+pub returns : goal.returns
+returns c =
+    let s = lists_of c.args.self.now.tables in
+    references_done (text_at s c.args.scope) c.args.quoted c.parts.result.0.now c.parts.result.1.now (replaced s c.args.scope c.args.phrase.now) c.parts.result.1.now
+    c.loop-reference.reference-index c.loop-reference.left c.args.left.now _ c.loop-reference-test.false refl (c.parts.ensures (text_at s c.args.scope)) c.loop-reference.invariant c.take_text-2.ensures

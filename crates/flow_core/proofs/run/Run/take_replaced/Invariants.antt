@@ -1,13 +1,10 @@
-use Rattle.std.proofs.Common.{◌≡◌, ◌-◌, length, IsUtf8}
-use Rattle.flow_rules.specs.Filled.{replaced}
+use Rattle.std.proofs.Common.{◌≡◌, ◌-◌, drop}
+use Rattle.flow_rules.specs.Values.{text_at}
 use Rattle.flow_core.specs.TableFacts.{lists_of}
-use Rattle.flow_core.specs.Sizes.{text_bytes}
+use Rattle.flow_core.proofs.SizeLemmas.{references_bytes}
 use Rattle.flow_core.proofs.run.Run.take_replaced.Given as goal
 
-abbrev pub invariant-loop-found : goal.invariant-loop-found
-invariant-loop-found l =
-    IsUtf8 l.rest
-    × (l.left - text_bytes l.quoted (replaced (lists_of l.self.tables) l.scope l.rest) ≡ l.initial.left - text_bytes l.quoted (replaced (lists_of l.self.tables) l.scope l.text))
-
-abbrev pub decreases-loop-found : goal.decreases-loop-found
-decreases-loop-found l = length l.rest
+abbrev pub invariant-loop-reference : goal.invariant-loop-reference
+invariant-loop-reference l =
+    l.left - references_bytes (text_at (lists_of l.self.tables) l.scope) l.quoted (drop l.reference-index l.references)
+    ≡ l.initial.left - references_bytes (text_at (lists_of l.self.tables) l.scope) l.quoted l.references

@@ -37,11 +37,13 @@ whole c =
     (c.in-Ok-judge.ensures.books ∙ ap (map book) same) (c.in_ok-texts.ensures ∙ ap (map book_text) same-2) c.in_ok-bind.ensures c.in-Ok-read_bound.ensures.agents c.in-Ok-read_bound.ensures.variables
 
 pub invariant_of-result : goal.invariant_of-result
-invariant_of-result c =
-    is_setup c.sound_gives.ensures
-    (accepted_again c.canonical_law.ensures.trees c.canonical_law.ensures.reads_back c.canonical_law.ensures.book_reads_back c.canonical_law.ensures.book_fixed) c.canonical_law.ensures.no_longer c.canonical_law.ensures.book_no_longer c.args.books.now c.args.bind.now
-    (given_by c.in-Ok-judge.checked.books c.in_ok-texts.texts c.in_ok-bind.bind c.in-Ok-read_bound.bound.agents.items c.in-Ok-read_bound.bound.variables.items) (whole c)
-    c.requires.readable c.requires.readable_bind c.in-Ok-judge.ensures.steps c.in-Ok-read_bound.ensures.order
+invariant_of-result c = (
+  is_setup c.sound_gives.ensures
+      (accepted_again c.canonical_law.ensures.trees c.canonical_law.ensures.reads_back c.canonical_law.ensures.book_reads_back c.canonical_law.ensures.book_fixed) c.canonical_law.ensures.no_longer c.canonical_law.ensures.book_no_longer c.args.books.now c.args.bind.now
+      (given_by c.in-Ok-judge.checked.books c.in_ok-texts.texts c.in_ok-bind.bind c.in-Ok-read_bound.bound.agents.items c.in-Ok-read_bound.bound.variables.items) (whole c)
+      c.requires.readable c.requires.readable_bind c.in-Ok-judge.ensures.steps c.in-Ok-read_bound.ensures.order,
+  c.in_ok-words.ensures,
+)
 
 pub returns-clause-ok : goal.returns-clause-ok
 returns-clause-ok c =
