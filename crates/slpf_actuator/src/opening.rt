@@ -1,5 +1,5 @@
 // The opening of a filter.
-ghost use Rattle.std.specs.Prelude.{◌≡◌, ◌≢◌, ◌⊎◌, ◌+◌, ◌/◌, ◌<◌, ◌≤◌, ◌++◌, ◌∷◌, [], ℕ, length, true, false, IsTrue, Ok, Err, IfOk, OnErr, IsErrOf};
+ghost use Rattle.std.specs.Prelude.{◌≡◌, ◌≢◌, ◌↔◌, ◌⊎◌, ◌+◌, ◌/◌, ◌<◌, ◌≤◌, ◌++◌, ◌∷◌, [], ℕ, length, true, false, IsTrue, Ok, Err, IfOk, OnErr, IsErrOf};
 ghost use Rattle.cacao_site.specs.Counts.{Rose};
 ghost use Rattle.cacao_site.specs.DiskCalls.{IsDurable, IsLeft, OnlyFile};
 ghost use Rattle.run_journal.specs.JournalView.{JournalView};
@@ -38,7 +38,10 @@ impl Actuator {
             → HoldsActs actuator.acts ((D.view disk.new).disk.reads agent)) }
         ensures agent { IfOk result (λ actuator. actuator.agent ≡ agent) }
         ensures whole { IfOk result (λ actuator. actuator.broken ≡ false) }
+        ensures prepared { IfOk result (λ actuator. IsTrue (D.view disk.old).disk.told
+            → IsTrue actuator.prepared ↔ (9 < length ((D.view disk.new).disk.reads agent))) }
 
+        ensures damaged_durable { (place : ℕ) → IsErrOf result (ActError.Damaged place) → IsDurable agent (D.view disk.new).disk }
         ensures damaged { (place : ℕ) → IsErrOf result (ActError.Damaged place) → IsTrue (D.view disk.old).disk.told
             → IsDamaged ((D.view disk.new).disk.reads agent) place }
         ensures disk { IsErrOf result ActError.Disk → Rose (D.view disk.old).disk.faults (D.view disk.new).disk.faults }
