@@ -34,9 +34,13 @@ use Rattle.flow_engine.specs.OpenIssues.{ArePut, OpenIssues, count_of, most_puts
 use Rattle.flow_engine.specs.declared.puts.Puts.{Puts}
 use Rattle.flow_engine.proofs.SoFarLemmas.{begin_is}
 use Rattle.flow_steps.specs.Sides.{AllPut}
-use Rattle.flow_steps.specs.Stands.{AllPutBut}
 use Rattle.flow_steps.proofs.Issues.{KeepsShown, below, is_ended, keeps_shown, puts_kept, puts_other}
 use Rattle.flow_steps.proofs.Records.{taken_next}
+
+-- each issue that waits for a filter was put since the files were opened, but for one number
+abbrev pub AllPutBut : EngineView → ℕ → Type 0
+AllPutBut v but =
+    (issue : ℕ) (it : Issue) → IsWaiting v.history.seen issue it → issue ≢ but → puts_of v.puts issue ≢ None
 
 -- ---- how many issues a record makes
 

@@ -26,7 +26,7 @@ use Rattle.flow_engine.specs.Histories.{IsHistory, IsSoFar}
 use Rattle.flow_laws.proofs.Basics.{same_some}
 use Rattle.flow_steps.specs.Appends.{Tries}
 use Rattle.flow_steps.specs.Appends.Tries.{done, failed, limited}
-use Rattle.flow_steps.specs.Complete.{Answers, EachComplete, IsNoExpire}
+use Rattle.flow_steps.specs.Complete.{EndsIssue, EachComplete, IsNoExpire}
 use Rattle.flow_steps.specs.Steps.{Expires, Step, Steps}
 use Rattle.flow_steps.specs.Steps.Step.{opens_clock, finds_run_used, asks_clock, finds_late, begins, moves, upgrades, tells, expires, says, fails_to_say}
 use Rattle.flow_steps.specs.Steps.Step.{puts_first, resends, takes, finds_none, fails_to_take, drops, replies, ignores_reply, acts_on, repeats_reply, fails_to_act, wants_memory_now}
@@ -217,18 +217,18 @@ no_unsure_expiry a b at none told still_ steps sure = by b.notes.unsure refl
           | inr bad ↦ absurd (no_expiry a last.old b none (not_looked a.phase at) (same, still_.1) last.before (steps_told a last.old last.before told) bad.0 bad.1)
         ]
 
--- ---- where a run has ended each issue was answered
+-- ---- where a run has ended each issue has its end
 
 -- the record that ended an issue is its Reply or what was told, unless it expired
-answers_of : (n : ℕ) (r : Record) → ended_by r ≡ Some n → IsNoExpire r → Answers n r
-answers_of n (entry.Reply issue moment status rule text) e no_expire = same_some e
-answers_of n (entry.Told issue moment status text) e no_expire = same_some e
-answers_of n (entry.Expire issue moment) e no_expire = absurd no_expire
-answers_of n (entry.Begin run moment books bind) e no_expire = absurd (none-some n e)
-answers_of n (entry.Walk task moment) e no_expire = absurd (none-some n e)
-answers_of n (entry.Send task issue agent moment bytes) e no_expire = absurd (none-some n e)
-answers_of n (entry.Upgrade version moment) e no_expire = absurd (none-some n e)
-answers_of n (entry.Ask task issue moment bytes) e no_expire = absurd (none-some n e)
+end_of : (n : ℕ) (r : Record) → ended_by r ≡ Some n → IsNoExpire r → EndsIssue n r
+end_of n (entry.Reply issue moment status rule text) e no_expire = same_some e
+end_of n (entry.Told issue moment status text) e no_expire = same_some e
+end_of n (entry.Expire issue moment) e no_expire = absurd no_expire
+end_of n (entry.Begin run moment books bind) e no_expire = absurd (none-some n e)
+end_of n (entry.Walk task moment) e no_expire = absurd (none-some n e)
+end_of n (entry.Send task issue agent moment bytes) e no_expire = absurd (none-some n e)
+end_of n (entry.Upgrade version moment) e no_expire = absurd (none-some n e)
+end_of n (entry.Ask task issue moment bytes) e no_expire = absurd (none-some n e)
 
 -- one of a list has others before and behind it
 parts : (xs : List Record) (k : ℕ) (r : Record) → k < length xs → get_or xs k r ≡ r → (front : List Record) × (back : List Record) × (xs ≡ front ++ r ∷ back)
@@ -261,13 +261,13 @@ pub steps_complete : EachComplete
 steps_complete a b at none stands told still_ steps = record {
   none_expires = none_expires a b at none told still_ steps;
   none_unsure = no_unsure_expiry a b at none told still_ steps;
-  answered = λ empty ended n it there.
+  has_end = λ empty ended n it there.
       let is = is_over b.engine.history n it (steps_ready a b stands steps).engine.history ended there in
       record {
         issued = is.has.issued;
         last = is.over.last;
         among = is.over.among;
-        answers = answers_of n is.over.last is.over.issue_is (no_expire empty is.over.last is.over.among);
+        ends = end_of n is.over.last is.over.issue_is (no_expire empty is.over.last is.over.among);
       };
 }
   where

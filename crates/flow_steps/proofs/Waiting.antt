@@ -33,7 +33,7 @@ use Rattle.flow_steps.specs.Steps.{HoldsCommand, PutsCommand, Step}
 use Rattle.flow_steps.specs.Steps.Step.{opens_clock, finds_run_used, asks_clock, finds_late, begins, moves, upgrades, tells, expires, says, fails_to_say}
 use Rattle.flow_steps.specs.Steps.Step.{puts_first, resends, takes, finds_none, fails_to_take, drops, replies, ignores_reply, acts_on, repeats_reply, fails_to_act, wants_memory_now}
 use Rattle.flow_steps.specs.Steps.Steps.{nothing, and_then}
-use Rattle.flow_steps.specs.Waits.{EachWaits, IsInHand, IsPending, NoExpiry, Serves, Waits}
+use Rattle.flow_steps.specs.UnderWay.{EachUnderWay, IsInHand, IsPending, NoExpiry, Serves, IsUnderWay}
 use Rattle.flow_steps.specs.Worlds.{Cause, IsGoing, Phase, World, opened, rests, looked, owes, holds, refused}
 use Rattle.flow_steps.proofs.Issues.{KeepsShown, keeps_shown, put_before, puts_other}
 use Rattle.flow_steps.proofs.Looked.{steps_look}
@@ -124,7 +124,7 @@ going_as : (p q : Phase) → p ≡ q → IsGoing q → IsGoing p
 going_as p q e g = subst IsGoing (sym e) g
 
 -- a session that has refused has nothing under way
-refused_waits : (w : World) (cause : Cause) (lacks : Bool) → w.phase ≡ refused cause lacks → Waits w
+refused_waits : (w : World) (cause : Cause) (lacks : Bool) → w.phase ≡ refused cause lacks → IsUnderWay w
 refused_waits w cause lacks e = record { each = λ g. absurd (subst IsGoing e g) }
 
 abbrev IsFree : Phase → Type 0
@@ -143,12 +143,12 @@ free_owes : (p : Phase) → p ≡ owes → IsFree p
 free_owes p e beat parcel h = let f : owes ≡ holds beat parcel = sym e ∙ h in cc
 
 -- what was pending where nothing is in hand
-was_pending : (w : World) → IsFree w.phase → IsGoing w.phase → Waits w → (issue : ℕ) → puts_of w.engine.puts issue ≢ None → IfSome w.site.link.pending (IsPending w.engine.history issue)
+was_pending : (w : World) → IsFree w.phase → IsGoing w.phase → IsUnderWay w → (issue : ℕ) → puts_of w.engine.puts issue ≢ None → IfSome w.site.link.pending (IsPending w.engine.history issue)
 was_pending w free going is issue put = elim (is.each going issue put) [ inl hand ↦ absurd (free hand.beat hand.parcel hand.is) | inr pending ↦ pending ]
 
 -- the engine stays, nothing is in hand, and no parcel was taken
 still : (old new : World) → IsFree old.phase → IsGoing old.phase → new.engine ≡ old.engine
-    → ((issue : ℕ) → IfSome old.site.link.pending (IsPending old.engine.history issue) → IfSome new.site.link.pending (IsPending old.engine.history issue)) → Waits old → Waits new
+    → ((issue : ℕ) → IfSome old.site.link.pending (IsPending old.engine.history issue) → IfSome new.site.link.pending (IsPending old.engine.history issue)) → IsUnderWay old → IsUnderWay new
 still old new free going same pending is = record {
   each = λ g issue put. inr (subst (λ (v : EngineView). IfSome new.site.link.pending (IsPending v.history issue)) (sym same)
       (pending issue (was_pending old free going is issue (subst (λ (v : EngineView). puts_of v.puts issue ≢ None) same put))));
@@ -166,8 +166,8 @@ site_pending old new e = ap (λ (s : SiteView). s.link.pending) e
 
 -- ---- a record was appended
 
-appended : (IsNext : Record → Type 0) (old new : World) → IsHistory old.engine.history → ArePut old.engine.history.seen old.engine.puts → IsGoing old.phase → Waits old
-    → ((issue : ℕ) (next : Record) → IsNext next → (ended_by next ≡ Some issue → ⊥) → IsInHand old.engine.history issue old.phase → ⊥) → Tries IsNext old new → Waits new
+appended : (IsNext : Record → Type 0) (old new : World) → IsHistory old.engine.history → ArePut old.engine.history.seen old.engine.puts → IsGoing old.phase → IsUnderWay old
+    → ((issue : ℕ) (next : Record) → IsNext next → (ended_by next ≡ Some issue → ⊥) → IsInHand old.engine.history issue old.phase → ⊥) → Tries IsNext old new → IsUnderWay new
 appended IsNext old new history are going was no_hand (failed is) = refused_waits new _ false is.phase
 appended IsNext old new history are going was no_hand (limited what is) = refused_waits new _ false is.phase
 appended IsNext old new history are going was no_hand (done is) =
@@ -206,7 +206,7 @@ reply_hand h p beat parcel moment at back issue next is apart hand =
 
 -- ---- a command was put
 
-command : (old new : World) (issue : ℕ) → IsFree old.phase → IsGoing old.phase → PutsCommand issue old new → DidNotRise old.site.clock.mishaps new.site.clock.mishaps → Waits old → Waits new
+command : (old new : World) (issue : ℕ) → IsFree old.phase → IsGoing old.phase → PutsCommand issue old new → DidNotRise old.site.clock.mishaps new.site.clock.mishaps → IsUnderWay old → IsUnderWay new
 command old new issue free going is still_ was =
     let h = old.engine.history in
     let same : new.engine.history ≡ h = ap (λ (v : EngineView). v.history) is.sends.view in
@@ -254,7 +254,7 @@ reply_serves h issue parcel v site bytes filter command final s = record {
 }
 
 replied : (old new : World) (mid : SiteView) (beat : ℕ) (parcel : Parcel) (v : ActuatorView) (bytes : List ℕ) → HoldsCommand beat parcel v old → new.engine ≡ old.engine → mid.link ≡ old.site.link
-    → DidNotRise mid.clock.mishaps new.site.clock.mishaps → Puts (reply_parcel_of v.agent parcel bytes) mid new.site → IsFinalReply bytes → Waits old → Waits new
+    → DidNotRise mid.clock.mishaps new.site.clock.mishaps → Puts (reply_parcel_of v.agent parcel bytes) mid new.site → IsFinalReply bytes → IsUnderWay old → IsUnderWay new
 replied old new mid beat parcel v bytes held same link still_ puts final was =
     let h = old.engine.history in
     let gained : Gains old.site.link.pending (reply_parcel_of v.agent parcel bytes) new.site.link.pending =
@@ -272,7 +272,7 @@ replied old new mid beat parcel v bytes held same link still_ puts final was =
 
 -- a parcel in hand that serves no issue was dropped or ignored
 unserved : (old new : World) (beat : ℕ) (parcel : Parcel) → old.phase ≡ holds beat parcel → new.engine ≡ old.engine → new.site ≡ old.site
-    → ((issue : ℕ) → Serves old.engine.history issue parcel → ⊥) → Waits old → Waits new
+    → ((issue : ℕ) → Serves old.engine.history issue parcel → ⊥) → IsUnderWay old → IsUnderWay new
 unserved old new beat parcel at same site none was = record {
   each = λ g issue put. inr (subst (λ (w : EngineView). IfSome new.site.link.pending (IsPending w.history issue)) (sym same)
       (elim (was.each (going_as old.phase _ at tt) issue (subst (λ (w : EngineView). puts_of w.puts issue ≢ None) same put)) [
@@ -291,7 +291,7 @@ no_reply h parcel back none issue s = elim s.kind [
 
 -- ---- a parcel was taken
 
-took : (old new : World) (parcel : Parcel) → old.phase ≡ rests → new.phase ≡ holds new.site.disk.beat parcel → new.engine ≡ old.engine → Loses old.site.link.pending parcel new.site.link.pending → Waits old → Waits new
+took : (old new : World) (parcel : Parcel) → old.phase ≡ rests → new.phase ≡ holds new.site.disk.beat parcel → new.engine ≡ old.engine → Loses old.site.link.pending parcel new.site.link.pending → IsUnderWay old → IsUnderWay new
 took old new parcel at now same lost was = record {
   each = λ g issue put. subst (λ (w : EngineView). IsInHand w.history issue new.phase ⊎ IfSome new.site.link.pending (IsPending w.history issue)) (sym same)
       (elim (pending_less old.engine.history issue old.site.link.pending new.site.link.pending parcel lost
@@ -304,7 +304,7 @@ took old new parcel at now same lost was = record {
 between_still : (old mid new : SiteView) → mid.clock ≡ old.clock → DidNotRise old.clock.mishaps new.clock.mishaps → DidNotRise mid.clock.mishaps new.clock.mishaps
 between_still old mid new e still_ = subst (λ (c : ClockView). DidNotRise c.mishaps new.clock.mishaps) (sym e) still_
 
-step_waits : (old new : World) → DidNotRise old.site.clock.mishaps new.site.clock.mishaps → Waits old → Step old new → Waits new
+step_waits : (old new : World) → DidNotRise old.site.clock.mishaps new.site.clock.mishaps → IsUnderWay old → Step old new → IsUnderWay new
 step_waits old new still_ was (opens_clock answer is) = still old new (free_opened old.phase is.phase) (going_as old.phase _ is.phase tt) is.goes.sides.engine (λ issue. pending_more old.engine.history issue old.site.link.pending new.site.link.pending is.goes.reaches.pending.0 is.goes.reaches.pending.1) was
 step_waits old new still_ was (finds_run_used agent is) = refused_waits new _ _ is.only.phase
 step_waits old new still_ was (asks_clock moment answer is) = still old new (free_looked old.phase is.next.up_to_date.on_time.untold.idle.has_looked.phase) (going_as old.phase _ is.next.up_to_date.on_time.untold.idle.has_looked.phase tt) is.goes.sides.engine (λ issue. pending_more old.engine.history issue old.site.link.pending new.site.link.pending is.goes.reaches.pending.0 is.goes.reaches.pending.1) was
@@ -335,7 +335,7 @@ step_waits old new still_ was (wants_memory_now is) = refused_waits new _ _ is.o
 still_parts : (a mid b : ℕ) → a ≤ mid → mid ≤ b → DidNotRise a b → DidNotRise a mid × DidNotRise mid b
 still_parts a mid b le le' is = ((omega (arith, le, le', is.0), is.1), (omega (arith, le, le', is.0), omega (arith, le, le', is.0, is.1)))
 
-pub steps_wait : EachWaits
+pub steps_wait : EachUnderWay
 steps_wait a b none still_ nothing = record { each = λ g issue put. absurd (put (ap (λ (o : OpenIssues). puts_of o issue) none)) }
 steps_wait a b none still_ (and_then {mid} steps step) =
     let before = steps_put_or_lose a mid steps in

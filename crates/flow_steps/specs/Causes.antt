@@ -52,7 +52,7 @@ pub record AskedFirst (a b : World) (moment : ℕ) : Type 0 where
   pub opens : OpensClock answer a b
   pub is : moment ≡ a.engine.history.seen.moment
 
--- An issue of a filter waits, and its resend comes before what is due, at most 5,000 milliseconds from now.
+-- An issue of a filter waits, and the moment comes before what is due, at most 5,000 milliseconds from now.
 pub record IsResendNear (w : World) (moment : ℕ) : Type 0 where
   pub issue : ℕ
   pub it : Issue

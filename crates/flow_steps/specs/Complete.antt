@@ -23,25 +23,25 @@ IsNoExpire (entry.Expire issue moment) = ⊥
 IsNoExpire other = ⊤
 
 -- the record is the Reply of this issue, or what an operator told of it
-abbrev pub Answers : ℕ → Record → Type 0
-Answers n (entry.Reply issue moment status rule text) = issue ≡ n
-Answers n (entry.Told issue moment status text) = issue ≡ n
-Answers n other = ⊥
+abbrev pub EndsIssue : ℕ → Record → Type 0
+EndsIssue n (entry.Reply issue moment status rule text) = issue ≡ n
+EndsIssue n (entry.Told issue moment status text) = issue ≡ n
+EndsIssue n other = ⊥
 
--- the command or the question of an issue is among the records, and so is what answered it
-pub record IsAnswered (records : List Record) (n : ℕ) (it : Issue) : Type 0 where
+-- the command or the question of an issue is among the records, and so is what ended its wait
+pub record HasItsEnd (records : List Record) (n : ℕ) (it : Issue) : Type 0 where
   pub issued : Contains records (record_of_issue n it)
   pub last : Record
   pub among : Contains records last
-  pub answers : Answers n last
+  pub ends : EndsIssue n last
 
--- No issue expires, also by a record that may stand after a fault; and where the journal was empty and the run has ended, each issue was answered.
+-- No issue expires, also by a record that may stand after a fault; and where the journal was empty and the run has ended, each issue has its end.
 pub record IsComplete (a b : World) : Type 0 where
   pub none_expires : (front back : List Record) (r : Record)
       → b.engine.history.records ≡ (a.engine.history.records ++ front) ++ r ∷ back → IsNoExpire r
   pub none_unsure : a.notes.unsure ≡ None → IfSome b.notes.unsure IsNoExpire
-  pub answered : a.engine.history.records ≡ [] → IsSome (outcome b.engine.history.seen.lists) → (n : ℕ) (it : Issue)
-      → slice_get b.engine.history.seen.lists.issues n ≡ Some it → IsAnswered b.engine.history.records n it
+  pub has_end : a.engine.history.records ≡ [] → IsSome (outcome b.engine.history.seen.lists) → (n : ℕ) (it : Issue)
+      → slice_get b.engine.history.seen.lists.issues n ≡ Some it → HasItsEnd b.engine.history.records n it
 
 -- ---- each Reply has its act
 

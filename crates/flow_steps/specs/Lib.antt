@@ -14,7 +14,7 @@ pub mod Sums
 pub mod Turns
 pub mod Unbroken
 pub mod Unsure
-pub mod Waits
+pub mod UnderWay
 pub mod Whole
 pub mod Worlds
 pub mod Written

@@ -1,10 +1,6 @@
 -- What stands at each world of a session that goes on: files, a run that has begun, the commands that were put, and the clock.
-use Rattle.std.specs.Prelude.{◌≡◌, ◌≢◌, ℕ, true, None}
+use Rattle.std.specs.Prelude.{◌≡◌, ◌≢◌, true}
 use Rattle.flow_rules.specs.Changes.{is_in_time}
-use Rattle.flow_rules.specs.declared.issues.Issue.{Issue}
-use Rattle.flow_engine.specs.EngineCalls.{IsWaiting}
-use Rattle.flow_engine.specs.EngineView.{EngineView}
-use Rattle.flow_engine.specs.OpenIssues.{puts_of}
 use Rattle.flow_steps.specs.Sides.{AllPut, AreFilters, IsUp, IsWhole}
 use Rattle.flow_steps.specs.Steps.{Steps}
 use Rattle.flow_steps.specs.Worlds.{World, IsGoing, opened, looked}
@@ -21,11 +17,6 @@ EachStands = (a b : World) → AllStand a → Steps a b → IsGoing b.phase → 
 -- and a run that has begun stays begun.
 abbrev pub EachUp : Type 0
 EachUp = (a b : World) → IsUp a.engine a.site → Steps a b → IsGoing b.phase → IsUp b.engine b.site
-
--- each issue that waits for a filter was put since the files were opened, but for one number
-abbrev pub AllPutBut : EngineView → ℕ → Type 0
-AllPutBut v but =
-    (issue : ℕ) (it : Issue) → IsWaiting v.history.seen issue it → issue ≢ but → puts_of v.puts issue ≢ None
 
 -- where a turn has looked for a parcel, each issue that waits for a filter was put
 abbrev pub AllPutWhileLooked : World → Type 0

@@ -166,7 +166,8 @@ pub record PutsCommand (issue : ℕ) (old new : World) : Type 0 where
   pub notes : new.notes ≡ record old.notes { put = old.notes.put ++ issue ∷ [] }
   pub phase : new.phase ≡ rests
 
--- each issue that waits for a filter is put before a turn begins, in order of number
+-- Each issue that waits for a filter is put before a turn begins, in order of number: those that wait once the files are open,
+-- and that of a new Send.
 pub record PutsFirst (issue : ℕ) (old new : World) : Type 0 where
   pub phase : old.phase ≡ rests
   pub sound : IsSound old.site

@@ -13,7 +13,7 @@ use Rattle.flow_steps.specs.Steps.{Steps}
 use Rattle.flow_steps.specs.Sums.{Adds, AsksOnly, SameGiven, Speaks, owed_lines, total}
 use Rattle.flow_steps.specs.Turns.{most_ignored}
 use Rattle.flow_steps.specs.Unbroken.{IsUnbroken}
-use Rattle.flow_steps.specs.Waits.{Waits}
+use Rattle.flow_steps.specs.UnderWay.{IsUnderWay}
 use Rattle.flow_steps.specs.Worlds.{Notes, World, opened}
 use Rattle.flow_steps.specs.Written.{noted_bytes, record_bytes}
 
@@ -51,7 +51,7 @@ pub record AddsUp (a b : World) (most : ℕ) : Type 0 where
   pub filters : FiltersStand b
   pub grow : FiltersGrow a b
   pub unbroken : IsUnbroken a b
-  pub waits : DidNotRise a.site.clock.mishaps b.site.clock.mishaps → Waits b
+  pub waits : DidNotRise a.site.clock.mishaps b.site.clock.mishaps → IsUnderWay b
   pub complete : IsSome a.site.link.pending → DidNotRise a.site.clock.mishaps b.site.clock.mishaps → IsComplete a b
   pub calls : b.site.disk.calls + owed_lines b.phase
       ≤ a.site.disk.calls + 2 * 17 + 5 * length adds.added + 4 * length b.notes.acted + 5

@@ -11,7 +11,7 @@ ghost use Rattle.flow_steps.specs.Ready.{EachFilterReady, EachLooked, EachReady}
 ghost use Rattle.flow_steps.specs.Sums.{EachAdds, EachAsksOnly, EachCame, EachCosts, EachSameGiven, EachSpeaks, IgnoresFew};
 ghost use Rattle.flow_steps.specs.Unbroken.{EachUnbroken};
 ghost use Rattle.flow_steps.specs.Unsure.{EachUnsure, EachUnsureAct};
-ghost use Rattle.flow_steps.specs.Waits.{EachWaits, NoExpiry};
+ghost use Rattle.flow_steps.specs.UnderWay.{EachUnderWay, NoExpiry};
 ghost use Rattle.flow_steps.specs.Whole.{EachAddsUp};
 ghost use Rattle.flow_steps.specs.Written.{EachWritesFew};
 
@@ -38,7 +38,7 @@ pub fn steps_laws()
     ensures handles { EachHandles }
     ensures puts_or_lost { EachPutsOrLost }
     ensures puts_in_time { EachPutsInTime }
-    ensures waits { EachWaits }
+    ensures under_way { EachUnderWay }
     ensures no_expiry { NoExpiry }
     ensures causes { EachCause }
     ensures acted { EachActed }

@@ -1,6 +1,6 @@
 -- One file that is opened, and the list of the filters that are open.
 use Rattle.std.proofs.Common.{◌≡◌, ◌≢◌, inr, ℕ, false, List, [], ◌∷◌, ◌++◌, refl, ◌∙◌, subst, ap}
-use Rattle.std.specs.Prelude.{Option, Some, None, IfOk, IsTrue, IsErrOf, MatchOption, Result, Ok, Err}
+use Rattle.std.specs.Prelude.{◌↔◌, ◌<◌, length, Option, Some, None, IfOk, IsTrue, IsErrOf, MatchOption, Result, Ok, Err}
 use Rattle.cacao_site.specs.Counts.{Rose}
 use Rattle.cacao_site.specs.DiskCalls.{IsDurable}
 use Rattle.cacao_site.specs.View.{SiteView}
@@ -29,27 +29,31 @@ may_refuse_file r (act_error.Full needed) is no_other = absurd ((no_other needed
 may_refuse_file r act_error.Broken is no_other = absurd ((no_other 0).0 is)
 
 pub file_refuses : {T : Type 0} (agent : ℕ) (old new : SiteView) (r : Result T ActError) (error : ActError) → r ≡ Err error → OpensFile agent old new
+    → ((place : ℕ) → IsErrOf r (act_error.Damaged place) → IsDurable agent new.disk)
     → ((place : ℕ) → IsErrOf r (act_error.Damaged place) → IsTrue old.disk.told → IsDamaged (new.disk.reads agent) place)
     → (IsErrOf r act_error.Disk → Rose old.disk.faults new.disk.faults)
     → ((needed : ℕ) → (r ≢ Err act_error.Broken) × (r ≢ Err (act_error.Full needed))) → RefusesFile (file_refusal agent error) agent old new
-file_refuses agent old new r act_error.Disk is opens damaged disk no_other = record { opens = opens; why = disk is }
-file_refuses agent old new r (act_error.Damaged place) is opens damaged disk no_other = record { opens = opens; why = (refl, damaged place is) }
-file_refuses agent old new r act_error.Memory is opens damaged disk no_other = record { opens = opens; why = tt }
-file_refuses agent old new r (act_error.Full needed) is opens damaged disk no_other = absurd ((no_other needed).1 is)
-file_refuses agent old new r act_error.Broken is opens damaged disk no_other = absurd ((no_other 0).0 is)
+file_refuses agent old new r act_error.Disk is opens durable damaged disk no_other = record { opens = opens; why = disk is }
+file_refuses agent old new r (act_error.Damaged place) is opens durable damaged disk no_other =
+    record { opens = opens; why = (refl, durable place is, damaged place is) }
+file_refuses agent old new r act_error.Memory is opens durable damaged disk no_other = record { opens = opens; why = tt }
+file_refuses agent old new r (act_error.Full needed) is opens durable damaged disk no_other = absurd ((no_other needed).1 is)
+file_refuses agent old new r act_error.Broken is opens durable damaged disk no_other = absurd ((no_other 0).0 is)
 
 told_then : (agent : ℕ) (old new : SiteView) → OpensFile agent old new → IsTrue new.disk.told → IsTrue old.disk.told
 told_then agent old new opens told = subst IsTrue opens.only.each.goes_on.told told
 
 pub next_opens : (agent : ℕ) (old new : SiteView) (v : ActuatorView) (fs gs : List ActuatorView) → OpensFile agent old new → filter.IsReady v new → IsDurable agent new.disk
-    → (IsTrue old.disk.told → HoldsActs v.acts (new.disk.reads agent)) → v.agent ≡ agent → v.broken ≡ false → gs ≡ fs ++ v ∷ [] → OpensNext agent old new fs gs
-next_opens agent old new v fs gs opens ready durable stands of_agent whole more = record {
+    → (IsTrue old.disk.told → HoldsActs v.acts (new.disk.reads agent))
+    → (IsTrue old.disk.told → IsTrue v.prepared ↔ (9 < length (new.disk.reads agent))) → v.agent ≡ agent → v.broken ≡ false → gs ≡ fs ++ v ∷ [] → OpensNext agent old new fs gs
+next_opens agent old new v fs gs opens ready durable stands prepared of_agent whole more = record {
   opens = opens;
   v = v;
   is_open = record {
     filter = record { ready = ready; whole = whole; of_agent = of_agent };
     durable = durable;
     stands = λ told. stands (told_then agent old new opens told);
+    prepared = λ told. prepared (told_then agent old new opens told);
   };
   more = more;
 }
@@ -58,8 +62,9 @@ next_opens agent old new v fs gs opens ready durable stands of_agent whole more 
 
 pub journal_open : (given : Given) (run : ℕ) (old new : SiteView) (v : EngineView) → OpensFile 0 old new → engine.IsReady v.history new → IsHistory v.history
     → ArePut v.history.seen v.puts → v.history.broken ≡ false → v.history.seen.given ≡ given → v.history.seen.run ≡ run → v.puts ≡ [] → IsDurable 0 new.disk
-    → (IsTrue old.disk.told → HoldsRecords v.history.records (new.disk.reads 0)) → IsJournalOpen given run old new v
-journal_open given run old new v opens ready history put whole given_is of_run no_puts durable stands = record {
+    → (IsTrue old.disk.told → HoldsRecords v.history.records (new.disk.reads 0))
+    → (IsTrue old.disk.told → IsTrue v.history.prepared ↔ (9 < length (new.disk.reads 0))) → IsJournalOpen given run old new v
+journal_open given run old new v opens ready history put whole given_is of_run no_puts durable stands prepared = record {
   opens = opens;
   whole = record { engine = record { ready = ready; history = history; put = put }; whole = whole };
   given_is = given_is;
@@ -67,6 +72,7 @@ journal_open given run old new v opens ready history put whole given_is of_run n
   no_puts = no_puts;
   durable = durable;
   stands = stands;
+  prepared = prepared;
 }
 
 pub second_refused : (error : WorldError) (given : Given) (run : ℕ) (old mid new : SiteView) (v : EngineView) → IsJournalOpen given run old mid v → RefusesFilters error mid new

@@ -1,6 +1,6 @@
 -- The opening of the files, one after another.
 use Rattle.std.proofs.Common.{◌≡◌, ◌≢◌, ◌⊎◌, inl, inr, ℕ, zero, suc, ◌+◌, ◌-◌, ◌*◌, ◌/◌, ◌<◌, ◌≤◌, List, [], ◌∷◌, ◌++◌, length, refl, sym, ◌∙◌, subst, ap, arith}
-use Rattle.std.specs.Prelude.{Some, IsTrue, slice_get}
+use Rattle.std.specs.Prelude.{◌↔◌, Some, IsTrue, slice_get}
 use Rattle.std.proofs.lemmas.Bool.{cases_lt}
 use Rattle.cacao_site.specs.DiskCalls.{GoesOn, IsDurable, IsLeft, OnlyFile, SameRest, StaysAt}
 use Rattle.cacao_site.specs.View.{DiskView, SiteView}
@@ -32,6 +32,7 @@ filter_stays agent old new v on stays is = record {
   };
   durable = durable_stays agent old.disk new.disk on stays is.durable;
   stands = λ told. subst (λ (l : List ℕ). HoldsActs v.acts l) (sym stays.reads) (is.stands (told_later old.disk new.disk on told));
+  prepared = λ told. subst (λ (l : List ℕ). IsTrue v.prepared ↔ (9 < length l)) (sym stays.reads) (is.prepared (told_later old.disk new.disk on told));
 }
 
 rest_then : (a b c : SiteView) → SameRest a b → SameRest b c → SameRest a c

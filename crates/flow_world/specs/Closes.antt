@@ -28,7 +28,7 @@ pub record IsPaused (w : World) : Type 0 where
   pub goes_on : outcome w.engine.history.seen.lists ≡ None
   pub none_left : w.notes.left ≡ 0
 
--- the last parcel was one too many
+-- the last parcel was the 1,000,000th that changed neither journal
 pub record IsFlooded (w : World) : Type 0 where
   pub phase : w.phase ≡ rests
   pub many : w.notes.ignored ≡ most_ignored

@@ -1,5 +1,5 @@
 -- The opening of a session's files: the journal first, then those of the filters in order.
-use Rattle.std.specs.Prelude.{◌≡◌, ◌⊎◌, ℕ, zero, suc, ◌+◌, ◌*◌, ◌-◌, ◌/◌, ◌<◌, ◌≤◌, IsTrue, List, [], ◌∷◌, ◌++◌, length, Any, Some, slice_get, ⊤}
+use Rattle.std.specs.Prelude.{◌≡◌, ◌⊎◌, ◌↔◌, ℕ, zero, suc, ◌+◌, ◌*◌, ◌-◌, ◌/◌, ◌<◌, ◌≤◌, IsTrue, List, [], ◌∷◌, ◌++◌, length, Any, Some, slice_get, ⊤}
 use Rattle.cacao_site.specs.Counts.{Rose}
 use Rattle.cacao_site.specs.DiskCalls.{GoesOn, IsDurable, IsLeft, OnlyFile, SameRest, StaysAt}
 use Rattle.cacao_site.specs.View.{DiskView, SiteView}
@@ -32,6 +32,7 @@ pub record IsJournalOpen (given : Given) (run : ℕ) (old new : SiteView) (v : E
   pub no_puts : v.puts ≡ []
   pub durable : IsDurable 0 new.disk
   pub stands : IsTrue old.disk.told → HoldsRecords v.history.records (new.disk.reads 0)
+  pub prepared : IsTrue old.disk.told → IsTrue v.history.prepared ↔ (9 < length (new.disk.reads 0))
 
 -- or it was not opened
 pub record RefusesJournal (error : WorldError) (given : Given) (run : ℕ) (old new : SiteView) : Type 0 where
@@ -47,6 +48,7 @@ pub record IsFilterOpen (agent : ℕ) (site : SiteView) (v : ActuatorView) : Typ
   pub filter : IsFilter v agent site
   pub durable : IsDurable agent site.disk
   pub stands : IsTrue site.disk.told → HoldsActs v.acts (site.disk.reads agent)
+  pub prepared : IsTrue site.disk.told → IsTrue v.prepared ↔ (9 < length (site.disk.reads agent))
 
 -- the blocks of 4,096 bytes that the files of agents up to this one fill
 abbrev pub blocks_to : ℕ → DiskView → ℕ
@@ -75,7 +77,7 @@ pub record OpensNext (agent : ℕ) (old new : SiteView) (fs gs : List ActuatorVi
 -- why a filter's file was not opened
 abbrev pub IsFileCause : WorldError → ℕ → SiteView → SiteView → Type 0
 IsFileCause error.Disk agent old new = Rose old.disk.faults new.disk.faults
-IsFileCause (error.Damaged file place) agent old new = (file ≡ agent) × (IsTrue old.disk.told → IsDamaged (new.disk.reads agent) place)
+IsFileCause (error.Damaged file place) agent old new = (file ≡ agent) × IsDurable agent new.disk × (IsTrue old.disk.told → IsDamaged (new.disk.reads agent) place)
 IsFileCause error.Memory agent old new = ⊤
 IsFileCause other agent old new = ⊥
 

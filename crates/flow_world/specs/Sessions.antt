@@ -41,7 +41,8 @@ pub record RefusesLater (error : WorldError) (given : Given) (run most : ℕ) (a
 abbrev pub HasRefused : WorldError → Given → ℕ → ℕ → List OperatorAnswer → SiteView → SiteView → Type 0
 HasRefused error given run most answers old new = RefusesOpening error given run old new ⊎ RefusesLater error given run most answers old new
 
--- a session may begin here, under a fresh number, and the site tells its files and its parcels
+-- A session may begin here, under a fresh number, and the site tells its files and its parcels. Of lines said before nothing is
+-- known where the site doesn't tell them.
 pub record IsStart (site : SiteView) (run : ℕ) : Type 0 where
   pub told : IsTrue site.disk.told
   pub puts : IsSome site.link.puts

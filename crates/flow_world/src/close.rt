@@ -11,6 +11,6 @@ pub enum Close {
     Waiting { due: u64 },
     /// 1,000,000 parcels changed neither the engine's journal nor a filter's.
     Flooded,
-    /// Nothing but an operator's answer for this issue can let the run go on.
+    /// Nothing is due, and no open question has an answer; this is the least such issue.
     Asked { issue: u32 },
 }

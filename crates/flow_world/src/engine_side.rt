@@ -128,7 +128,7 @@ pub fn put_waiting<S: Site>(engine: &mut Engine, site: &mut S, now: u64) -> Resu
     Ok(())
 }
 
-/// Appends the Reply of a parcel in hand, and says its line; false where it is no final reply of this run from the filter of an issue
+/// Appends the Reply of a parcel in hand, and says its line; false exactly where it is no final reply of this run from the filter of an issue
 /// that waits.
 pub fn take_reply<S: Site>(
     engine: &mut Engine,

@@ -31,6 +31,7 @@ pub enum WorldError {
     /// A line could not be said.
     #[error("a line could not be said")]
     Say,
+    /// Memory was refused.
     #[error("out of memory")]
     Memory,
 }

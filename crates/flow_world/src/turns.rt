@@ -130,7 +130,7 @@ impl Session {
         self.hand_command(site, parcel)
     }
 
-    /// Hands on a parcel that was taken; the session closes right behind one too many that changed neither journal.
+    /// Hands on a parcel that was taken; the session closes right behind the 1,000,000th that changed neither journal.
     fn deliver<S: Site>(
         &mut self,
         site: &mut S,
@@ -155,7 +155,7 @@ impl Session {
         }
     }
 
-    /// Asks the clock for what comes next, which nothing of this turn came before.
+    /// Where nothing is due the session closes as asked; else the clock is asked for what comes next, up to the last moment.
     fn wait<S: Site>(
         &mut self,
         site: &mut S,

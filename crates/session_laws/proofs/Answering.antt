@@ -11,7 +11,7 @@ use Rattle.flow_engine.specs.Histories.{IsHistory}
 use Rattle.flow_laws.specs.Held.{plain}
 use Rattle.flow_laws.specs.Journals.{IsSent}
 use Rattle.flow_laws.specs.Since.{AgreedSince}
-use Rattle.flow_steps.specs.Complete.{Answers}
+use Rattle.flow_steps.specs.Complete.{EndsIssue}
 use Rattle.flow_steps.specs.Ready.{JournalStands}
 use Rattle.flow_steps.specs.Unbroken.{AreFiltersSure, EndedByFilter, IsJournalSure}
 use Rattle.flow_steps.specs.Unsure.{UnsureByStep}
@@ -33,9 +33,9 @@ parts (x ∷ xs) (suc k) r lt is = let p = parts xs k r (omega (arith, lt)) is i
 contains_split : (xs : List Record) (r : Record) → Contains xs r → (front : List Record) × (back : List Record) × (xs ≡ front ++ r ∷ back)
 contains_split xs r has = parts xs has.0 r has.1 has.2
 
--- what answered a Send is a Reply
+-- what ended a Send is a Reply
 reply_of : (a b : World) (n task agent moment : ℕ) (bytes : List ℕ) (r : Record) → a.engine.history.records ≡ [] → TellsNoFilter a b
-    → Contains b.engine.history.records (entry.Send task n agent moment bytes) → Contains b.engine.history.records r → Answers n r → IsReplied b.engine.history.records n
+    → Contains b.engine.history.records (entry.Send task n agent moment bytes) → Contains b.engine.history.records r → EndsIssue n r → IsReplied b.engine.history.records n
 reply_of a b n task agent moment bytes (entry.Reply issue at status rule text) empty not send has of =
     record { moment = at; status = status; rule = rule; text = text; has = subst (λ (k : ℕ). Contains b.engine.history.records (entry.Reply k at status rule text)) of has }
 reply_of a b n task agent moment bytes (entry.Told issue at status text) empty not send has of =
@@ -64,8 +64,8 @@ send_is_answered a b given run most answers is empty told still_ steps well over
     let history : IsHistory b.engine.history = (steps_ready a b stands steps).engine.history in
     let shown = issue_shown b.engine.history issue (entry.Send task issue agent moment bytes) history send refl in
     let complete = steps_complete a b is.phase is.no_puts stands told still_ steps in
-    let answered = complete.answered empty (is_some_of (outcome b.engine.history.seen.lists) well over) issue shown.one shown.there in
-    reply_of a b issue task agent moment bytes answered.last empty (no_told_of_filters a b given run most answers is told still_ steps) send answered.among answered.answers
+    let ended = complete.has_end empty (is_some_of (outcome b.engine.history.seen.lists) well over) issue shown.one shown.there in
+    reply_of a b issue task agent moment bytes ended.last empty (no_told_of_filters a b given run most answers is told still_ steps) send ended.among ended.ends
 
 -- ---- with its act
 

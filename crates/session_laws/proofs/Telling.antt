@@ -28,7 +28,7 @@ use Rattle.flow_steps.specs.Steps.{Step, Steps, Tells}
 use Rattle.flow_steps.specs.Steps.Step.{opens_clock, finds_run_used, asks_clock, finds_late, begins, moves, upgrades, tells, expires, says, fails_to_say}
 use Rattle.flow_steps.specs.Steps.Step.{puts_first, resends, takes, finds_none, fails_to_take, drops, replies, ignores_reply, acts_on, repeats_reply, fails_to_act, wants_memory_now}
 use Rattle.flow_steps.specs.Steps.Steps.{nothing, and_then}
-use Rattle.flow_steps.specs.Waits.{IsPending}
+use Rattle.flow_steps.specs.UnderWay.{IsPending}
 use Rattle.flow_steps.specs.Worlds.{IsGoing, Notes, Phase, World, opened, looked, holds}
 use Rattle.flow_steps.proofs.Adding.{of_option, steps_add}
 use Rattle.flow_steps.proofs.Came.{same_last, steps_came}

@@ -75,8 +75,8 @@ returns-clause-puts_or_lost c = steps_put_or_lose
 pub returns-clause-puts_in_time : goal.returns-clause-puts_in_time
 returns-clause-puts_in_time c = steps_put_in_time
 
-pub returns-clause-waits : goal.returns-clause-waits
-returns-clause-waits c = steps_wait
+pub returns-clause-under_way : goal.returns-clause-under_way
+returns-clause-under_way c = steps_wait
 
 pub returns-clause-no_expiry : goal.returns-clause-no_expiry
 returns-clause-no_expiry c = no_expiry

@@ -41,13 +41,13 @@ pub record IsInHand (h : HistoryView) (issue : ℕ) (phase : Phase) : Type 0 whe
   pub serves : Serves h issue parcel
 
 -- for each issue that was put and waits one is in hand, or pending where that is told
-pub record Waits (w : World) : Type 0 where
+pub record IsUnderWay (w : World) : Type 0 where
   pub each : IsGoing w.phase → (issue : ℕ) → puts_of w.engine.puts issue ≢ None
       → IsInHand w.engine.history issue w.phase ⊎ IfSome w.site.link.pending (IsPending w.engine.history issue)
 
 -- from a world where nothing was put, while no parcel is lost, doubled or held back
-abbrev pub EachWaits : Type 0
-EachWaits = (a b : World) → a.engine.puts ≡ [] → DidNotRise a.site.clock.mishaps b.site.clock.mishaps → Steps a b → Waits b
+abbrev pub EachUnderWay : Type 0
+EachUnderWay = (a b : World) → a.engine.puts ≡ [] → DidNotRise a.site.clock.mishaps b.site.clock.mishaps → Steps a b → IsUnderWay b
 
 -- So no issue expires, where pending parcels are told.
 abbrev pub NoExpiry : Type 0
