@@ -3,6 +3,8 @@
 
 mod answered;
 mod ends;
+mod returned;
 
 pub use answered::answered_laws;
 pub use ends::ends_laws;
+pub use returned::returned_laws;
