@@ -102,7 +102,7 @@ treeless-some files (file ∷ more) [] t r = absurd t
 treeless-some files (file ∷ more) (text ∷ texts) t (inl none) = inl (subst (λ (o : Option Text). IsSomeAnd o (λ bytes. tree bytes ≡ None)) (sym t.0.1) none)
 treeless-some files (file ∷ more) (text ∷ texts) t (inr r) = inr (treeless-some files more texts t.1 r)
 
-texts-within : (files : Files) (list : List File) (texts : List NamedText) → Texts files list texts → AllWithin files list
+pub texts-within : (files : Files) (list : List File) (texts : List NamedText) → Texts files list texts → AllWithin files list
 texts-within files [] [] t = tt
 texts-within files [] (text ∷ texts) t = absurd t
 texts-within files (file ∷ more) [] t = absurd t
@@ -150,7 +150,7 @@ missing-within files file none within = some-none (files file.name) (λ bytes. l
 pub long-within : (files : Files) (file : File) → IsSomeAnd (files file.name) (λ bytes. most file.limit < length bytes) → IsWithin files file → ⊥
 long-within files file long within = some-both (files file.name) (λ bytes. most file.limit < length bytes) (λ bytes. length bytes ≤ most file.limit) (λ bytes p q. omega (arith, p, q)) long within
 
-first-within : (files : Files) (P : File → Type 0) (list : List File) → ((file : File) → P file → IsWithin files file → ⊥) → First files P list → AllWithin files list → ⊥
+pub first-within : (files : Files) (P : File → Type 0) (list : List File) → ((file : File) → P file → IsWithin files file → ⊥) → First files P list → AllWithin files list → ⊥
 first-within files P [] h f a = f
 first-within files P (file ∷ more) h (inl p) a = h file p a.0
 first-within files P (file ∷ more) h (inr f) a = first-within files P more h f.1 a.1
@@ -276,17 +276,17 @@ module _ (files : Files) (list : List File) (does : List Data → Work) (so : En
       go (is_read others u is) = subst (λ (rs : List Data). Comes (does rs) old new n) (trees-same files list others roots u t) (at (does others) is h)
 
 -- the work ends with no other status
-pub trees-listed : (files : Files) (list : List File) (does : List Data → Work) (so : EndsByTrees does) (old new : SiteView) (n : ℕ) → Comes (tree_work files list does) old new n → n ≡ 13 → ⊥
-trees-listed files list does so old new n h e = go (tree_work_case files list does)
+pub trees-few : (files : Files) (list : List File) (does : List Data → Work) (so : EndsByTrees does) (old new : SiteView) (n : ℕ) → Comes (tree_work files list does) old new n → n ≤ 11
+trees-few files list does so old new n h = go (tree_work_case files list does)
   where
     at : (w : Work) → tree_work files list does ≡ w → Comes w old new n
     at w is = subst (λ (w : Work). Comes w old new n) is h
 
-    go : TreeWork files list does → ⊥
-    go (is_missing name m is) = let k : n ≡ 4 = at (ends [] (no_such_file name)) is in omega (arith, e, k)
-    go (is_too_long limit l is) = let k : n ≡ 11 = at (ends [] (past limit)) is in omega (arith, e, k)
-    go (is_treeless name reason a s is) = let k : n ≡ 5 = at (ends [] (not_readable name reason)) is in omega (arith, e, k)
-    go (is_read roots t is) = let k = so roots old new n (at (does roots) is) in omega (arith, e, k)
+    go : TreeWork files list does → n ≤ 11
+    go (is_missing name m is) = let k : n ≡ 4 = at (ends [] (no_such_file name)) is in omega (arith, k)
+    go (is_too_long limit l is) = let k : n ≡ 11 = at (ends [] (past limit)) is in omega (arith, k)
+    go (is_treeless name reason a s is) = let k : n ≡ 5 = at (ends [] (not_readable name reason)) is in omega (arith, k)
+    go (is_read roots t is) = let k = so roots old new n (at (does roots) is) in omega (arith, k)
 
 -- ---- a clause on one status
 

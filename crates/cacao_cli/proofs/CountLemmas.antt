@@ -9,19 +9,20 @@ use Rattle.cacao_check.specs.declared.breaks.Mode.TheVariants.{Read as Reading}
 use Rattle.oc2_nets.specs.declared.packets.Packet.{Packet}
 use Rattle.filter_reports.specs.PacketFiles.{packets_of}
 use Rattle.cacao_words.specs.Words.{Text}
-use Rattle.cacao_cli.specs.Asked.{Asked, canonises, checks, shows, lists_rules, decides, shadows}
+use Rattle.cacao_cli.specs.Asked.{Asked, canonises, checks, shows, lists_rules, decides, shadows, audits}
 use Rattle.cacao_cli.specs.Ends.{End, status_of, text_of, is_fault, done, accepted, refused, past, shelf_failed, no_such_file, unsaid, no_memory}
 use Rattle.cacao_cli.specs.Files.{File, Files, Content, ShelfCall, NamedText, Reads, all_read, wants_memory, stops, goes_on, text_in, item_then, named, whole, missing, too_long, failed, no_room, faults_behind, files_of, named_by, has_too_many}
 use Rattle.cacao_cli.specs.Lines.{SaysWork, Tells}
-use Rattle.cacao_cli.specs.Work.{Work, ends, judges, opens_filter, opens_run, at_decisions, or_end, packets_or_end, trees_of, canon_line, work, work_on}
+use Rattle.cacao_cli.specs.Work.{Work, ends, judges, opens_filter, opens_run, compares, at_decisions, or_end, packets_or_end, trees_of, canon_line, work, work_on}
 use Rattle.cacao_cli.specs.Ended.{Performs, Performed, Ended}
 use Rattle.cacao_cli.specs.Exact.{IsOneOf}
 use Rattle.cacao_cli.specs.Leaves.{NoDiskFault, NoFault}
 use Rattle.cacao_cli.specs.declared.limit.Limit.TheVariants.{BookCount}
+use Rattle.cacao_cli.proofs.AuditLemmas.{compares-disk, compares-failed, compares-said, compares-unsaid, has-other}
 use Rattle.cacao_cli.proofs.CauseLemmas.{TreesCase, all_trees, one_treeless, trees_case}
 use Rattle.cacao_cli.proofs.ExactLemmas.{Comes, IsPlain, performs-comes}
 use Rattle.cacao_cli.proofs.EndLemmas.{end-failed, no-more, no_cons}
-use Rattle.cacao_cli.proofs.LeaveLemmas.{IsBrief, silent, one_line, judged, brief-canon, brief-check}
+use Rattle.cacao_cli.proofs.LeaveLemmas.{IsBrief, silent, one_line, judged, brief-audit, brief-canon, brief-check, compared}
 use Rattle.cacao_cli.proofs.OpenLemmas.{opens-grows, opens-said, opens-unsaid, opens-failed}
 use Rattle.cacao_cli.proofs.RunLemmas.{run-failed, run-grows, run-said, run-unsaid, shown-other}
 use Rattle.cacao_cli.proofs.UnsaidLemmas.{last-disk, last-said, last-unsaid, works-disk, works-said, works-unsaid}
@@ -35,6 +36,7 @@ performs-disk (judges trees mode kept) old mid last plain (inr (inl h)) = ap (λ
 performs-disk (judges trees mode kept) old mid last plain (inr (inr h)) = ap (λ (s : SiteView). s.disk.faults) h.same
 performs-disk (opens_filter agent look) old mid last plain h = absurd plain
 performs-disk opens_run old mid last plain h = absurd plain
+performs-disk (compares files) old mid last plain h = compares-disk files old mid last h
 
 same-grows : (n m : ℕ) → m ≡ n → n ≤ m
 same-grows n m e = omega (arith, e)
@@ -46,6 +48,7 @@ performs-grows (judges trees mode kept) old mid last (inr (inl h)) = same-grows 
 performs-grows (judges trees mode kept) old mid last (inr (inr h)) = same-grows old.disk.faults mid.disk.faults (ap (λ (s : SiteView). s.disk.faults) h.same)
 performs-grows (opens_filter agent look) old mid last h = opens-grows agent look old mid last h
 performs-grows opens_run old mid last h = run-grows old mid mid last 0 h
+performs-grows (compares files) old mid last h = same-grows old.disk.faults mid.disk.faults (compares-disk files old mid last h)
 
 performs-said : (w : Work) (old mid new : SiteView) (last : End) (answer : ℕ) → Performs w old mid last → Tells last mid new answer → (answer ≡ 9 → ⊥) → new.clock.unsaid ≡ old.clock.unsaid
 performs-said (ends lines end) old mid new last answer h tells unlike = works-said lines end old mid new last answer h tells unlike
@@ -54,6 +57,7 @@ performs-said (judges trees mode kept) old mid new last answer (inr (inl h)) tel
 performs-said (judges trees mode kept) old mid new last answer (inr (inr h)) tells unlike = last-said last (text_of last) mid new answer tells unlike ∙ ap (λ (s : SiteView). s.clock.unsaid) h.same
 performs-said (opens_filter agent look) old mid new last answer h tells unlike = opens-said agent look old mid new last answer h tells unlike
 performs-said opens_run old mid new last answer h tells unlike = run-said old mid new last answer h tells unlike
+performs-said (compares files) old mid new last answer h tells unlike = compares-said files old mid new last answer h tells unlike
 
 -- the work ends with other statuses than 2, 3, 8 and 9
 abbrev pub IsOther : Work → Type 0
@@ -61,6 +65,7 @@ IsOther (ends lines end) = (status_of end ≡ 2 → ⊥) × (status_of end ≡ 3
 IsOther (judges trees mode kept) = IsOther kept
 IsOther (opens_filter agent look) = Unit {0}
 IsOther opens_run = Unit {0}
+IsOther (compares files) = Unit {0}
 
 other-status : (w : Work) (old new : SiteView) (n : ℕ) → IsOther w → Comes w old new n → (n ≡ 2 → ⊥) × (n ≡ 3 → ⊥) × (n ≡ 9 → ⊥)
 other-status (ends lines end) old new n h is = (λ e. h.0 (sym is ∙ e), λ e. h.1 (sym is ∙ e), λ e. h.2 (sym is ∙ e))
@@ -74,6 +79,11 @@ other-status opens_run old new n h is = (
   λ e. shown-other old new n 3 is e (λ f. omega (arith, f)) (λ f. omega (arith, f)) (λ f. omega (arith, f)) (λ f. omega (arith, f)),
   λ e. shown-other old new n 9 is e (λ f. omega (arith, f)) (λ f. omega (arith, f)) (λ f. omega (arith, f)) (λ f. omega (arith, f)),
 )
+other-status (compares files) old new n h is = (
+  λ e. has-other files n 2 is e (λ f. omega (arith, f)) (λ f. omega (arith, f)) (λ f. omega (arith, f)),
+  λ e. has-other files n 3 is e (λ f. omega (arith, f)) (λ f. omega (arith, f)) (λ f. omega (arith, f)),
+  λ e. has-other files n 9 is e (λ f. omega (arith, f)) (λ f. omega (arith, f)) (λ f. omega (arith, f)),
+)
 
 -- neither 8 nor 9 is told as the end of lines
 abbrev pub NotUnsaid : Work → Type 0
@@ -81,12 +91,14 @@ NotUnsaid (ends lines end) = (status_of end ≡ 9 → ⊥) × (status_of end ≡
 NotUnsaid (judges trees mode kept) = NotUnsaid kept
 NotUnsaid (opens_filter agent look) = Unit {0}
 NotUnsaid opens_run = Unit {0}
+NotUnsaid (compares files) = Unit {0}
 
 other-said : (w : Work) → IsOther w → NotUnsaid w
 other-said (ends lines end) h = (h.2, h.3)
 other-said (judges trees mode kept) h = other-said kept h
 other-said (opens_filter agent look) h = tt
 other-said opens_run h = tt
+other-said (compares files) h = tt
 
 performs-unsaid : (w : Work) (old mid new : SiteView) (last : End) (answer : ℕ) → NotUnsaid w → Performs w old mid last → Tells last mid new answer → answer ≡ 9 → new.clock.unsaid ≡ next_count old.clock.unsaid
 performs-unsaid (ends lines end) old mid new last answer other h tells e = works-unsaid lines end old mid new last answer other.0 h tells e
@@ -96,6 +108,7 @@ performs-unsaid (judges trees mode kept) old mid new last answer other (inr (inl
 performs-unsaid (judges trees mode kept) old mid new last answer other (inr (inr h)) tells e = absurd (omega (arith, e, (no-more last no_memory mid new answer h.ends refl tells).1))
 performs-unsaid (opens_filter agent look) old mid new last answer other h tells e = opens-unsaid agent look old mid new last answer h tells e
 performs-unsaid opens_run old mid new last answer other h tells e = run-unsaid old mid new last answer h tells e
+performs-unsaid (compares files) old mid new last answer other h tells e = compares-unsaid files old mid new last answer h tells e
 
 eight : (end : End) (last : End) (mid new : SiteView) (answer : ℕ) → last ≡ end → (status_of end ≡ 8 → ⊥) → Tells last mid new answer → answer ≡ 8 → ⊥
 eight end last mid new answer is other tells e = go (tells-status last mid new answer tells)
@@ -115,6 +128,7 @@ performs-failed (judges trees mode kept) old mid new last answer other (inr (inl
 performs-failed (judges trees mode kept) old mid new last answer other (inr (inr h)) tells e = absurd (eight no_memory last mid new answer h.ends (λ f. omega (arith, f)) tells e)
 performs-failed (opens_filter agent look) old mid new last answer other h tells e = opens-failed agent look old mid new last answer h tells e
 performs-failed opens_run old mid new last answer other h tells e = run-failed old mid new last answer h tells e
+performs-failed (compares files) old mid new last answer other h tells e = absurd (compares-failed files old mid new last answer h tells e)
 
 -- ---- the statuses of the work
 
@@ -149,6 +163,7 @@ texts-other (checks books) texts = trees-other texts (λ roots. judges roots Rea
 texts-other shows texts = tt
 texts-other (lists_rules agent) texts = tt
 texts-other (shadows agent) texts = tt
+texts-other (audits engine filters) texts = tt
 texts-other (decides agent packets) [] = tt
 texts-other (decides agent packets) (text ∷ texts) = go (packets_of text.bytes)
   where
@@ -299,6 +314,7 @@ brief-plain : (w : Work) → IsBrief w → IsPlain w
 brief-plain w (silent end) = tt
 brief-plain w (one_line line) = tt
 brief-plain w (judged trees mode kept brief) = brief-plain kept brief
+brief-plain w (compared files) = tt
 
 no-disk-fault : (asked : Option Asked) (shelf : ShelfCall) (old new : SiteView) (answer : ℕ) → Ended asked shelf old new answer → NoDiskFault asked old new
 no-disk-fault asked shelf old new answer h = by asked h.performed
@@ -320,6 +336,7 @@ no-disk-fault asked shelf old new answer h = by asked h.performed
     by (Some (lists_rules agent)) p = grows (Some (lists_rules agent)) p
     by (Some (decides agent packets)) p = grows (Some (decides agent packets)) p
     by (Some (shadows agent)) p = grows (Some (shadows agent)) p
+    by (Some (audits engine filters)) p = plain (Some (audits engine filters)) p (brief-plain (work (Some (audits engine filters)) p.read) (brief-audit engine filters p.read))
 
 pub memory-ended : (asked : Option Asked) (shelf : ShelfCall) (old new : SiteView) (answer : ℕ) → Ended asked shelf old new answer → answer ≡ 10 → NoFault asked shelf.before shelf.after old new
 memory-ended asked shelf old new answer h e = record {

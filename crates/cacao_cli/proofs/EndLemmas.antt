@@ -2,7 +2,7 @@
 use Rattle.std.proofs.Common.{◌≡◌, ◌∙◌, refl, ap, arith, ℕ, List, [], ◌∷◌, ◌++◌, Option, Some, None}
 use Rattle.cacao_site.specs.View.{SiteView}
 use Rattle.cacao_words.specs.Words.{Text}
-use Rattle.cacao_cli.specs.Ends.{End, status_of, text_of, done, accepted, refused, not_understood, past, shelf_failed, no_such_file, not_readable, damaged, disk_failed, unsaid, no_memory}
+use Rattle.cacao_cli.specs.Ends.{End, status_of, text_of, done, accepted, refused, not_understood, past, shelf_failed, no_such_file, not_readable, agrees, disagrees, damaged, disk_failed, unsaid, no_memory}
 use Rattle.cacao_cli.specs.Lines.{Tells, TellsText}
 
 -- ---- the status and the line of an end
@@ -16,6 +16,8 @@ end-unsaid (past limit) e = absurd (omega (arith, e))
 end-unsaid (shelf_failed name) e = absurd (omega (arith, e))
 end-unsaid (no_such_file name) e = absurd (omega (arith, e))
 end-unsaid (not_readable name reason) e = absurd (omega (arith, e))
+end-unsaid (agrees records acts) e = absurd (omega (arith, e))
+end-unsaid (disagrees file place) e = absurd (omega (arith, e))
 end-unsaid (damaged file place) e = absurd (omega (arith, e))
 end-unsaid disk_failed e = absurd (omega (arith, e))
 end-unsaid unsaid e = refl
@@ -30,6 +32,8 @@ end-memory (past limit) e = absurd (omega (arith, e))
 end-memory (shelf_failed name) e = absurd (omega (arith, e))
 end-memory (no_such_file name) e = absurd (omega (arith, e))
 end-memory (not_readable name reason) e = absurd (omega (arith, e))
+end-memory (agrees records acts) e = absurd (omega (arith, e))
+end-memory (disagrees file place) e = absurd (omega (arith, e))
 end-memory (damaged file place) e = absurd (omega (arith, e))
 end-memory disk_failed e = absurd (omega (arith, e))
 end-memory unsaid e = refl
@@ -44,6 +48,8 @@ end-failed (past limit) e = absurd (omega (arith, e))
 end-failed (shelf_failed name) e = (name, refl)
 end-failed (no_such_file name) e = absurd (omega (arith, e))
 end-failed (not_readable name reason) e = absurd (omega (arith, e))
+end-failed (agrees records acts) e = absurd (omega (arith, e))
+end-failed (disagrees file place) e = absurd (omega (arith, e))
 end-failed (damaged file place) e = absurd (omega (arith, e))
 end-failed disk_failed e = absurd (omega (arith, e))
 end-failed unsaid e = absurd (omega (arith, e))

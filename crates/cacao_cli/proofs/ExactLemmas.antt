@@ -6,14 +6,15 @@ use Rattle.cacao_check.specs.FirstBreak.{IsAccepted}
 use Rattle.cacao_check.specs.declared.breaks.Mode.TheVariants.{Read as Reading}
 use Rattle.cacao_site.specs.View.{SiteView}
 use Rattle.cacao_words.specs.Words.{Text}
-use Rattle.cacao_cli.specs.Asked.{Asked, canonises, checks, shows, lists_rules, decides, shadows}
+use Rattle.cacao_cli.specs.Asked.{Asked, canonises, checks, shows, lists_rules, decides, shadows, audits}
 use Rattle.cacao_cli.specs.Ends.{End, status_of, accepted, done, past, shelf_failed, no_memory}
 use Rattle.cacao_cli.specs.Files.{File, Files, ShelfCall, Reads, files_of, named_by, has_too_many, reading}
 use Rattle.cacao_cli.specs.Lines.{Tells}
-use Rattle.cacao_cli.specs.Work.{Work, ends, judges, opens_filter, opens_run, or_end, canon_line, trees_of, work, work_on}
+use Rattle.cacao_cli.specs.Work.{Work, ends, judges, opens_filter, opens_run, compares, or_end, canon_line, trees_of, work, work_on}
 use Rattle.cacao_cli.specs.Ended.{Performs, Performed, Ended}
-use Rattle.cacao_cli.specs.Exact.{IsBroken, IsOneOf, IfFilesTold, IfTold, HasStatus, Answers, file_faults, faults_of}
+use Rattle.cacao_cli.specs.Exact.{IsBroken, IsOneOf, IfFilesTold, IfTold, HasStatus, HasVerdict, Answers, file_faults, faults_of}
 use Rattle.cacao_cli.specs.declared.limit.Limit.TheVariants.{BookCount}
+use Rattle.cacao_cli.proofs.AuditLemmas.{compares-comes}
 use Rattle.cacao_cli.proofs.LineLemmas.{IsCutOff, cut-among, says-status, tells-status}
 use Rattle.cacao_cli.proofs.OpenLemmas.{ComesOpened, opens-comes}
 use Rattle.cacao_cli.proofs.RunLemmas.{ComesShown, run-comes}
@@ -25,12 +26,14 @@ Comes (ends lines end) old new n = n ≡ status_of end
 Comes (judges trees mode kept) old new n = (IsAccepted trees mode × Comes kept old new n) ⊎ (IsBroken trees mode × (n ≡ 1))
 Comes (opens_filter agent look) old new n = ComesOpened agent old new n
 Comes opens_run old new n = ComesShown old new n
+Comes (compares files) old new n = HasVerdict files n
 
 -- the work was done, so the status is that of the work, or a line could not be said or memory was wanted
 pub performs-comes : (w : Work) (old mid new : SiteView) (last : End) (answer : ℕ) → Performs w old mid last → Tells last mid new answer → Comes w old new answer ⊎ IsCutOff answer
 performs-comes (ends lines end) old mid new last answer p tells = says-status lines end old mid new last answer p tells
 performs-comes (opens_filter agent look) old mid new last answer p tells = opens-comes agent look old mid new last answer p tells
 performs-comes opens_run old mid new last answer p tells = run-comes old mid new last answer p tells
+performs-comes (compares files) old mid new last answer p tells = compares-comes files old mid new last answer p tells
 performs-comes (judges trees mode kept) old mid new last answer (inl (is_kept, p)) tells = go (performs-comes kept old mid new last answer p tells)
   where
     go : Comes kept old new answer ⊎ IsCutOff answer → Comes (judges trees mode kept) old new answer ⊎ IsCutOff answer
@@ -114,6 +117,7 @@ IsDiskTold (Some shows) old = IsTrue old.disk.told
 IsDiskTold (Some (lists_rules agent)) old = IsTrue old.disk.told
 IsDiskTold (Some (decides agent packets)) old = IsTrue old.disk.told
 IsDiskTold (Some (shadows agent)) old = IsTrue old.disk.told
+IsDiskTold (Some (audits engine filters)) old = Unit {0}
 
 -- the work opens no file of the disk
 abbrev pub IsPlain : Work → Type 0
@@ -121,6 +125,7 @@ IsPlain (ends lines end) = Unit {0}
 IsPlain (judges trees mode kept) = IsPlain kept
 IsPlain (opens_filter agent look) = ⊥
 IsPlain opens_run = ⊥
+IsPlain (compares files) = Unit {0}
 
 trees-plain : (r : Result (List Data) End) (does : List Data → Work) → ((roots : List Data) → IsPlain (does roots)) → IsPlain (or_end r does)
 trees-plain (Err end) does so = tt
@@ -140,6 +145,13 @@ check-plain books files = go (has_too_many (checks books)) (reading files (files
     go true r = tt
     go false r = reads-plain r (λ roots. judges roots Reading (ends [] accepted)) (λ roots. tt)
 
+audit-plain : (engine : Text) (filters : List (ℕ × Text)) (files : Files) → IsPlain (work (Some (audits engine filters)) (reading files (files_of (Some (audits engine filters)))))
+audit-plain engine filters files = go (reading files (files_of (Some (audits engine filters))))
+  where
+    go : (r : Read) → IsPlain (or_end r (work_on (audits engine filters)))
+    go (Err end) = tt
+    go (Ok texts) = tt
+
 pub if-asked : (asked : Option Asked) (told : Option Files) (old : SiteView) (P : Files → Type 0) → (IsDiskTold asked old → (files : Files) → IsSeen told (files_of asked) files → P files) → IfTold asked told old P
 if-asked None told old P h = if-told [] told P (h tt)
 if-asked (Some (canonises book)) told old P h = if-told (files_of (Some (canonises book))) told P (h tt)
@@ -147,6 +159,7 @@ if-asked (Some (checks books)) told old P h = if-told (files_of (Some (checks bo
 if-asked (Some shows) told old P h = λ disk files. h disk files (by_none refl)
 if-asked (Some (lists_rules agent)) told old P h = λ disk files. h disk files (by_none refl)
 if-asked (Some (shadows agent)) told old P h = λ disk files. h disk files (by_none refl)
+if-asked (Some (audits engine filters)) told old P h = if-told (files_of (Some (audits engine filters))) told P (h tt)
 if-asked (Some (decides agent packets)) told old P h = λ disk. if-told (files_of (Some (decides agent packets))) told P (h disk)
 
 -- 8 is among the faults of a command that opens a file of the disk
@@ -157,6 +170,7 @@ faults-with (Some (checks books)) answer h = h
 faults-with (Some shows) answer h = inr h
 faults-with (Some (lists_rules agent)) answer h = inr h
 faults-with (Some (shadows agent)) answer h = inr h
+faults-with (Some (audits engine filters)) answer h = h
 faults-with (Some (decides agent packets)) answer (inl e) = inl e
 faults-with (Some (decides agent packets)) answer (inr h) = inr (inr h)
 
@@ -167,6 +181,7 @@ plain-status (judges trees mode kept) old new n plain (inl h) = inl (h.0, plain-
 plain-status (judges trees mode kept) old new n plain (inr h) = inr h
 plain-status (opens_filter agent look) old new n plain h = absurd plain
 plain-status opens_run old new n plain h = absurd plain
+plain-status (compares files) old new n plain h = h
 
 -- over a disk that is told, what comes is the status, or 8
 pub told-status : (w : Work) (old new : SiteView) (n : ℕ) → IsTrue old.disk.told → Comes w old new n → HasStatus w old new n ⊎ (n ≡ 8)
@@ -184,6 +199,7 @@ told-status opens_run old new n told (inl h) = inl (inl (h.0 told, h.1))
 told-status opens_run old new n told (inr (inl h)) = inl (inr (inl (h.0 told, h.1)))
 told-status opens_run old new n told (inr (inr (inl h))) = inl (inr (inr (h.0 told, h.1)))
 told-status opens_run old new n told (inr (inr (inr e))) = inr e
+told-status (compares files) old new n told h = inl h
 
 -- the status of a call over files and a disk that are told
 abbrev pub Answered : Option Asked → Files → SiteView → SiteView → ℕ → Type 0
@@ -211,6 +227,7 @@ status-told asked files shelf old new answer disk seen ended = go asked disk (st
     go (Some shows) told h = opened (Some shows) told (λ e. inl e) h
     go (Some (lists_rules agent)) told h = opened (Some (lists_rules agent)) told (λ e. inl e) h
     go (Some (shadows agent)) told h = opened (Some (shadows agent)) told (λ e. inl e) h
+    go (Some (audits engine filters)) told h = plain (Some (audits engine filters)) (audit-plain engine filters files) h
     go (Some (decides agent packets)) told h = opened (Some (decides agent packets)) told (λ e. inr (inl e)) h
 
 pub exact-ended : (asked : Option Asked) (shelf : ShelfCall) (old new : SiteView) (answer : ℕ) → Ended asked shelf old new answer → Answers asked shelf.told old new answer

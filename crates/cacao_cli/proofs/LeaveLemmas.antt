@@ -9,11 +9,11 @@ use Rattle.cacao_check.specs.declared.breaks.Mode.TheVariants.{Read as Reading}
 use Rattle.oc2_nets.specs.declared.packets.Packet.{Packet}
 use Rattle.filter_reports.specs.PacketFiles.{packets_of}
 use Rattle.cacao_words.specs.Words.{Text}
-use Rattle.cacao_cli.specs.Asked.{Asked, canonises, checks, shows, lists_rules, decides, shadows}
+use Rattle.cacao_cli.specs.Asked.{Asked, canonises, checks, shows, lists_rules, decides, shadows, audits}
 use Rattle.cacao_cli.specs.Ends.{End, text_of, done, accepted, not_understood, past, not_readable, unsaid}
 use Rattle.cacao_cli.specs.Files.{File, Files, ShelfCall, NamedText, Reads, all_read, wants_memory, stops, goes_on, item_then, files_of, has_too_many}
 use Rattle.cacao_cli.specs.Lines.{SaysAll, Tells, TellsText}
-use Rattle.cacao_cli.specs.Work.{Work, ends, judges, opens_filter, opens_run, at_rules, at_shadows, at_decisions, or_end, packets_or_end, tree_of, trees_of, canon_line, work, work_on}
+use Rattle.cacao_cli.specs.Work.{Work, ends, judges, opens_filter, opens_run, compares, at_rules, at_shadows, at_decisions, or_end, packets_or_end, tree_of, trees_of, canon_line, run_files, work, work_on}
 use Rattle.cacao_cli.specs.Ended.{Performs, Performed, Ended}
 use Rattle.cacao_cli.specs.Leaves.{SaysAtMostOnce, Leaves, ReadsAtMost, WritesNothing}
 use Rattle.cacao_cli.specs.declared.limit.Limit.TheVariants.{BookCount}
@@ -30,6 +30,7 @@ pub data IsBrief : Work → Type 0 where
   silent : (end : End) → IsBrief (ends [] end)
   one_line : (line : Text) → IsBrief (ends (line ∷ []) done)
   judged : (trees : List Data) (mode : Mode) (kept : Work) → IsBrief kept → IsBrief (judges trees mode kept)
+  compared : (files : List Text) → IsBrief (compares files)
 
 last-once : (last : End) (text : Option Text) (mid new : SiteView) (answer : ℕ) → text ≡ text_of last → TellsText last text mid new answer → SaysAtMostOnce mid new answer
 last-once last None mid new answer is h = record { once = inl h.same; unsaid = λ e. ap (λ (s : SiteView). s.link.said) h.same; no_memory = λ e. h.same }
@@ -83,6 +84,7 @@ brief-once w old mid new last answer (one_line line) (inr (inr h)) tells = subst
 brief-once w old mid new last answer (judged trees mode kept brief) (inl h) tells = brief-once kept old mid new last answer brief h.1 tells
 brief-once w old mid new last answer (judged trees mode kept brief) (inr (inl h)) tells = subst (λ (s : SiteView). SaysAtMostOnce s new answer) h.same (tells-once last mid new answer tells)
 brief-once w old mid new last answer (judged trees mode kept brief) (inr (inr h)) tells = subst (λ (s : SiteView). SaysAtMostOnce s new answer) h.same (tells-once last mid new answer tells)
+brief-once w old mid new last answer (compared files) h tells = subst (λ (s : SiteView). SaysAtMostOnce s new answer) h.same (tells-once last mid new answer tells)
 
 -- ---- how many lines `canon` and `check` say
 
@@ -121,6 +123,10 @@ brief-check books read = go (has_too_many (checks books))
     go true = silent (past BookCount)
     go false = by read
 
+pub brief-audit : (engine : Text) (filters : List (ℕ × Text)) (read : Read) → IsBrief (work (Some (audits engine filters)) read)
+brief-audit engine filters (Err end) = silent end
+brief-audit engine filters (Ok texts) = compared (run_files filters texts)
+
 -- ---- the commands that open a filter
 
 pub show-performed : (shelf : ShelfCall) (old mid : SiteView) (last : End) → Performed (Some shows) shelf old mid last → Performs opens_run old mid last
@@ -150,6 +156,7 @@ leaves-ended (Some shows) shelf old new answer h = run-leaves old h.between new 
 leaves-ended (Some (lists_rules agent)) shelf old new answer h = writes-nothing agent at_rules old h.between new h.last answer (rules-performed agent shelf old h.between h.last h.performed) h.tells
 leaves-ended (Some (decides agent packets)) shelf old new answer h = decide-leaves agent packets old h.between new h.last answer h.performed.read h.performed.performs h.tells
 leaves-ended (Some (shadows agent)) shelf old new answer h = writes-nothing agent at_shadows old h.between new h.last answer (shadows-performed agent shelf old h.between h.last h.performed) h.tells
+leaves-ended (Some (audits engine filters)) shelf old new answer h = brief-once (work (Some (audits engine filters)) h.performed.read) old h.between new h.last answer (brief-audit engine filters h.performed.read) h.performed.performs h.tells
 
 pub few-ended : (asked : Option Asked) (shelf : ShelfCall) (old new : SiteView) (answer : ℕ) → Ended asked shelf old new answer → ReadsAtMost (length (files_of asked)) shelf.reads_before shelf.reads_after
 few-ended asked shelf old new answer h = (h.performed.reads.count, reads-few shelf.told (files_of asked) h.performed.reads.count h.performed.read h.performed.reads.reads, h.performed.reads.counted)

@@ -1,3 +1,4 @@
+pub mod AuditLemmas
 pub mod CauseLemmas
 pub mod CountLemmas
 pub mod EndLemmas
@@ -10,6 +11,7 @@ pub mod OpenLemmas
 pub mod PacketLemmas
 pub mod PerformLemmas
 pub mod ReadLemmas
+pub mod RunFileLemmas
 pub mod RunLemmas
 pub mod SayingLemmas
 pub mod StatusLemmas

@@ -8,12 +8,13 @@ use Rattle.cacao_site.specs.View.{SiteView}
 use Rattle.oc2_nets.specs.declared.packets.Packet.{Packet}
 use Rattle.filter_reports.specs.PacketFiles.{packets_of}
 use Rattle.cacao_words.specs.Words.{Text}
-use Rattle.cacao_cli.specs.Asked.{Asked, canonises, checks, shows, lists_rules, decides, shadows}
+use Rattle.cacao_cli.specs.Asked.{Asked, canonises, checks, shows, lists_rules, decides, shadows, audits}
+use Rattle.cacao_cli.specs.Audited.{TellsFiles}
 use Rattle.cacao_cli.specs.Command.{IsJudgement}
 use Rattle.cacao_cli.specs.Ends.{End, accepted, past, not_understood, not_readable, no_memory}
-use Rattle.cacao_cli.specs.Files.{File, ShelfCall, NamedText, ReadsTo, book_file, packet_file, has_too_many}
+use Rattle.cacao_cli.specs.Files.{File, ShelfCall, NamedText, ReadsTo, book_file, files_of, journal_file, packet_file, has_too_many}
 use Rattle.cacao_cli.specs.Lines.{SaysWork}
-use Rattle.cacao_cli.specs.Work.{ends, judges, opens_filter, opens_run, at_rules, at_shadows, at_decisions, or_end, packets_or_end, trees_of, work_on}
+use Rattle.cacao_cli.specs.Work.{ends, judges, opens_filter, opens_run, compares, at_rules, at_shadows, at_decisions, or_end, packets_or_end, run_files, trees_of, work_on}
 use Rattle.cacao_cli.specs.Ended.{Performs, Performed}
 use Rattle.cacao_cli.specs.declared.limit.Limit.TheVariants.{BookCount}
 use Rattle.cacao_cli.proofs.CauseLemmas.{TreesCase, all_trees, one_treeless, trees_case}
@@ -61,6 +62,27 @@ performed-memory (Some (decides agent packets)) shelf site same steady = record 
   read = Err no_memory;
   reads = wanted-before shelf (packet_file packets) [] same steady;
   performs = says-end no_memory site;
+}
+performed-memory (Some (audits engine filters)) shelf site same steady = record {
+  read = Err no_memory;
+  reads = wanted-before shelf (journal_file engine) (map (λ (filter : ℕ × Text). journal_file filter.1) filters) same steady;
+  performs = says-end no_memory site;
+}
+
+-- ---- audit
+
+-- a file was not read
+pub audit-unread : (engine : Text) (filters : List (ℕ × Text)) (shelf : ShelfCall) (site : SiteView) (end : End) → ReadsTo shelf (files_of (Some (audits engine filters))) (Err end)
+    → Performed (Some (audits engine filters)) shelf site site end
+audit-unread engine filters shelf site end reads = record { read = Err end; reads = reads; performs = says-end end site }
+
+-- the files were compared
+pub audit-read : (engine : Text) (filters : List (ℕ × Text)) (shelf : ShelfCall) (site : SiteView) (end : End) (files : List Text) (texts : List NamedText) → ReadsTo shelf (files_of (Some (audits engine filters))) (Ok texts)
+    → files ≡ run_files filters texts → TellsFiles files end → Performed (Some (audits engine filters)) shelf site site end
+audit-read engine filters shelf site end files texts reads is tells = record {
+  read = Ok texts;
+  reads = reads;
+  performs = record { same = refl; tells = subst (λ (files : List Text). TellsFiles files end) is tells };
 }
 
 -- ---- show, rules, shadow and decide

@@ -1,26 +1,29 @@
 -- The clauses on the statuses.
-use Rattle.std.proofs.Common.{◌≡◌, ◌⊎◌, ◌∙◌, inl, inr, refl, sym, subst, arith, ℕ, ◌≤◌, Bool, true, false, List, [], ◌∷◌, map, Option, Some, None}
-use Rattle.std.specs.Prelude.{if◌then◌else◌}
+use Rattle.std.proofs.Common.{◌≡◌, ◌⊎◌, ⊎_elim, ◌∙◌, inl, inr, refl, sym, subst, arith, ℕ, ◌≤◌, Bool, true, false, List, [], ◌∷◌, length, map, ◌<◌, Option, Some, None, Ok, Err}
+use Rattle.std.specs.Prelude.{IsOkAnd, IsSomeAnd, if◌then◌else◌}
 use Rattle.std.proofs.lemmas.Bool.{true≢false}
 use Rattle.serde_json.specs.Data.{Data}
 use Rattle.cacao_check.specs.FirstBreak.{IsAccepted}
-use Rattle.cacao_check.specs.declared.breaks.Mode.TheVariants.{Read}
+use Rattle.cacao_check.specs.declared.breaks.Mode.TheVariants.{Read as Reading}
 use Rattle.cacao_site.specs.View.{SiteView}
 use Rattle.cacao_words.specs.Words.{Text}
-use Rattle.cacao_cli.specs.Asked.{Asked, canonises, checks, shows, lists_rules, decides, shadows}
-use Rattle.cacao_cli.specs.Ends.{done, accepted, no_such_file, not_readable, past}
-use Rattle.cacao_cli.specs.Files.{File, Files, ShelfCall, files_of, book_file, packet_file, has_too_many, reading}
-use Rattle.cacao_cli.specs.Work.{Work, ends, judges, opens_filter, opens_run, at_decisions, or_end, canon_line, work, work_on}
+use Rattle.cacao_cli.specs.Asked.{Asked, canonises, checks, shows, lists_rules, decides, shadows, audits}
+use Rattle.cacao_cli.specs.Ends.{End, done, accepted, most, no_such_file, not_readable, past}
+use Rattle.cacao_cli.specs.Files.{File, Files, NamedText, ShelfCall, files_of, book_file, packet_file, has_too_many, reading}
+use Rattle.cacao_cli.specs.Work.{Work, ends, judges, opens_filter, opens_run, compares, at_decisions, or_end, canon_line, run_files, work, work_on}
 use Rattle.cacao_cli.specs.Ended.{Ended}
-use Rattle.cacao_cli.specs.Exact.{IsOneOf, ComesExactly, IfFilesTold, IfTold, IsBroken, HasStatus, file_faults, faults_of}
-use Rattle.cacao_cli.specs.Causes.{AllWithin, SomeTreeless, Trees, IsMissing, IsTooLong, IsUnreadable, IsPastLimit, IsRefused, BreaksRule, KeepsRules, CanBeDone, FindsItDamaged}
+use Rattle.cacao_cli.specs.Audited.{Agree, Disagree, PassTasks}
+use Rattle.cacao_cli.specs.Exact.{HasVerdict, IsOneOf, ComesExactly, IfFilesTold, IfTold, IsBroken, HasStatus, file_faults, faults_of}
+use Rattle.cacao_cli.specs.Causes.{AllWithin, FindsDisagreement, IsAuditOf, SomeTreeless, Trees, IsMissing, IsTooLong, IsUnreadable, IsPastLimit, IsRefused, BreaksRule, KeepsRules, CanBeDone, FindsItDamaged}
 use Rattle.cacao_cli.specs.Openings.{HoldsFilter, IsDamagedFilter}
 use Rattle.cacao_cli.specs.declared.limit.Limit.TheVariants.{BookCount}
 use Rattle.cacao_cli.specs.declared.reason.Reason.TheVariants.{Line}
-use Rattle.cacao_cli.proofs.CauseLemmas.{EndsByTrees, missing-only, missing-always, long-only, long-always, treeless-only, treeless-always, trees-only, trees-always, trees-listed, missing-long, comes}
+use Rattle.cacao_cli.proofs.AuditLemmas.{agree-verdict, disagree-verdict, has-other, tasks-verdict, verdict-agree, verdict-disagree, verdict-tasks}
+use Rattle.cacao_cli.proofs.CauseLemmas.{EndsByTrees, missing-only, missing-always, long-only, long-always, treeless-only, treeless-always, trees-only, trees-always, trees-few, missing-long, missing-within, long-within, first-within, texts-within, ReadingCase, all_within, one_missing, one_long, reading_case, comes}
 use Rattle.cacao_cli.proofs.CountLemmas.{understood-ended, not_understood-ended}
 use Rattle.cacao_cli.proofs.ExactLemmas.{Comes, status-seen, status-told, if-told, if-asked}
 use Rattle.cacao_cli.proofs.OpenLemmas.{ComesOpened}
+use Rattle.cacao_cli.proofs.ReadLemmas.{Read}
 use Rattle.cacao_cli.proofs.RunLemmas.{damaged-run, done-run, large-run, run-damaged, run-done, run-large, shown-other}
 use Rattle.cacao_cli.proofs.PacketLemmas.{PacketWork, packet_work, packet_work_case, is_missing, is_too_long, is_bad, is_read, missing-apart, long-apart, bad-apart, holds-or-damaged}
 
@@ -36,6 +39,8 @@ record FileStatuses (asked : Option Asked) (files : Files) (n : ℕ) : Type 0 wh
   pub missing_is : IsMissing files (files_of asked) → n ≡ 4
   pub is_unreadable : n ≡ 5 → IsUnreadable asked files
   pub unreadable_is : IsUnreadable asked files → n ≡ 5
+  pub is_disagreed : n ≡ 18 → FindsDisagreement asked files
+  pub disagreed_is : FindsDisagreement asked files → n ≡ 18
 
 -- each cause that the disk settles too
 record ToldStatuses (asked : Option Asked) (files : Files) (old new : SiteView) (n : ℕ) : Type 0 where
@@ -65,13 +70,15 @@ canon-statuses book files old new n called = record {
     missing_is = missing-always files list does so old new n called;
     is_unreadable = treeless-only files list does so old new n called;
     unreadable_is = treeless-always files list does so old new n called;
+    is_disagreed = λ e. absurd (omega (arith, e, trees-few files list does so old new n called));
+    disagreed_is = λ h. absurd h;
   };
   told = record {
     is_done = λ e. let t = trees-only files list does so old new n called (omega (arith, e)) in one_tree files (book_file book) t.0 t.1;
     done_is = λ h. trees-always files list does so old new n called (h.0 ∷ []) h.1;
     is_past = λ e. inr (long-only files list does so old new n called e);
     past_is = past;
-    is_damaged = λ e. absurd (trees-listed files list does so old new n called e);
+    is_damaged = λ e. absurd (omega (arith, e, trees-few files list does so old new n called));
     damaged_is = λ h. absurd h;
   };
 }
@@ -92,23 +99,23 @@ canon-statuses book files old new n called = record {
 -- ---- check
 
 module _ (files : Files) (old new : SiteView) (n : ℕ) where
-  zero-or-one : (roots : List Data) → Comes (judges roots Read (ends [] accepted)) old new n → n ≤ 1
+  zero-or-one : (roots : List Data) → Comes (judges roots Reading (ends [] accepted)) old new n → n ≤ 1
   zero-or-one roots (inl (kept, e)) = omega (arith, e)
   zero-or-one roots (inr (broken, e)) = omega (arith, e)
 
-  judged-kept : (roots : List Data) → n ≡ 0 → Comes (judges roots Read (ends [] accepted)) old new n → IsAccepted roots Read
+  judged-kept : (roots : List Data) → n ≡ 0 → Comes (judges roots Reading (ends [] accepted)) old new n → IsAccepted roots Reading
   judged-kept roots e (inl (kept, is)) = kept
   judged-kept roots e (inr (broken, is)) = absurd (omega (arith, e, is))
 
-  kept-zero : (roots : List Data) → IsAccepted roots Read → Comes (judges roots Read (ends [] accepted)) old new n → n ≡ 0
+  kept-zero : (roots : List Data) → IsAccepted roots Reading → Comes (judges roots Reading (ends [] accepted)) old new n → n ≡ 0
   kept-zero roots kept (inl (_, is)) = is
   kept-zero roots kept (inr (broken, is)) = absurd (broken.1 (kept broken.0))
 
-  judged-broken : (roots : List Data) → n ≡ 1 → Comes (judges roots Read (ends [] accepted)) old new n → IsBroken roots Read
+  judged-broken : (roots : List Data) → n ≡ 1 → Comes (judges roots Reading (ends [] accepted)) old new n → IsBroken roots Reading
   judged-broken roots e (inl (kept, is)) = absurd (omega (arith, e, is))
   judged-broken roots e (inr (broken, is)) = broken
 
-  broken-one : (roots : List Data) → IsBroken roots Read → Comes (judges roots Read (ends [] accepted)) old new n → n ≡ 1
+  broken-one : (roots : List Data) → IsBroken roots Reading → Comes (judges roots Reading (ends [] accepted)) old new n → n ≡ 1
   broken-one roots broken (inl (kept, is)) = absurd (broken.1 (kept broken.0))
   broken-one roots broken (inr (_, is)) = is
 
@@ -117,17 +124,17 @@ listed books b = if b then [] else map book_file books
 
 -- the same of `check`, by whether it has too many playbooks
 record CheckStatuses (books : List Text) (files : Files) (n : ℕ) (b : Bool) : Type 0 where
-  pub is_done : n ≡ 0 → (b ≡ false) × KeepsRules files (listed books b) Read
-  pub done_is : (b ≡ false) × KeepsRules files (listed books b) Read → n ≡ 0
-  pub is_refused : n ≡ 1 → (b ≡ false) × BreaksRule files (listed books b) Read
-  pub refused_is : (b ≡ false) × BreaksRule files (listed books b) Read → n ≡ 1
+  pub is_done : n ≡ 0 → (b ≡ false) × KeepsRules files (listed books b) Reading
+  pub done_is : (b ≡ false) × KeepsRules files (listed books b) Reading → n ≡ 0
+  pub is_refused : n ≡ 1 → (b ≡ false) × BreaksRule files (listed books b) Reading
+  pub refused_is : (b ≡ false) × BreaksRule files (listed books b) Reading → n ≡ 1
   pub is_missing : n ≡ 4 → IsMissing files (listed books b)
   pub missing_is : IsMissing files (listed books b) → n ≡ 4
   pub is_unreadable : n ≡ 5 → AllWithin files (listed books b) × SomeTreeless files (listed books b)
   pub unreadable_is : AllWithin files (listed books b) × SomeTreeless files (listed books b) → n ≡ 5
   pub is_past : n ≡ 11 → (b ≡ true) ⊎ IsTooLong files (listed books b)
   pub past_is : (b ≡ true) ⊎ IsTooLong files (listed books b) → n ≡ 11
-  pub not_damaged : n ≡ 13 → ⊥
+  pub few : n ≤ 11
 
 check-by : (books : List Text) (files : Files) (old new : SiteView) (n : ℕ) (b : Bool)
     → Comes (if b then ends [] (past BookCount) else or_end (reading files (listed books b)) (work_on (checks books))) old new n → CheckStatuses books files n b
@@ -142,7 +149,7 @@ check-by books files old new n true called = record {
   unreadable_is = λ h. absurd h.1;
   is_past = λ e. inl refl;
   past_is = λ h. called;
-  not_damaged = λ e. omega (arith, e, called);
+  few = omega (arith, called);
 }
 check-by books files old new n false called = record {
   is_done = λ e. let t = trees-only files list does so old new n called (omega (arith, e)) in (refl, record { roots = t.0; trees = t.1; accepted = judged-kept files old new n t.0 e t.2 });
@@ -155,14 +162,14 @@ check-by books files old new n false called = record {
   unreadable_is = treeless-always files list does so old new n called;
   is_past = λ e. inr (long-only files list does so old new n called e);
   past_is = past_by;
-  not_damaged = trees-listed files list does so old new n called;
+  few = trees-few files list does so old new n called;
 }
   where
     list : List File
     list = map book_file books
 
     does : List Data → Work
-    does roots = judges roots Read (ends [] accepted)
+    does roots = judges roots Reading (ends [] accepted)
 
     so : EndsByTrees does
     so roots old new n h = zero-or-one files old new n roots h
@@ -180,13 +187,15 @@ check-statuses books files old new n called = let s = check-by books files old n
     missing_is = s.missing_is;
     is_unreadable = s.is_unreadable;
     unreadable_is = s.unreadable_is;
+    is_disagreed = λ e. absurd (omega (arith, e, s.few));
+    disagreed_is = λ h. absurd h;
   };
   told = record {
     is_done = s.is_done;
     done_is = s.done_is;
     is_past = s.is_past;
     past_is = s.past_is;
-    is_damaged = λ e. absurd (s.not_damaged e);
+    is_damaged = λ e. absurd (omega (arith, e, s.few));
     damaged_is = λ h. absurd h;
   };
 }
@@ -199,14 +208,16 @@ opened-other agent old new n m (inl (inr h)) e a b c = b (sym h.1 ∙ e)
 opened-other agent old new n m (inr h) e a b c = c (sym h ∙ e)
 
 -- a filter that is looked at without a file
-filter-files : (asked : Option Asked) (agent : ℕ) (files : Files) (old new : SiteView) (n : ℕ) → ComesOpened agent old new n → (IsRefused asked files → ⊥) → (IsMissing files (files_of asked) → ⊥) → (IsUnreadable asked files → ⊥) → FileStatuses asked files n
-filter-files asked agent files old new n called a b c = record {
+filter-files : (asked : Option Asked) (agent : ℕ) (files : Files) (old new : SiteView) (n : ℕ) → ComesOpened agent old new n → (IsRefused asked files → ⊥) → (IsMissing files (files_of asked) → ⊥) → (IsUnreadable asked files → ⊥) → (FindsDisagreement asked files → ⊥) → FileStatuses asked files n
+filter-files asked agent files old new n called a b c d = record {
   is_refused = λ e. absurd (opened-other agent old new n 1 called e (λ f. omega (arith, f)) (λ f. omega (arith, f)) (λ f. omega (arith, f)));
   refused_is = λ h. absurd (a h);
   is_missing = λ e. absurd (opened-other agent old new n 4 called e (λ f. omega (arith, f)) (λ f. omega (arith, f)) (λ f. omega (arith, f)));
   missing_is = λ h. absurd (b h);
   is_unreadable = λ e. absurd (opened-other agent old new n 5 called e (λ f. omega (arith, f)) (λ f. omega (arith, f)) (λ f. omega (arith, f)));
   unreadable_is = λ h. absurd (c h);
+  is_disagreed = λ e. absurd (opened-other agent old new n 18 called e (λ f. omega (arith, f)) (λ f. omega (arith, f)) (λ f. omega (arith, f)));
+  disagreed_is = λ h. absurd (d h);
 }
 
 abbrev FilterStatus : ℕ → SiteView → ℕ → Type 0
@@ -248,6 +259,8 @@ decide-files agent packets files old new n called = go (packet_work_case files a
       missing_is = λ h. k;
       is_unreadable = λ e. absurd (omega (arith, e, k));
       unreadable_is = λ h. absurd (missing-apart files packets m h.0);
+      is_disagreed = λ e. absurd (omega (arith, e, k));
+      disagreed_is = λ h. absurd h;
     }
     go (is_too_long limit l is) = let k : n ≡ 11 = at (ends [] (past limit)) is in record {
       is_refused = λ e. absurd (omega (arith, e, k));
@@ -256,6 +269,8 @@ decide-files agent packets files old new n called = go (packet_work_case files a
       missing_is = λ h. absurd (missing-long files (packet_file packets ∷ []) h l);
       is_unreadable = λ e. absurd (omega (arith, e, k));
       unreadable_is = λ h. absurd (long-apart files packets l h.0);
+      is_disagreed = λ e. absurd (omega (arith, e, k));
+      disagreed_is = λ h. absurd h;
     }
     go (is_bad name number b is) = let k : n ≡ 5 = at (ends [] (not_readable name (Line number))) is in record {
       is_refused = λ e. absurd (omega (arith, e, k));
@@ -264,9 +279,11 @@ decide-files agent packets files old new n called = go (packet_work_case files a
       missing_is = λ h. absurd (missing-apart files packets h b.0);
       is_unreadable = λ e. b;
       unreadable_is = λ h. k;
+      is_disagreed = λ e. absurd (omega (arith, e, k));
+      disagreed_is = λ h. absurd h;
     }
     go (is_read found has is) = filter-files (Some (decides agent packets)) agent files old new n (at (opens_filter agent (at_decisions found)) is)
-        (λ h. h) (λ h. missing-apart files packets h has.0) (λ h. bad-apart files packets h.1 found has)
+        (λ h. h) (λ h. missing-apart files packets h has.0) (λ h. bad-apart files packets h.1 found has) (λ h. h)
 
 decide-told : (agent : ℕ) (packets : Text) (files : Files) (old new : SiteView) (n : ℕ) → HasStatus (packet_work files agent packets) old new n → ToldStatuses (Some (decides agent packets)) files old new n
 decide-told agent packets files old new n called = go (packet_work_case files agent packets)
@@ -308,6 +325,91 @@ decide-told agent packets files old new n called = go (packet_work_case files ag
       damaged_is = λ h. damaged-filter agent new n s h.1;
     }
 
+-- ---- audit
+
+module _ (engine : Text) (filters : List (ℕ × Text)) (files : Files) (old new : SiteView) (n : ℕ) where
+  abbrev list : List File
+  list = files_of (Some (audits engine filters))
+
+  -- one of the files was not read
+  none-audited : (P : List Text → Type 0) (end : End) → reading files list ≡ Err end → IsAuditOf files engine filters P → ⊥
+  none-audited P end is h = subst (λ (r : Read). IsOkAnd r (λ texts. P (run_files filters texts))) is h
+
+  to-audit : (P : List Text → Type 0) (texts : List NamedText) → reading files list ≡ Ok texts → P (run_files filters texts) → IsAuditOf files engine filters P
+  to-audit P texts is h = subst (λ (r : Read). IsOkAnd r (λ texts. P (run_files filters texts))) (sym is) h
+
+  of-audit : (P : List Text → Type 0) (texts : List NamedText) → reading files list ≡ Ok texts → IsAuditOf files engine filters P → P (run_files filters texts)
+  of-audit P texts is h = subst (λ (r : Read). IsOkAnd r (λ texts. P (run_files filters texts))) is h
+
+  audit-statuses : Called (Some (audits engine filters)) files old new n → Statuses (Some (audits engine filters)) files old new n
+  audit-statuses called = go (reading_case files list)
+    where
+      at : (r : Read) → reading files list ≡ r → Comes (or_end r (work_on (audits engine filters))) old new n
+      at r is = subst (λ (r : Read). Comes (or_end r (work_on (audits engine filters))) old new n) is called
+
+      go : ReadingCase files list → Statuses (Some (audits engine filters)) files old new n
+      go (one_missing name m is) = let k : n ≡ 4 = at (Err (no_such_file name)) is in record {
+        of_files = record {
+          is_refused = λ e. absurd (omega (arith, e, k));
+          refused_is = λ h. absurd h;
+          is_missing = λ e. m;
+          missing_is = λ h. k;
+          is_unreadable = λ e. absurd (omega (arith, e, k));
+          unreadable_is = λ h. absurd h;
+          is_disagreed = λ e. absurd (omega (arith, e, k));
+          disagreed_is = λ h. absurd (none-audited Disagree (no_such_file name) is h);
+        };
+        told = record {
+          is_done = λ e. absurd (omega (arith, e, k));
+          done_is = λ h. absurd (none-audited Agree (no_such_file name) is h);
+          is_past = λ e. absurd (omega (arith, e, k));
+          past_is = ⊎_elim (λ l. absurd (missing-long files list m l)) (λ h. absurd (none-audited PassTasks (no_such_file name) is h));
+          is_damaged = λ e. absurd (omega (arith, e, k));
+          damaged_is = λ h. absurd h;
+        };
+      }
+      go (one_long limit l is) = let k : n ≡ 11 = at (Err (past limit)) is in record {
+        of_files = record {
+          is_refused = λ e. absurd (omega (arith, e, k));
+          refused_is = λ h. absurd h;
+          is_missing = λ e. absurd (omega (arith, e, k));
+          missing_is = λ h. absurd (missing-long files list h l);
+          is_unreadable = λ e. absurd (omega (arith, e, k));
+          unreadable_is = λ h. absurd h;
+          is_disagreed = λ e. absurd (omega (arith, e, k));
+          disagreed_is = λ h. absurd (none-audited Disagree (past limit) is h);
+        };
+        told = record {
+          is_done = λ e. absurd (omega (arith, e, k));
+          done_is = λ h. absurd (none-audited Agree (past limit) is h);
+          is_past = λ e. inl l;
+          past_is = λ h. k;
+          is_damaged = λ e. absurd (omega (arith, e, k));
+          damaged_is = λ h. absurd h;
+        };
+      }
+      go (all_within texts t is) = let v : HasVerdict (run_files filters texts) n = at (Ok texts) is in record {
+        of_files = record {
+          is_refused = λ e. absurd (has-other (run_files filters texts) n 1 v e (λ f. omega (arith, f)) (λ f. omega (arith, f)) (λ f. omega (arith, f)));
+          refused_is = λ h. absurd h;
+          is_missing = λ e. absurd (has-other (run_files filters texts) n 4 v e (λ f. omega (arith, f)) (λ f. omega (arith, f)) (λ f. omega (arith, f)));
+          missing_is = λ m. absurd (first-within files (λ file. files file.name ≡ None) list (missing-within files) m (texts-within files list texts t));
+          is_unreadable = λ e. absurd (has-other (run_files filters texts) n 5 v e (λ f. omega (arith, f)) (λ f. omega (arith, f)) (λ f. omega (arith, f)));
+          unreadable_is = λ h. absurd h;
+          is_disagreed = λ e. to-audit Disagree texts is (verdict-disagree (run_files filters texts) n v e);
+          disagreed_is = λ h. disagree-verdict (run_files filters texts) n v (of-audit Disagree texts is h);
+        };
+        told = record {
+          is_done = λ e. to-audit Agree texts is (verdict-agree (run_files filters texts) n v e);
+          done_is = λ h. agree-verdict (run_files filters texts) n v (of-audit Agree texts is h);
+          is_past = λ e. inr (to-audit PassTasks texts is (verdict-tasks (run_files filters texts) n v e));
+          past_is = ⊎_elim (λ l. absurd (first-within files (λ file. IsSomeAnd (files file.name) (λ bytes. most file.limit < length bytes)) list (long-within files) l (texts-within files list texts t)))
+              (λ h. tasks-verdict (run_files filters texts) n v (of-audit PassTasks texts is h));
+          is_damaged = λ e. absurd (has-other (run_files filters texts) n 13 v e (λ f. omega (arith, f)) (λ f. omega (arith, f)) (λ f. omega (arith, f)));
+          damaged_is = λ h. absurd h;
+        };
+      }
+
 -- ---- all commands
 
 file-statuses : (asked : Option Asked) (files : Files) (old new : SiteView) (n : ℕ) → Called asked files old new n → FileStatuses asked files n
@@ -318,6 +420,8 @@ file-statuses None files old new n called = record {
   missing_is = λ h. absurd h;
   is_unreadable = λ e. absurd (omega (arith, e, called));
   unreadable_is = λ h. absurd h;
+  is_disagreed = λ e. absurd (omega (arith, e, called));
+  disagreed_is = λ h. absurd h;
 }
 file-statuses (Some (canonises book)) files old new n called = (canon-statuses book files old new n called).of_files
 file-statuses (Some (checks books)) files old new n called = (check-statuses books files old new n called).of_files
@@ -328,10 +432,13 @@ file-statuses (Some shows) files old new n called = record {
   missing_is = λ h. absurd h;
   is_unreadable = λ e. absurd (shown-other old new n 5 called e (λ f. omega (arith, f)) (λ f. omega (arith, f)) (λ f. omega (arith, f)) (λ f. omega (arith, f)));
   unreadable_is = λ h. absurd h;
+  is_disagreed = λ e. absurd (shown-other old new n 18 called e (λ f. omega (arith, f)) (λ f. omega (arith, f)) (λ f. omega (arith, f)) (λ f. omega (arith, f)));
+  disagreed_is = λ h. absurd h;
 }
-file-statuses (Some (lists_rules agent)) files old new n called = filter-files (Some (lists_rules agent)) agent files old new n called (λ h. h) (λ h. h) (λ h. h)
-file-statuses (Some (shadows agent)) files old new n called = filter-files (Some (shadows agent)) agent files old new n called (λ h. h) (λ h. h) (λ h. h)
+file-statuses (Some (lists_rules agent)) files old new n called = filter-files (Some (lists_rules agent)) agent files old new n called (λ h. h) (λ h. h) (λ h. h) (λ h. h)
+file-statuses (Some (shadows agent)) files old new n called = filter-files (Some (shadows agent)) agent files old new n called (λ h. h) (λ h. h) (λ h. h) (λ h. h)
 file-statuses (Some (decides agent packets)) files old new n called = decide-files agent packets files old new n called
+file-statuses (Some (audits engine filters)) files old new n called = (audit-statuses engine filters files old new n called).of_files
 
 -- a status may come of its work
 has-comes : (w : Work) (old new : SiteView) (n : ℕ) → HasStatus w old new n → Comes w old new n
@@ -343,6 +450,7 @@ has-comes (opens_filter agent look) old new n (inr h) = inl (inr ((λ told. h.0)
 has-comes opens_run old new n (inl h) = inl ((λ told. h.0), h.1)
 has-comes opens_run old new n (inr (inl h)) = inr (inl ((λ told. h.0), h.1))
 has-comes opens_run old new n (inr (inr h)) = inr (inr (inl ((λ told. h.0), h.1)))
+has-comes (compares files) old new n h = h
 
 abbrev Held : Option Asked → Files → SiteView → SiteView → ℕ → Type 0
 Held asked files old new n = HasStatus (work asked (reading files (files_of asked))) old new n
@@ -385,6 +493,8 @@ told-statuses (Some (shadows agent)) files old new n held = record {
   damaged_is = damaged-filter agent new n held;
 }
 told-statuses (Some (decides agent packets)) files old new n held = decide-told agent packets files old new n held
+told-statuses (Some (audits engine filters)) files old new n held =
+    (audit-statuses engine filters files old new n (has-comes (work (Some (audits engine filters)) (reading files (files_of (Some (audits engine filters))))) old new n held)).told
 
 -- ---- the clauses
 
@@ -408,6 +518,7 @@ apart-asked n (Some (lists_rules agent)) a f b c (inl e) = f e
 apart-asked n (Some (lists_rules agent)) a f b c (inr h) = apart n a b c (inr h)
 apart-asked n (Some (shadows agent)) a f b c (inl e) = f e
 apart-asked n (Some (shadows agent)) a f b c (inr h) = apart n a b c (inr h)
+apart-asked n (Some (audits engine filters)) a f b c h = apart n a b c h
 apart-asked n (Some (decides agent packets)) a f b c (inl e) = a e
 apart-asked n (Some (decides agent packets)) a f b c (inr (inl e)) = f e
 apart-asked n (Some (decides agent packets)) a f b c (inr (inr h)) = apart n a b c (inr h)
@@ -434,6 +545,12 @@ module _ (asked : Option Asked) (shelf : ShelfCall) (old new : SiteView) (answer
   refused-ended = if-told (files_of asked) shelf.told _ (λ files seen.
       comes 1 (3 ∷ 9 ∷ 10 ∷ []) (Called asked files old new answer) (IsRefused asked files) answer (λ h. (file-statuses asked files old new answer h).is_refused) (λ h. (file-statuses asked files old new answer h).refused_is)
       (apart 1 (λ e. omega (arith, e)) (λ e. omega (arith, e)) (λ e. omega (arith, e)))
+      (widen (Called asked files old new answer) answer (files_of asked) (status-seen asked files shelf old new answer seen ended)))
+
+  pub disagreement-ended : IfFilesTold (files_of asked) shelf.told (λ files. ComesExactly 18 (3 ∷ 9 ∷ 10 ∷ []) (FindsDisagreement asked files) answer)
+  disagreement-ended = if-told (files_of asked) shelf.told _ (λ files seen.
+      comes 18 (3 ∷ 9 ∷ 10 ∷ []) (Called asked files old new answer) (FindsDisagreement asked files) answer (λ h. (file-statuses asked files old new answer h).is_disagreed) (λ h. (file-statuses asked files old new answer h).disagreed_is)
+      (apart 18 (λ e. omega (arith, e)) (λ e. omega (arith, e)) (λ e. omega (arith, e)))
       (widen (Called asked files old new answer) answer (files_of asked) (status-seen asked files shelf old new answer seen ended)))
 
   pub done-ended : IfTold asked shelf.told old (λ files. ComesExactly 0 (faults_of asked) (CanBeDone asked files old new) answer)

@@ -12,6 +12,7 @@ pub data Asked : Type 0 where
   lists_rules : (agent : ℕ) → Asked
   decides : (agent : ℕ) (packets : Text) → Asked
   shadows : (agent : ℕ) → Asked
+  audits : (engine : Text) (filters : List (ℕ × Text)) → Asked
 
 -- words that ask for a command that is not built have no reading
 abbrev pub built : Request → Option Asked
@@ -23,6 +24,7 @@ built (words.lists_rules agent) = Some (lists_rules agent)
 built (words.decides agent packets) = Some (decides agent packets)
 built (words.rehearses positions) = None
 built (words.shadows agent) = Some (shadows agent)
+built (words.audits engine filters) = Some (audits engine filters)
 
 abbrev pub asked : List Text → Option Asked
 asked words = option_and_then built (request words)

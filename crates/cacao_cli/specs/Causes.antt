@@ -1,5 +1,5 @@
 -- The causes of the statuses, in words of their own. The files are those of the words, in the order in which they are read.
-use Rattle.std.specs.Prelude.{◌≡◌, ◌⊎◌, ℕ, ◌<◌, ◌≤◌, length, List, [], ◌∷◌, Option, Some, None, IsSomeAnd, true, false, Ok, Err}
+use Rattle.std.specs.Prelude.{◌≡◌, ◌⊎◌, ℕ, ◌<◌, ◌≤◌, length, List, [], ◌∷◌, Option, Some, None, IsSomeAnd, IsOkAnd, true, false, Ok, Err}
 use Rattle.serde_json.specs.Data.{Data}
 use Rattle.cacao_json.specs.Reading.{tree}
 use Rattle.cacao_check.specs.FirstBreak.{IsAccepted}
@@ -8,11 +8,14 @@ use Rattle.cacao_check.specs.declared.breaks.Mode.TheVariants.{Read}
 use Rattle.oc2_nets.specs.declared.packets.Packet.{Packet}
 use Rattle.filter_reports.specs.PacketFiles.{packets_of}
 use Rattle.cacao_site.specs.View.{SiteView}
-use Rattle.cacao_cli.specs.Asked.{Asked, canonises, checks, shows, lists_rules, decides, shadows}
+use Rattle.cacao_cli.specs.Asked.{Asked, canonises, checks, shows, lists_rules, decides, shadows, audits}
+use Rattle.cacao_cli.specs.Audited.{Agree, Disagree, PassTasks}
 use Rattle.cacao_cli.specs.Ends.{most}
 use Rattle.cacao_cli.specs.Exact.{IsBroken}
 use Rattle.cacao_cli.specs.Openings.{HoldsFilter, HoldsRun, IsDamagedFilter, IsDamagedRun, IsTooLargeRun}
-use Rattle.cacao_cli.specs.Files.{File, Files, files_of, has_too_many, packet_file}
+use Rattle.cacao_cli.specs.Files.{File, Files, files_of, has_too_many, packet_file, reading}
+use Rattle.cacao_cli.specs.Work.{run_files}
+use Rattle.cacao_words.specs.Words.{Text}
 
 -- the file is there, within its limit
 abbrev pub IsWithin : Files → File → Type 0
@@ -58,6 +61,10 @@ IsPacketFile files file = (packets : List (ℕ × Packet)) × HasPackets files f
 abbrev pub HasBadLine : Files → File → Type 0
 HasBadLine files file = IsSomeAnd (files file.name) (λ bytes. (number : ℕ) × (packets_of bytes ≡ Err number))
 
+-- the files that an audit reads are there within their limits, and of what they hold as the files of a run P holds
+abbrev pub IsAuditOf : Files → Text → List (ℕ × Text) → (List Text → Type 0) → Type 0
+IsAuditOf files engine filters P = IsOkAnd (reading files (files_of (Some (audits engine filters)))) (λ texts. P (run_files filters texts))
+
 -- a file of the words has no reading, and all are there within their limits
 abbrev pub IsUnreadable : Option Asked → Files → Type 0
 IsUnreadable None files = ⊥
@@ -67,6 +74,7 @@ IsUnreadable (Some shows) files = ⊥
 IsUnreadable (Some (lists_rules agent)) files = ⊥
 IsUnreadable (Some (decides agent packets)) files = IsWithin files (packet_file packets) × HasBadLine files (packet_file packets)
 IsUnreadable (Some (shadows agent)) files = ⊥
+IsUnreadable (Some (audits engine filters)) files = ⊥
 
 -- a rule is broken, by playbooks each of which is there within its limit and has a tree
 pub record BreaksRule (files : Files) (list : List File) (mode : Mode) : Type 0 where
@@ -82,6 +90,7 @@ IsRefused (Some shows) files = ⊥
 IsRefused (Some (lists_rules agent)) files = ⊥
 IsRefused (Some (decides agent packets)) files = ⊥
 IsRefused (Some (shadows agent)) files = ⊥
+IsRefused (Some (audits engine filters)) files = ⊥
 
 -- a quantity passes its limit
 abbrev pub IsPastLimit : Option Asked → Files → SiteView → SiteView → Type 0
@@ -92,6 +101,7 @@ IsPastLimit (Some shows) files old new = IsTooLargeRun new
 IsPastLimit (Some (lists_rules agent)) files old new = ⊥
 IsPastLimit (Some (decides agent packets)) files old new = IsTooLong files (files_of (Some (decides agent packets)))
 IsPastLimit (Some (shadows agent)) files old new = ⊥
+IsPastLimit (Some (audits engine filters)) files old new = IsTooLong files (files_of (Some (audits engine filters))) ⊎ IsAuditOf files engine filters PassTasks
 
 -- no rule is broken, by playbooks each of which is there within its limit and has a tree
 pub record KeepsRules (files : Files) (list : List File) (mode : Mode) : Type 0 where
@@ -108,6 +118,7 @@ CanBeDone (Some shows) files old new = HoldsRun new
 CanBeDone (Some (lists_rules agent)) files old new = HoldsFilter agent new
 CanBeDone (Some (decides agent packets)) files old new = IsPacketFile files (packet_file packets) × HoldsFilter agent new
 CanBeDone (Some (shadows agent)) files old new = HoldsFilter agent new
+CanBeDone (Some (audits engine filters)) files old new = IsAuditOf files engine filters Agree
 
 -- the file of the disk that the command opens holds nothing that the program wrote, and nothing else stops the command before
 abbrev pub FindsItDamaged : Option Asked → Files → SiteView → SiteView → Type 0
@@ -118,3 +129,15 @@ FindsItDamaged (Some shows) files old new = IsDamagedRun new
 FindsItDamaged (Some (lists_rules agent)) files old new = IsDamagedFilter agent new
 FindsItDamaged (Some (decides agent packets)) files old new = IsPacketFile files (packet_file packets) × IsDamagedFilter agent new
 FindsItDamaged (Some (shadows agent)) files old new = IsDamagedFilter agent new
+FindsItDamaged (Some (audits engine filters)) files old new = ⊥
+
+-- the files of a run do not agree
+abbrev pub FindsDisagreement : Option Asked → Files → Type 0
+FindsDisagreement None files = ⊥
+FindsDisagreement (Some (canonises book)) files = ⊥
+FindsDisagreement (Some (checks books)) files = ⊥
+FindsDisagreement (Some shows) files = ⊥
+FindsDisagreement (Some (lists_rules agent)) files = ⊥
+FindsDisagreement (Some (decides agent packets)) files = ⊥
+FindsDisagreement (Some (shadows agent)) files = ⊥
+FindsDisagreement (Some (audits engine filters)) files = IsAuditOf files engine filters Disagree

@@ -1,5 +1,5 @@
 -- The values of the code as those of the definitions.
-use Rattle.std.specs.Prelude.{◌≡◌, ◌⊎◌, ℕ, Option, List, [], ◌∷◌, map, Vec, Result, Ok, Err}
+use Rattle.std.specs.Prelude.{◌≡◌, ◌⊎◌, ℕ, Option, Some, List, [], ◌∷◌, map, Vec, Result, Ok, Err}
 use Rattle.std.specs.declared.alloc.Global.{Global}
 use Rattle.serde_json.specs.Data.{Data}
 use Rattle.cacao_check.specs.FirstBreak.{IsAccepted, IsFirstBreak}
@@ -21,10 +21,11 @@ use Rattle.slpf_actuator.specs.declared.error.ActError.TheVariants as act_error
 use Rattle.filter_reports.specs.PacketFiles.{packets_of}
 use Rattle.cacao_words.specs.declared.words.Command.{Command}
 use Rattle.cacao_words.specs.Commands.{request_by}
-use Rattle.cacao_cli.specs.Asked.{Asked, built}
+use Rattle.cacao_words.specs.Words.{Text}
+use Rattle.cacao_cli.specs.Asked.{Asked, audits, built}
 use Rattle.cacao_cli.specs.Ends as as_said
-use Rattle.cacao_cli.specs.Files.{NamedText, named}
-use Rattle.cacao_cli.specs.Work.{packets_or_end, tree_of, trees_of}
+use Rattle.cacao_cli.specs.Files.{NamedText, ReadsTo, ShelfCall, files_of, named}
+use Rattle.cacao_cli.specs.Work.{packets_or_end, run_files, tree_of, trees_of}
 use Rattle.cacao_cli.specs.declared.end.End.{End}
 use Rattle.cacao_cli.specs.declared.file_text.FileText.{FileText}
 use Rattle.cacao_cli.specs.declared.end.End.TheVariants as how
@@ -42,6 +43,8 @@ end_of (how.Past limit) = as_said.past limit
 end_of (how.ShelfFailed line) = as_said.shelf_failed line.name.now
 end_of (how.NoSuchFile name) = as_said.no_such_file name.now
 end_of (how.NotReadable name reason) = as_said.not_readable name.now reason
+end_of (how.Agrees records acts) = as_said.agrees records acts
+end_of (how.Disagrees file place) = as_said.disagrees file place
 end_of (how.Damaged file place) = as_said.damaged file place
 end_of how.DiskFailed = as_said.disk_failed
 end_of how.Unsaid = as_said.unsaid
@@ -55,6 +58,16 @@ text_of text = named text.name.now text.bytes
 abbrev pub read_of : Result FileText End → Result (List NamedText) as_said.End
 read_of (Ok text) = Ok (text_of text ∷ [])
 read_of (Err end) = Err (end_of end)
+
+-- what the read of the bytes of one file gave, as what reading comes to
+abbrev pub bytes_read : Text → Result Text End → Result (List NamedText) as_said.End
+bytes_read name (Ok bytes) = Ok (named name bytes ∷ [])
+bytes_read name (Err end) = Err (end_of end)
+
+-- The files of a run were read, and each stands at its number; or one gave none, and the end tells why.
+abbrev pub ReadsRun : ShelfCall → Text → List (ℕ × Text) → Result (List Text) End → Type 0
+ReadsRun shelf engine filters (Ok files) = (texts : List NamedText) × ReadsTo shelf (files_of (Some (audits engine filters))) (Ok texts) × (files ≡ run_files filters texts)
+ReadsRun shelf engine filters (Err end) = ReadsTo shelf (files_of (Some (audits engine filters))) (Err (end_of end))
 
 abbrev pub reads_of : Result (Vec FileText Global) End → Result (List NamedText) as_said.End
 reads_of (Ok texts) = Ok (map text_of texts.items)

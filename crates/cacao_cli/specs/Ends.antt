@@ -3,7 +3,7 @@ use Rattle.std.specs.Prelude.{ℕ, Bool, true, false, ◌++◌, codes, decimal, 
 use Rattle.cacao_check.specs.declared.breaks.Break.{Break}
 use Rattle.cacao_words.specs.Words.{Text}
 use Rattle.cacao_cli.specs.declared.limit.Limit.{Limit}
-use Rattle.cacao_cli.specs.declared.limit.Limit.TheVariants.{FileBytes, BookCount, TaskCount}
+use Rattle.cacao_cli.specs.declared.limit.Limit.TheVariants.{FileBytes, BookCount, TaskCount, JournalBytes}
 use Rattle.cacao_cli.specs.declared.reason.Reason.{Reason}
 use Rattle.cacao_cli.specs.declared.reason.Reason.TheVariants.{NotJson, RepeatedName, NotWhole, Line}
 
@@ -11,12 +11,14 @@ abbrev pub limit_name : Limit → Text
 limit_name FileBytes = codes "file"
 limit_name BookCount = codes "books"
 limit_name TaskCount = codes "tasks"
+limit_name JournalBytes = codes "journal"
 
 -- the most that is taken
 abbrev pub most : Limit → ℕ
 most FileBytes = 1048576
 most BookCount = 16
 most TaskCount = 1000000
+most JournalBytes = 67108864
 
 abbrev pub limit_text : Limit → Text
 limit_text limit = limit_name limit ++ (codes " " ++ decimal (most limit))
@@ -46,6 +48,8 @@ pub data End : Type 0 where
   shelf_failed : (name : Text) → End
   no_such_file : (name : Text) → End
   not_readable : (name : Text) (reason : Reason) → End
+  agrees : (records acts : ℕ) → End  -- the files of a run agree
+  disagrees : (file place : ℕ) → End  -- they do not
   damaged : (file place : ℕ) → End  -- a file of the disk holds nothing that the program wrote
   disk_failed : End
   unsaid : End  -- a line could not be said
@@ -60,6 +64,8 @@ status_of (past limit) = 11
 status_of (shelf_failed name) = 3
 status_of (no_such_file name) = 4
 status_of (not_readable name reason) = 5
+status_of (agrees records acts) = 0
+status_of (disagrees file place) = 18
 status_of (damaged file place) = 13
 status_of disk_failed = 8
 status_of unsaid = 9
@@ -75,6 +81,8 @@ text_of (past limit) = Some (codes "limit: " ++ limit_text limit)
 text_of (shelf_failed name) = Some (codes "shelf failed: " ++ name)
 text_of (no_such_file name) = Some (codes "no such file: " ++ name)
 text_of (not_readable name reason) = Some (codes "not readable: " ++ (name ++ (codes " " ++ reason_text reason)))
+text_of (agrees records acts) = Some (codes "audit ok " ++ (decimal records ++ (codes " " ++ decimal acts)))
+text_of (disagrees file place) = Some (codes "audit no file " ++ (decimal file ++ (codes " place " ++ decimal place)))
 text_of (damaged file place) = Some (codes "damaged: file " ++ (decimal file ++ (codes " place " ++ decimal place)))
 text_of disk_failed = Some (codes "disk failed")
 text_of unsaid = None
@@ -90,6 +98,8 @@ is_fault (past limit) = false
 is_fault (shelf_failed name) = true
 is_fault (no_such_file name) = false
 is_fault (not_readable name reason) = false
+is_fault (agrees records acts) = false
+is_fault (disagrees file place) = false
 is_fault (damaged file place) = false
 is_fault disk_failed = true
 is_fault unsaid = true

@@ -4,11 +4,14 @@ use Rattle.serde_json.specs.Data.{Data}
 use Rattle.cacao_check.specs.FirstBreak.{Demand, IsAccepted, Keeps}
 use Rattle.cacao_check.specs.declared.breaks.Mode.{Mode}
 use Rattle.cacao_site.specs.View.{SiteView}
-use Rattle.cacao_cli.specs.Asked.{Asked, canonises, checks, shows, lists_rules, decides, shadows}
+use Rattle.flow_audit.specs.declared.verdict.Verdict17.TheVariants as verdict
+use Rattle.cacao_cli.specs.Asked.{Asked, canonises, checks, shows, lists_rules, decides, shadows, audits}
+use Rattle.cacao_cli.specs.Audited.{IsOnlyVerdict, PassTasks}
 use Rattle.cacao_cli.specs.Ends.{status_of}
 use Rattle.cacao_cli.specs.Files.{File, Files, files_of, reading}
+use Rattle.cacao_words.specs.Words.{Text}
 use Rattle.cacao_cli.specs.Openings.{HoldsFilter, HoldsRun, IsDamagedFilter, IsDamagedRun, IsTooLargeRun}
-use Rattle.cacao_cli.specs.Work.{Work, ends, judges, opens_filter, opens_run, work}
+use Rattle.cacao_cli.specs.Work.{Work, ends, judges, opens_filter, opens_run, compares, work}
 
 abbrev pub IsOneOf : ℕ → List ℕ → Type 0
 IsOneOf n [] = ⊥
@@ -37,6 +40,7 @@ IfTold (Some shows) told old P = IfDiskTold old P
 IfTold (Some (lists_rules agent)) told old P = IfDiskTold old P
 IfTold (Some (decides agent packets)) told old P = IsTrue old.disk.told → IfFilesTold (files_of (Some (decides agent packets))) told P
 IfTold (Some (shadows agent)) told old P = IfDiskTold old P
+IfTold (Some (audits engine filters)) told old P = IfFilesTold (files_of (Some (audits engine filters))) told P
 
 -- the faults that may stand in the place of a status that rests on the files alone
 abbrev pub file_faults : List File → List ℕ
@@ -52,10 +56,16 @@ faults_of (Some shows) = 8 ∷ 9 ∷ 10 ∷ []
 faults_of (Some (lists_rules agent)) = 8 ∷ 9 ∷ 10 ∷ []
 faults_of (Some (decides agent packets)) = 3 ∷ 8 ∷ 9 ∷ 10 ∷ []
 faults_of (Some (shadows agent)) = 8 ∷ 9 ∷ 10 ∷ []
+faults_of (Some (audits engine filters)) = file_faults (files_of (Some (audits engine filters)))
 
 -- a rule of the playbooks with these trees is broken
 abbrev pub IsBroken : List Data → Mode → Type 0
 IsBroken trees mode = (demand : Demand) × ¬ Keeps trees mode demand
+
+-- the status is that of what is told of the files of a run
+abbrev pub HasVerdict : List Text → ℕ → Type 0
+HasVerdict files answer = (((records : ℕ) × (acts : ℕ) × IsOnlyVerdict files (verdict.Yes records acts)) × (answer ≡ 0))
+    ⊎ ((((file : ℕ) × (place : ℕ) × IsOnlyVerdict files (verdict.No file place)) × (answer ≡ 18)) ⊎ (PassTasks files × (answer ≡ 11)))
 
 -- the status is that of the work; a file of the disk is as it reads on return
 abbrev pub HasStatus : Work → SiteView → SiteView → ℕ → Type 0
@@ -63,6 +73,7 @@ HasStatus (ends lines end) old new answer = answer ≡ status_of end
 HasStatus (judges trees mode accepted) old new answer = (IsAccepted trees mode × HasStatus accepted old new answer) ⊎ (IsBroken trees mode × (answer ≡ 1))
 HasStatus (opens_filter agent look) old new answer = (HoldsFilter agent new × (answer ≡ 0)) ⊎ (IsDamagedFilter agent new × (answer ≡ 13))
 HasStatus opens_run old new answer = (HoldsRun new × (answer ≡ 0)) ⊎ ((IsDamagedRun new × (answer ≡ 13)) ⊎ (IsTooLargeRun new × (answer ≡ 11)))
+HasStatus (compares files) old new answer = HasVerdict files answer
 
 -- the status is that of the work that the files call for, or one of the faults that may stand in its place
 

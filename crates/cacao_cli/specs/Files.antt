@@ -4,21 +4,27 @@ use Rattle.std.specs.Prelude.{◌≡◌, ℕ, ◌<◌, ◌≤◌, ◌==◌, nat_
 use Rattle.std.specs.Prelude.{IfSome, IsSomeAnd, ⊤, if◌then◌else◌}
 use Rattle.cacao_site.specs.Counts.{next_count}
 use Rattle.cacao_words.specs.Words.{Text}
-use Rattle.cacao_cli.specs.Asked.{Asked, canonises, checks, shows, lists_rules, decides, shadows}
+use Rattle.cacao_cli.specs.Asked.{Asked, canonises, checks, shows, lists_rules, decides, shadows, audits}
 use Rattle.cacao_cli.specs.Ends.{End, most, status_of, past, shelf_failed, no_such_file, no_memory}
 use Rattle.cacao_cli.specs.declared.limit.Limit.{Limit}
-use Rattle.cacao_cli.specs.declared.limit.Limit.TheVariants.{FileBytes}
+use Rattle.cacao_cli.specs.declared.limit.Limit.TheVariants.{FileBytes, JournalBytes}
 
 -- a file that is read: its name, and the limit on its bytes
 pub record File : Type 0 where
   pub name : Text
   pub limit : Limit
 
+abbrev pub file_within : Text → Limit → File
+file_within name limit = record { name = name; limit = limit }
+
 abbrev pub book_file : Text → File
-book_file name = record { name = name; limit = FileBytes }
+book_file name = file_within name FileBytes
 
 abbrev pub packet_file : Text → File
-packet_file name = record { name = name; limit = FileBytes }
+packet_file name = file_within name FileBytes
+
+abbrev pub journal_file : Text → File
+journal_file name = file_within name JournalBytes
 
 -- the playbooks that the words name
 abbrev pub books_of : Asked → List Text
@@ -28,6 +34,7 @@ books_of shows = []
 books_of (lists_rules agent) = []
 books_of (decides agent packets) = []
 books_of (shadows agent) = []
+books_of (audits engine filters) = []
 
 -- more playbooks than the limit: then no file is read
 abbrev pub has_too_many : Asked → Bool
@@ -40,6 +47,7 @@ named_by shows = []
 named_by (lists_rules agent) = []
 named_by (decides agent packets) = packet_file packets ∷ []
 named_by (shadows agent) = []
+named_by (audits engine filters) = journal_file engine ∷ map (λ filter. journal_file filter.1) filters
 
 -- the files to be read, in order
 abbrev pub files_of : Option Asked → List File

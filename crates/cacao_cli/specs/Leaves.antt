@@ -3,7 +3,7 @@ use Rattle.std.specs.Prelude.{◌≡◌, ◌⊎◌, ℕ, ◌+◌, ◌/◌, ◌�
 use Rattle.cacao_site.specs.DiskCalls.{EachBeat, IsLeft}
 use Rattle.cacao_site.specs.SayCalls.{KeepsTime, SaysOnly}
 use Rattle.cacao_site.specs.View.{LinkView, SiteView}
-use Rattle.cacao_cli.specs.Asked.{Asked, canonises, checks, shows, lists_rules, decides, shadows}
+use Rattle.cacao_cli.specs.Asked.{Asked, canonises, checks, shows, lists_rules, decides, shadows, audits}
 use Rattle.cacao_cli.specs.Files.{Counts}
 
 -- at most one call of `say` was made, and nothing else changed
@@ -42,6 +42,7 @@ Leaves (Some shows) old new answer = WritesNothing 0 old new
 Leaves (Some (lists_rules agent)) old new answer = WritesNothing agent old new
 Leaves (Some (decides agent packets)) old new answer = WritesNothing agent old new
 Leaves (Some (shadows agent)) old new answer = WritesNothing agent old new
+Leaves (Some (audits engine filters)) old new answer = SaysAtMostOnce old new answer
 
 -- at most so many reads were counted, where the shelf tells them
 abbrev pub ReadsAtMost : ℕ → Option ℕ → Option ℕ → Type 0
@@ -56,6 +57,7 @@ NoDiskFault (Some shows) old new = old.disk.faults ≤ new.disk.faults
 NoDiskFault (Some (lists_rules agent)) old new = old.disk.faults ≤ new.disk.faults
 NoDiskFault (Some (decides agent packets)) old new = old.disk.faults ≤ new.disk.faults
 NoDiskFault (Some (shadows agent)) old new = old.disk.faults ≤ new.disk.faults
+NoDiskFault (Some (audits engine filters)) old new = new.disk.faults ≡ old.disk.faults
 
 -- no fault was counted
 pub record NoFault (asked : Option Asked) (faults_before faults_after : ℕ) (old new : SiteView) : Type 0 where

@@ -1,4 +1,5 @@
 pub mod Asked
+pub mod Audited
 pub mod Causes
 pub mod Command
 pub mod Ended

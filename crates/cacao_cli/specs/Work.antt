@@ -1,5 +1,5 @@
 -- What a command does, once the words and the files that it reads are known. The tests stand in the order of the statuses.
-use Rattle.std.specs.Prelude.{ℕ, List, [], ◌∷◌, ◌++◌, map, Option, Some, None, Result, Ok, Err, if◌then◌else◌, codes}
+use Rattle.std.specs.Prelude.{ℕ, List, [], ◌∷◌, ◌++◌, map, Option, Some, None, Result, Ok, Err, if◌then◌else◌, codes, replicate, slice_set}
 use Rattle.serde_json.specs.Data.{Data}
 use Rattle.cacao_json.specs.Refusals.{answer}
 use Rattle.cacao_json.specs.declared.error.JsonError.{JsonError}
@@ -10,7 +10,7 @@ use Rattle.filter_reports.specs.PacketFiles.{packets_of}
 use Rattle.cacao_check.specs.declared.breaks.Mode.{Mode}
 use Rattle.cacao_check.specs.declared.breaks.Mode.TheVariants.{Read}
 use Rattle.cacao_words.specs.Words.{Text}
-use Rattle.cacao_cli.specs.Asked.{Asked, canonises, checks, shows, lists_rules, decides, shadows}
+use Rattle.cacao_cli.specs.Asked.{Asked, canonises, checks, shows, lists_rules, decides, shadows, audits}
 use Rattle.cacao_cli.specs.Ends.{End, done, accepted, not_understood, past, not_readable, no_memory}
 use Rattle.cacao_cli.specs.Files.{NamedText, item_then, has_too_many}
 use Rattle.cacao_cli.specs.declared.limit.Limit.TheVariants.{BookCount}
@@ -24,12 +24,13 @@ pub data Look : Type 0 where
 
 -- What is left to be done where nothing was refused before: to say these lines and end so; to tell the first break of the playbooks with
 -- these trees, and where there is none to do this work; to open the filter of an agent and say this of it; to open the engine's file and say
--- how its run stands.
+-- how its run stands; to tell whether these files of a run agree.
 pub data Work : Type 0 where
   ends : (lines : List Text) (end : End) → Work
   judges : (trees : List Data) (mode : Mode) (accepted : Work) → Work
   opens_filter : (agent : ℕ) (look : Look) → Work
   opens_run : Work
+  compares : (files : List Text) → Work
 
 -- the tree, or the end that says why there is none
 abbrev pub tree_or_end : Text → Result Data JsonError → Result Data End
@@ -66,6 +67,16 @@ or_end (Ok value) work = work value
 abbrev pub canon_line : Data → Text
 canon_line root = book_text root ++ codes "\n"
 
+-- each text at the place of its number
+abbrev pub placed : List Text → List ℕ → List NamedText → List Text
+placed files [] texts = files
+placed files (number ∷ numbers) [] = files
+placed files (number ∷ numbers) (text ∷ texts) = placed (slice_set files number text.bytes) numbers texts
+
+-- The files of a run: file 0 is the engine's, and the others have the numbers of their agents. One that is not named has no bytes.
+abbrev pub run_files : List (ℕ × Text) → List NamedText → List Text
+run_files filters texts = placed (replicate 17 []) (0 ∷ map (λ filter. filter.0) filters) texts
+
 -- the work that the texts of its files come to
 abbrev pub work_on : Asked → List NamedText → Work
 work_on (canonises book) texts = or_end (trees_of texts) (λ roots. ends (map canon_line roots) done)
@@ -74,6 +85,7 @@ work_on shows texts = opens_run
 work_on (lists_rules agent) texts = opens_filter agent at_rules
 work_on (decides agent packets) texts = or_end (packets_in texts) (λ found. opens_filter agent (at_decisions found))
 work_on (shadows agent) texts = opens_filter agent at_shadows
+work_on (audits engine filters) texts = compares (run_files filters texts)
 
 -- the work that the words and what was read come to
 abbrev pub work : Option Asked → Result (List NamedText) End → Work

@@ -28,6 +28,10 @@ pub enum End<'w> {
     NoSuchFile { name: &'w str },
     /// The file of this name has no reading.
     NotReadable { name: &'w str, reason: Reason },
+    /// The files of a run agree, and hold so many records and acts.
+    Agrees { records: u32, acts: u32 },
+    /// They do not: the file of this number is the first that breaks the agreement, at this place.
+    Disagrees { file: u8, place: u64 },
     /// The file of this number on the disk holds nothing that the program wrote, from this place on.
     Damaged { file: u8, place: u64 },
     /// The disk failed.
@@ -44,7 +48,7 @@ impl<'w> End<'w> {
         ensures { result ≡ status_of (end_of self.now) }
     {
         match self {
-            End::Done | End::Accepted => 0,
+            End::Done | End::Accepted | End::Agrees { .. } => 0,
             End::Refused { .. } => 1,
             End::NotUnderstood => 2,
             End::ShelfFailed { .. } => 3,
@@ -55,6 +59,7 @@ impl<'w> End<'w> {
             End::NoMemory => 10,
             End::Past { .. } => 11,
             End::Damaged { .. } => 13,
+            End::Disagrees { .. } => 18,
         }
     }
 
@@ -93,6 +98,8 @@ impl<'w> fmt::Display for End<'w> {
             End::ShelfFailed { line } => write!(f, "shelf failed: {}", line.name),
             End::NoSuchFile { name } => write!(f, "no such file: {name}"),
             End::NotReadable { name, reason } => write!(f, "not readable: {name} {reason}"),
+            End::Agrees { records, acts } => write!(f, "audit ok {records} {acts}"),
+            End::Disagrees { file, place } => write!(f, "audit no file {file} place {place}"),
             End::Damaged { file, place } => write!(f, "damaged: file {file} place {place}"),
             End::DiskFailed => f.write_str("disk failed"),
         }

@@ -1,14 +1,41 @@
 // The named files that commands read.
-ghost use Rattle.std.specs.Prelude.{◌≡◌, ◌≤◌, ◌∷◌, [], map};
-ghost use Rattle.cacao_cli.specs.Command.{read_of, reads_of};
-ghost use Rattle.cacao_cli.specs.Files.{ReadsTo, book_file, shelf_call};
+ghost use Rattle.std.specs.Prelude.{◌≡◌, ◌≤◌, ◌∷◌, [], IfOk, length, map};
+ghost use Rattle.cacao_cli.specs.Command.{bytes_read, read_of, reads_of};
+ghost use Rattle.cacao_cli.specs.Ends.{most};
+ghost use Rattle.cacao_cli.specs.Files.{ReadsTo, book_file, file_within, shelf_call};
 
 use crate::end::End;
 use crate::fault_line::FaultLine;
 use crate::file_text::FileText;
 use crate::limit::Limit;
-use cacao_site::{Shelf, ShelfError};
+use cacao_site::{Bytes, Shelf, ShelfError};
 use std::alloc::Global;
+
+/// The bytes of the file of this name, as many as this limit allows.
+pub fn read_bytes<'w, L: Shelf>(
+    alloc: Global,
+    name: &'w str,
+    limit: Limit,
+    shelf: &mut L,
+) -> Result<Bytes, End<'w>>
+    ensures reads { ReadsTo (shelf_call (L.told shelf.old) (L.faults shelf.old) (L.faults shelf.new) (L.reads shelf.old) (L.reads shelf.new))
+        (file_within name.entry.now limit ∷ []) (bytes_read name.entry.now result) }
+    ensures within { IfOk result (λ bytes. length bytes ≤ most limit) }
+    ensures files { L.told shelf.new ≡ L.told shelf.old }
+    ensures faults { L.faults shelf.old ≤ L.faults shelf.new }
+{
+    let line = match FaultLine::new(alloc, name) {
+        Ok(line) => line,
+        Err(_) => return Err(End::NoMemory),
+    };
+    match shelf.read(alloc, name, limit.most()) {
+        Ok(bytes) => Ok(bytes),
+        Err(ShelfError::Missing) => Err(End::NoSuchFile { name }),
+        Err(ShelfError::Failed) => Err(End::ShelfFailed { line }),
+        Err(ShelfError::TooLarge) => Err(End::Past { limit }),
+        Err(ShelfError::Memory) => Err(End::NoMemory),
+    }
+}
 
 /// The bytes of the file of this name, at most 1,048,576.
 pub fn read_file<'w, L: Shelf>(
@@ -21,17 +48,9 @@ pub fn read_file<'w, L: Shelf>(
     ensures files { L.told shelf.new ≡ L.told shelf.old }
     ensures faults { L.faults shelf.old ≤ L.faults shelf.new }
 {
-    let line = match FaultLine::new(alloc, name) {
-        Ok(line) => line,
-        Err(_) => return Err(End::NoMemory),
-    };
-    let limit = Limit::FileBytes;
-    match shelf.read(alloc, name, limit.most()) {
+    match read_bytes(alloc, name, Limit::FileBytes, shelf) {
         Ok(bytes) => Ok(FileText { name, bytes }),
-        Err(ShelfError::Missing) => Err(End::NoSuchFile { name }),
-        Err(ShelfError::Failed) => Err(End::ShelfFailed { line }),
-        Err(ShelfError::TooLarge) => Err(End::Past { limit }),
-        Err(ShelfError::Memory) => Err(End::NoMemory),
+        Err(end) => Err(end),
     }
 }
 

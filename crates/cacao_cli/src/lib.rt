@@ -1,6 +1,7 @@
 //! The commands of the program, from the words of the command line to the lines said and the exit status.
 #![tactic(auto)]
 
+mod audit;
 mod canon;
 mod check;
 mod end;

@@ -10,6 +10,8 @@ pub enum Limit {
     BookCount,
     /// The tasks of a run.
     TaskCount,
+    /// The bytes of a file of a run.
+    JournalBytes,
 }
 
 impl Limit {
@@ -24,6 +26,7 @@ impl Limit {
             Limit::FileBytes => "file",
             Limit::BookCount => "books",
             Limit::TaskCount => "tasks",
+            Limit::JournalBytes => "journal",
         }
     }
 
@@ -35,6 +38,7 @@ impl Limit {
             Limit::FileBytes => 1_048_576,
             Limit::BookCount => 16,
             Limit::TaskCount => 1_000_000,
+            Limit::JournalBytes => 67_108_864,
         }
     }
 }

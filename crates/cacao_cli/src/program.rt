@@ -2,13 +2,14 @@
 ghost use Rattle.std.specs.Prelude.{◌≡◌, ◌≢◌, ◌≤◌, ◌∷◌, [], length, map, string_bytes, Some, None};
 ghost use Rattle.cacao_site.specs.Counts.{Rose, next_count};
 ghost use Rattle.cacao_cli.specs.Asked.{asked};
-ghost use Rattle.cacao_cli.specs.Causes.{CanBeDone, FindsItDamaged, IsMissing, IsPastLimit, IsRefused, IsUnreadable};
+ghost use Rattle.cacao_cli.specs.Causes.{CanBeDone, FindsDisagreement, FindsItDamaged, IsMissing, IsPastLimit, IsRefused, IsUnreadable};
 ghost use Rattle.cacao_cli.specs.Command.{asked_by, end_of};
 ghost use Rattle.cacao_cli.specs.Ended.{Ended, Performed};
 ghost use Rattle.cacao_cli.specs.Exact.{Answers, ComesExactly, IfFilesTold, IfTold, faults_of};
 ghost use Rattle.cacao_cli.specs.Files.{files_of, shelf_call};
 ghost use Rattle.cacao_cli.specs.Leaves.{Leaves, NoFault, ReadsAtMost};
 
+use crate::audit::audit;
 use crate::canon::canon;
 use crate::check::check;
 use crate::end::End;
@@ -40,6 +41,9 @@ fn carry_out<'w, L: Shelf, S: Site>(
         Command::Rules { agent } => say_rules(alloc, *agent, site),
         Command::Decide { agent, packets } => decide(alloc, *agent, packets, shelf, site),
         Command::Shadow { agent } => say_shadows(alloc, *agent, site),
+        Command::Audit { engine, filters } => {
+            audit(alloc, engine, filters.as_slice(), shelf, site)
+        }
         Command::Run { .. } | Command::Rehearse { .. } => End::NotUnderstood,
     }
 }
@@ -68,7 +72,7 @@ fn perform<'w, L: Shelf, S: Site>(
 /// Does what the words after the program's name ask, says its lines, and answers the exit status.
 ///
 /// Each status but 0 says why: 1 a rule is broken, 2 the words have no reading, 3 the shelf failed, 4 there is no such file, 5 a file has no reading, 8 the
-/// disk failed, 9 a line could not be said, 10 memory was wanted, 11 a limit was passed, 13 a file of the disk is damaged. Where several causes hold, 2 comes before 11 for too many
+/// disk failed, 9 a line could not be said, 10 memory was wanted, 11 a limit was passed, 13 a file of the disk is damaged, 18 the files of a run do not agree. Where several causes hold, 2 comes before 11 for too many
 /// playbooks, then 3, 4 and 11 of one file before those of the next, all of them before 5, and 5 before 1.
 pub fn top<L: Shelf, S: Site>(alloc: Global, words: &[String], shelf: &mut L, site: &mut S) -> u8
     // All that the call does: what it reads, the work, the lines and the status.
@@ -102,6 +106,8 @@ pub fn top<L: Shelf, S: Site>(alloc: Global, words: &[String], shelf: &mut L, si
     ensures damaged { IfTold (asked (map string_bytes words.now)) (L.told shelf.old) (S.view site.old) (λ files.
         ComesExactly 13 (faults_of (asked (map string_bytes words.now)))
         (FindsItDamaged (asked (map string_bytes words.now)) files (S.view site.old) (S.view site.new)) result) }
+    ensures disagreement { IfFilesTold (files_of (asked (map string_bytes words.now))) (L.told shelf.old) (λ files.
+        ComesExactly 18 (3 ∷ 9 ∷ 10 ∷ []) (FindsDisagreement (asked (map string_bytes words.now)) files) result) }
 
     // What stays as it was.
     ensures leaves { Leaves (asked (map string_bytes words.now)) (S.view site.old) (S.view site.new) result }

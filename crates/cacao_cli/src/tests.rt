@@ -1,4 +1,5 @@
 //! What the program says and answers, through `top`, on texts whose canonical form is known from outside.
+mod audits;
 mod filters;
 mod runs;
 

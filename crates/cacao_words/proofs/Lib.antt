@@ -1,3 +1,4 @@
+pub mod AuditLemmas
 pub mod ClapLemmas
 pub mod ClapRowLemmas
 pub mod ClapRules

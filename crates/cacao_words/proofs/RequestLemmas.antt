@@ -2,8 +2,9 @@
 use Rattle.std.proofs.Common.{◌≡◌, ◌∙◌, refl, sym, ap, Bool, true, false, List, [], ◌∷◌, Option, Some, None, codes}
 use Rattle.std.specs.Prelude.{option_map, option_and_then}
 use Rattle.std.specs.Str.{bytes_eq}
-use Rattle.cacao_words.specs.Parts.{plain_asks}
-use Rattle.cacao_words.specs.Requests.{Request, lists_rules, rehearses, shadows, agent_number, positions_number, canon_asks, check_asks, show_asks, decide_asks, number_asks, run_asks, run_options, request}
+use Rattle.std.specs.Prelude.{if◌then◌else◌}
+use Rattle.cacao_words.specs.Parts.{names_asks, plain_asks}
+use Rattle.cacao_words.specs.Requests.{Request, lists_rules, rehearses, shadows, agent_number, positions_number, canon_asks, check_asks, show_asks, decide_asks, number_asks, audit_asks, run_asks, run_options, request}
 use Rattle.cacao_words.specs.Words.{Text, Reading, read}
 use Rattle.cacao_words.proofs.ClapRules.{same}
 
@@ -26,7 +27,10 @@ none (Some r) = refl
 pub request-run : (first : Text) (words : List Text) → bytes_eq first (codes "run") ≡ true → option_and_then run_asks (read run_options words) ≡ request (first ∷ words)
 request-run first words is = ap (λ (word : Text). request (word ∷ words)) (sym (same first (codes "run") is))
 
-module _ (first : Text) (words : List Text) (not_run : bytes_eq first (codes "run") ≡ false) where
+request-audit : (first : Text) (words : List Text) → bytes_eq first (codes "audit") ≡ true → option_and_then (λ (r : Reading). audit_asks r.names) (read [] words) ≡ request (first ∷ words)
+request-audit first words is = ap (λ (word : Text). request (word ∷ words)) (sym (same first (codes "audit") is))
+
+module _ (first : Text) (words : List Text) (not_run : bytes_eq first (codes "run") ≡ false) (not_audit : bytes_eq first (codes "audit") ≡ false) where
   abbrev Goal : Type 0
   Goal = option_and_then (plain_asks first) (option_map (λ (r : Reading). r.names) (read [] words)) ≡ request (first ∷ words)
 
@@ -36,7 +40,7 @@ module _ (first : Text) (words : List Text) (not_run : bytes_eq first (codes "ru
   shadow : bytes_eq first (codes "canon") ≡ false → bytes_eq first (codes "check") ≡ false → bytes_eq first (codes "show") ≡ false → bytes_eq first (codes "rules") ≡ false → bytes_eq first (codes "decide") ≡ false → bytes_eq first (codes "rehearse") ≡ false
       → (b : Bool) → b ≡ bytes_eq first (codes "shadow") → Goal
   shadow a b d e f g true h = case (number_asks agent_number shadows) (λ names. rw (a, b, d, e, f, g, sym h) refl) (rw (a, b, not_run, d, e, f, g, sym h) refl)
-  shadow a b d e f g false h = case nothing (λ names. rw (a, b, d, e, f, g, sym h) (unfold nothing in refl)) (rw (a, b, not_run, d, e, f, g, sym h) (none (read [] words)))
+  shadow a b d e f g false h = case nothing (λ names. rw (a, b, d, e, f, g, sym h) (unfold nothing in refl)) (rw (a, b, not_run, d, e, f, g, sym h, not_audit) (none (read [] words)))
 
   rehearse : bytes_eq first (codes "canon") ≡ false → bytes_eq first (codes "check") ≡ false → bytes_eq first (codes "show") ≡ false → bytes_eq first (codes "rules") ≡ false → bytes_eq first (codes "decide") ≡ false
       → (b : Bool) → b ≡ bytes_eq first (codes "rehearse") → Goal
@@ -63,5 +67,16 @@ module _ (first : Text) (words : List Text) (not_run : bytes_eq first (codes "ru
   canon true h = case canon_asks (λ names. rw (sym h) refl) (rw (sym h) refl)
   canon false h = check (sym h) (bytes_eq first (codes "check")) refl
 
-  pub request-plain : Goal
+  request-plain : Goal
   request-plain = canon (bytes_eq first (codes "canon")) refl
+
+-- with `audit` or without
+pub request-names : (first : Text) (words : List Text) → bytes_eq first (codes "run") ≡ false → option_and_then (names_asks first) (option_map (λ (r : Reading). r.names) (read [] words)) ≡ request (first ∷ words)
+request-names first words not_run = go (bytes_eq first (codes "audit")) refl
+  where
+    at : (b : Bool) → b ≡ bytes_eq first (codes "audit") → (names : List Text) → names_asks first names ≡ (if b then audit_asks names else plain_asks first names)
+    at b is names = ap (λ (b : Bool). if b then audit_asks names else plain_asks first names) (sym is)
+
+    go : (b : Bool) → b ≡ bytes_eq first (codes "audit") → option_and_then (names_asks first) (option_map (λ (r : Reading). r.names) (read [] words)) ≡ request (first ∷ words)
+    go true is = swap (names_asks first) audit_asks (option_map (λ (r : Reading). r.names) (read [] words)) (at true is) ∙ via audit_asks (read [] words) ∙ request-audit first words (sym is)
+    go false is = swap (names_asks first) (plain_asks first) (option_map (λ (r : Reading). r.names) (read [] words)) (at false is) ∙ request-plain first words not_run (sym is)

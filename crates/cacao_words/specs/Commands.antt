@@ -1,13 +1,14 @@
 -- The values of the code as those of the definitions.
-use Rattle.std.specs.Prelude.{List, Option, map, option_map}
+use Rattle.std.specs.Prelude.{ℕ, List, Option, map, option_map}
 use Rattle.std.specs.Borrow.{Bor}
 use Rattle.cacao_words.specs.Words.{Text}
 use Rattle.cacao_words.specs.Found.{Parts}
-use Rattle.cacao_words.specs.Requests.{Request, RunRequest, canonises, checks, runs, shows, lists_rules, decides, rehearses, shadows}
+use Rattle.cacao_words.specs.Requests.{Request, RunRequest, canonises, checks, runs, shows, lists_rules, decides, rehearses, shadows, audits}
+use Rattle.cacao_words.specs.declared.filter_file.FilterFile.{FilterFile}
 use Rattle.cacao_words.specs.declared.reading.Found.{Found}
 use Rattle.cacao_words.specs.declared.run_words.RunWords.{RunWords}
 use Rattle.cacao_words.specs.declared.words.Command.{Command}
-use Rattle.cacao_words.specs.declared.words.Command.TheVariants.{Canon, Check, Run, Show, Rules, Decide, Rehearse, Shadow}
+use Rattle.cacao_words.specs.declared.words.Command.TheVariants.{Canon, Check, Run, Show, Rules, Decide, Rehearse, Shadow, Audit}
 
 abbrev pub maybe_text : Option (Bor Text) → Option Text
 maybe_text = option_map (λ text. text.now)
@@ -24,6 +25,10 @@ run_request wanted = record {
   books = map (λ name. name.now) wanted.books.items.items;
 }
 
+-- the number of the agent, and the name of its file
+abbrev pub filter_of : FilterFile → ℕ × Text
+filter_of file = (file.agent.number, file.name.now)
+
 abbrev pub request_by : Command → Request
 request_by (Canon book) = canonises book.now
 request_by (Check books) = checks (map (λ name. name.now) books.items.items)
@@ -33,3 +38,4 @@ request_by (Rules agent) = lists_rules agent.number
 request_by (Decide agent packets) = decides agent.number packets.now
 request_by (Rehearse positions) = rehearses positions.count
 request_by (Shadow agent) = shadows agent.number
+request_by (Audit engine filters) = audits engine.now (map filter_of filters.items)

@@ -1,5 +1,6 @@
 -- What the words of the command line ask for: one case and one row a command.
-use Rattle.std.specs.Prelude.{ℕ, nat_le, List, [], ◌∷◌, Option, Some, None, option_map, option_and_then, find, codes, if◌then◌else◌}
+use Rattle.std.specs.Prelude.{ℕ, nat_le, ◌==◌, Bool, true, not, ◌&&◌, List, [], ◌∷◌, Option, Some, None, option_map, option_and_then, find, codes, if◌then◌else◌}
+use Rattle.std.specs.List.{list_any}
 use Rattle.std.specs.Str.{bytes_eq}
 use Rattle.decimals.specs.Numbers.{number}
 use Rattle.cacao_words.specs.Words.{Text, Reading, read, value_in}
@@ -22,6 +23,7 @@ pub data Request : Type 0 where
   decides : (agent : ℕ) (packets : Text) → Request
   rehearses : (positions : ℕ) → Request
   shadows : (agent : ℕ) → Request
+  audits : (engine : Text) (filters : List (ℕ × Text)) → Request
 
 -- a number from low to most, in decimal without a sign and without a leading zero
 abbrev pub at_least : ℕ → ℕ → Option ℕ
@@ -86,6 +88,28 @@ decide_asks (agent ∷ []) = None
 decide_asks (agent ∷ packets ∷ []) = option_map (λ n. decides n packets) (agent_number agent)
 decide_asks (agent ∷ packets ∷ other ∷ names) = None
 
+-- numbers of agents, each with a name behind it
+abbrev pub pairs_of : List Text → Option (List (ℕ × Text))
+pairs_of [] = Some []
+pairs_of (agent ∷ []) = None
+pairs_of (agent ∷ name ∷ names) = option_and_then (λ n. option_map (λ more. (n, name) ∷ more) (pairs_of names)) (agent_number agent)
+
+abbrev pub has_agent : ℕ → List (ℕ × Text) → Bool
+has_agent n = list_any (λ filter. filter.0 == n)
+
+-- no agent stands twice
+abbrev pub are_apart : List (ℕ × Text) → Bool
+are_apart [] = true
+are_apart (filter ∷ filters) = not (has_agent filter.0 filters) && are_apart filters
+
+abbrev pub if_apart : List (ℕ × Text) → Option (List (ℕ × Text))
+if_apart filters = if are_apart filters then Some filters else None
+
+-- one name, and the files of agents, each agent at most once
+abbrev pub audit_asks : List Text → Option Request
+audit_asks [] = None
+audit_asks (engine ∷ names) = option_map (audits engine) (option_and_then if_apart (pairs_of names))
+
 -- a command: its name, its options, and what a reading of its words asks for
 pub record Command : Type 0 where
   pub name : Text
@@ -108,6 +132,7 @@ commands =
     ∷ command (codes "decide") [] (λ r. decide_asks r.names)
     ∷ command (codes "rehearse") [] (λ r. number_asks positions_number rehearses r.names)
     ∷ command (codes "shadow") [] (λ r. number_asks agent_number shadows r.names)
+    ∷ command (codes "audit") [] (λ r. audit_asks r.names)
     ∷ []
 
 abbrev pub request_of : List Text → Command → Option Request

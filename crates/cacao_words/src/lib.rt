@@ -1,13 +1,16 @@
 //! The words of the command line: what they ask the program to do.
 #![tactic(auto)]
 
+mod audit_words;
 mod book_names;
+mod filter_file;
 mod numbers;
 mod reading;
 mod run_words;
 mod words;
 
 pub use book_names::BookNames;
+pub use filter_file::FilterFile;
 pub use numbers::{Agent, Positions};
 pub use run_words::RunWords;
 pub use words::{Command, read_words};

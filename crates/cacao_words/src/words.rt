@@ -3,10 +3,12 @@ ghost use Rattle.std.specs.Prelude.{◌≡◌, ◌<◌, ◌≤◌, [], IfOk, IfS
 ghost use Rattle.decimals.specs.Numbers.{number};
 ghost use Rattle.cacao_words.specs.Commands.{found_parts, maybe_text, request_by};
 ghost use Rattle.cacao_words.specs.Requests.{agent_number, canon_asks, check_asks, decide_asks, most_records, number_from, positions_number, request, lists_rules, number_asks, rehearses, run_asks, run_from, run_number, run_options, shadows, show_asks};
-ghost use Rattle.cacao_words.specs.Parts.{plain_asks, run_by};
+ghost use Rattle.cacao_words.specs.Parts.{names_asks, plain_asks, run_by};
 ghost use Rattle.cacao_words.specs.Words.{read};
 
+use crate::audit_words::audit_asked;
 use crate::book_names::BookNames;
+use crate::filter_file::FilterFile;
 use crate::numbers::{Agent, Positions};
 use crate::reading::{Found, read_behind};
 use crate::run_words::RunWords;
@@ -26,21 +28,41 @@ const MOST_POSITIONS: u64 = 1_000;
 #[derive(Drop)]
 pub enum Command<'w> {
     /// To say the canonical text of the playbook in the file of this name.
-    Canon { book: &'w str },
+    Canon {
+        book: &'w str,
+    },
     /// To say whether the playbooks in the files of these names are accepted together.
-    Check { books: BookNames<'w> },
+    Check {
+        books: BookNames<'w>,
+    },
     /// To go on with a run.
-    Run { wanted: RunWords<'w> },
+    Run {
+        wanted: RunWords<'w>,
+    },
     /// To say the state of the run.
     Show,
     /// To say the rule table of this agent.
-    Rules { agent: Agent },
+    Rules {
+        agent: Agent,
+    },
     /// To say what this agent decides for each packet in the file of this name.
-    Decide { agent: Agent, packets: &'w str },
+    Decide {
+        agent: Agent,
+        packets: &'w str,
+    },
     /// To run a playbook of so many positions that is made for it.
-    Rehearse { positions: Positions },
+    Rehearse {
+        positions: Positions,
+    },
     /// To say which rules of this agent never decide.
-    Shadow { agent: Agent },
+    Shadow {
+        agent: Agent,
+    },
+    /// To say whether the engine's file of this name and those of the agents agree. An agent stands at most once.
+    Audit {
+        engine: &'w str,
+        filters: Vec<FilterFile<'w>>,
+    },
 }
 
 /// What the words after the program's name ask for; None where they have no reading.
@@ -55,9 +77,23 @@ pub fn read_words<'w>(alloc: Global, words: &'w [String]) -> Result<Option<Comma
         return read_run(alloc, words);
     }
     match read_names(alloc, words)? {
-        Some(names) => Ok(plain_asked(first, names)),
+        Some(names) => names_asked(alloc, first, names),
         None => Ok(None),
     }
+}
+
+/// What a command without options asks for with these names.
+fn names_asked<'w>(
+    alloc: Global,
+    first: &str,
+    names: Vec<&'w str>,
+) -> Result<Option<Command<'w>>, AllocError>
+    ensures { IfOk result (λ o. option_map request_by o ≡ names_asks first.entry.now (map (λ name. name.now) names.entry.items)) }
+{
+    if first == "audit" {
+        return audit_asked(alloc, names.as_slice());
+    }
+    Ok(plain_asked(first, names))
 }
 
 /// The names behind the first word, for a command without options; None where the words have no reading.
@@ -72,7 +108,7 @@ fn read_names<'w>(alloc: Global, words: &'w [String]) -> Result<Option<Vec<&'w s
     }
 }
 
-/// What a command without options asks for with these names.
+/// The same of the commands other than `audit`.
 fn plain_asked<'w>(first: &str, names: Vec<&'w str>) -> Option<Command<'w>>
     ensures { option_map request_by result ≡ plain_asks first.entry.now (map (λ name. name.now) names.entry.items) }
 {
@@ -262,7 +298,7 @@ fn most_records(steps: Option<&str>) -> Option<u64>
     }
 }
 
-fn read_agent(text: &str) -> Option<Agent>
+pub(crate) fn read_agent(text: &str) -> Option<Agent>
     ensures { option_map (λ agent. agent.number) result ≡ agent_number text.now }
 {
     let n = read_from(1, 16, text)?;

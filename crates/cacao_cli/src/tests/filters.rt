@@ -8,7 +8,7 @@ use std::alloc::{AllocError, Global};
 use std::test::Fail;
 
 /// The file of agent 1 after the command of run 7 that denies 198.51.100.7.
-const ONE_ACT: &[u8] =
+pub(super) const ONE_ACT: &[u8] =
     b"CACAOJ1\n\x01\x00\x00\x00\xf5\x10\x00\x00\x00\x00\x00\x00\x00\x07\x00\x00\x00\x00\x00\x00\x00\x00\x00\x00\x00\x00\x00\x00\x00\xa5{\"action\":\"deny\",\"args\":{\"response_requested\":\"complete\",\"slpf\":{\"drop_process\":\"none\"}},\"command_id\":\"7.0\",\"target\":{\"ipv4_connection\":{\"dst_addr\":\"198.51.100.7\"}}}\x00\x00\x003{\"results\":{\"slpf\":{\"rule_number\":1}},\"status\":200}\x00";
 
 /// The file of agent 1 after three commands: the first allows 10.0.0.0/8, the others deny nets within it.

@@ -6,7 +6,7 @@ use Rattle.cacao_cli.specs.Files.{ShelfCall}
 use Rattle.cacao_cli.proofs.CountLemmas.{disk-ended, failed-ended, steady-ended, unsaid-ended, said-ended, memory-ended}
 use Rattle.cacao_cli.proofs.ExactLemmas.{exact-ended}
 use Rattle.cacao_cli.proofs.LeaveLemmas.{leaves-ended, few-ended}
-use Rattle.cacao_cli.proofs.StatusLemmas.{damaged-ended, done-ended, words-ended, missing-ended, unreadable-ended, past-ended, refused-ended}
+use Rattle.cacao_cli.proofs.StatusLemmas.{damaged-ended, disagreement-ended, done-ended, words-ended, missing-ended, unreadable-ended, past-ended, refused-ended}
 use Rattle.cacao_cli.proofs.program.top.Goals as goal
 
 pub returns-clause-exactly : goal.returns-clause-exactly
@@ -103,4 +103,10 @@ pub returns-clause-damaged : goal.returns-clause-damaged
 returns-clause-damaged g c =
     let shelf : ShelfCall = record { told = g.L.Shelf.told c.args.shelf.now; before = g.L.Shelf.faults c.args.shelf.now; after = g.L.Shelf.faults c.perform-end.new.shelf; reads_before = g.L.Shelf.reads c.args.shelf.now; reads_after = g.L.Shelf.reads c.perform-end.new.shelf } in
     damaged-ended (asked (map string_bytes c.args.words.now)) shelf (g.S.Disk.view c.args.site.now) (g.S.Disk.view c.finish.new.site) c.finish.result
+    (record { last = end_of c.perform-end.result; between = g.S.Disk.view c.perform-end.new.site; performed = c.perform-end.ensures.performed; tells = c.finish.ensures })
+
+pub returns-clause-disagreement : goal.returns-clause-disagreement
+returns-clause-disagreement g c =
+    let shelf : ShelfCall = record { told = g.L.Shelf.told c.args.shelf.now; before = g.L.Shelf.faults c.args.shelf.now; after = g.L.Shelf.faults c.perform-end.new.shelf; reads_before = g.L.Shelf.reads c.args.shelf.now; reads_after = g.L.Shelf.reads c.perform-end.new.shelf } in
+    disagreement-ended (asked (map string_bytes c.args.words.now)) shelf (g.S.Disk.view c.args.site.now) (g.S.Disk.view c.finish.new.site) c.finish.result
     (record { last = end_of c.perform-end.result; between = g.S.Disk.view c.perform-end.new.site; performed = c.perform-end.ensures.performed; tells = c.finish.ensures })
