@@ -300,3 +300,24 @@ comes n faults Has cause answer to from apart h = record { only = only h; always
     always : Has ⊎ IsOneOf answer faults → cause → IsOneOf answer (n ∷ faults)
     always (inl has) c = inl (from has c)
     always (inr f) c = inr f
+
+-- the same of a status that others than faults may replace
+pub comes-in : (n : ℕ) (faults stands : List ℕ) (Has : Type 0) (cause : Type 0) (answer : ℕ) → (Has → answer ≡ n → cause) → (Has → cause → IsOneOf answer (n ∷ stands)) → (IsOneOf n faults → ⊥)
+    → (IsOneOf answer faults → IsOneOf answer stands) → Has ⊎ IsOneOf answer faults → ComesExactly n stands cause answer
+comes-in n faults stands Has cause answer to from apart with h = record { only = only h; always = always h }
+  where
+    only : Has ⊎ IsOneOf answer faults → answer ≡ n → cause
+    only (inl has) e = to has e
+    only (inr f) e = absurd (apart (subst (λ (m : ℕ). IsOneOf m faults) e f))
+
+    always : Has ⊎ IsOneOf answer faults → cause → IsOneOf answer (n ∷ stands)
+    always (inl has) c = from has c
+    always (inr f) c = inr (with f)
+
+-- ---- files that are all there
+
+pub first-missing : (files : Files) (list : List File) → IsMissing files list → AllWithin files list → ⊥
+first-missing files list = first-within files (λ file. files file.name ≡ None) list (missing-within files)
+
+pub first-long : (files : Files) (list : List File) → IsTooLong files list → AllWithin files list → ⊥
+first-long files list = first-within files (λ file. IsSomeAnd (files file.name) (λ bytes. most file.limit < length bytes)) list (long-within files)

@@ -9,22 +9,25 @@ use Rattle.cacao_check.specs.declared.breaks.Mode.TheVariants.{Read as Reading}
 use Rattle.oc2_nets.specs.declared.packets.Packet.{Packet}
 use Rattle.filter_reports.specs.PacketFiles.{packets_of}
 use Rattle.cacao_words.specs.Words.{Text}
-use Rattle.cacao_cli.specs.Asked.{Asked, canonises, checks, shows, lists_rules, decides, shadows, audits}
+use Rattle.cacao_cli.specs.Asked.{Asked, canonises, checks, shows, lists_rules, decides, shadows, audits, runs}
 use Rattle.cacao_cli.specs.Ends.{End, status_of, text_of, is_fault, done, accepted, refused, past, shelf_failed, no_such_file, unsaid, no_memory}
 use Rattle.cacao_cli.specs.Files.{File, Files, Content, ShelfCall, NamedText, Reads, all_read, wants_memory, stops, goes_on, text_in, item_then, named, whole, missing, too_long, failed, no_room, faults_behind, files_of, named_by, has_too_many}
 use Rattle.cacao_cli.specs.Lines.{SaysWork, Tells}
-use Rattle.cacao_cli.specs.Work.{Work, ends, judges, opens_filter, opens_run, compares, at_decisions, or_end, packets_or_end, trees_of, canon_line, work, work_on}
+use Rattle.cacao_cli.specs.Work.{Work, ends, judges, opens_filter, opens_run, compares, at_decisions, or_end, packets_or_end, trees_of, canon_line, work, work_on, starts, start_of, trees_wanted}
 use Rattle.cacao_cli.specs.Ended.{Performs, Performed, Ended}
-use Rattle.cacao_cli.specs.Exact.{IsOneOf}
+use Rattle.cacao_cli.specs.Exact.{IsOneOf, session_statuses}
 use Rattle.cacao_cli.specs.Leaves.{NoDiskFault, NoFault}
 use Rattle.cacao_cli.specs.declared.limit.Limit.TheVariants.{BookCount}
 use Rattle.cacao_cli.proofs.AuditLemmas.{compares-disk, compares-failed, compares-said, compares-unsaid, has-other}
 use Rattle.cacao_cli.proofs.CauseLemmas.{TreesCase, all_trees, one_treeless, trees_case}
 use Rattle.cacao_cli.proofs.ExactLemmas.{Comes, IsPlain, performs-comes}
+use Rattle.cacao_cli.proofs.EndCases.{not-among}
+use Rattle.cacao_cli.proofs.JudgedLemmas.{settled-listed}
 use Rattle.cacao_cli.proofs.EndLemmas.{end-failed, no-more, no_cons}
 use Rattle.cacao_cli.proofs.LeaveLemmas.{IsBrief, silent, one_line, judged, brief-audit, brief-canon, brief-check, compared}
 use Rattle.cacao_cli.proofs.OpenLemmas.{opens-grows, opens-said, opens-unsaid, opens-failed}
 use Rattle.cacao_cli.proofs.RunLemmas.{run-failed, run-grows, run-said, run-unsaid, shown-other}
+use Rattle.cacao_cli.proofs.StartLemmas.{start-failed, start-grows, start-said, start-unsaid}
 use Rattle.cacao_cli.proofs.UnsaidLemmas.{last-disk, last-said, last-unsaid, works-disk, works-said, works-unsaid}
 use Rattle.cacao_cli.proofs.LineLemmas.{IsCutOff, tells-status}
 use Rattle.cacao_cli.proofs.ReadLemmas.{Read, empty-read}
@@ -37,6 +40,7 @@ performs-disk (judges trees mode kept) old mid last plain (inr (inr h)) = ap (λ
 performs-disk (opens_filter agent look) old mid last plain h = absurd plain
 performs-disk opens_run old mid last plain h = absurd plain
 performs-disk (compares files) old mid last plain h = compares-disk files old mid last h
+performs-disk (starts start) old mid last plain h = absurd plain
 
 same-grows : (n m : ℕ) → m ≡ n → n ≤ m
 same-grows n m e = omega (arith, e)
@@ -49,6 +53,7 @@ performs-grows (judges trees mode kept) old mid last (inr (inr h)) = same-grows 
 performs-grows (opens_filter agent look) old mid last h = opens-grows agent look old mid last h
 performs-grows opens_run old mid last h = run-grows old mid mid last 0 h
 performs-grows (compares files) old mid last h = same-grows old.disk.faults mid.disk.faults (compares-disk files old mid last h)
+performs-grows (starts start) old mid last h = start-grows start old mid mid last 0 h
 
 performs-said : (w : Work) (old mid new : SiteView) (last : End) (answer : ℕ) → Performs w old mid last → Tells last mid new answer → (answer ≡ 9 → ⊥) → new.clock.unsaid ≡ old.clock.unsaid
 performs-said (ends lines end) old mid new last answer h tells unlike = works-said lines end old mid new last answer h tells unlike
@@ -58,6 +63,7 @@ performs-said (judges trees mode kept) old mid new last answer (inr (inr h)) tel
 performs-said (opens_filter agent look) old mid new last answer h tells unlike = opens-said agent look old mid new last answer h tells unlike
 performs-said opens_run old mid new last answer h tells unlike = run-said old mid new last answer h tells unlike
 performs-said (compares files) old mid new last answer h tells unlike = compares-said files old mid new last answer h tells unlike
+performs-said (starts start) old mid new last answer h tells unlike = start-said start old mid new last answer h tells unlike
 
 -- the work ends with other statuses than 2, 3, 8 and 9
 abbrev pub IsOther : Work → Type 0
@@ -66,24 +72,35 @@ IsOther (judges trees mode kept) = IsOther kept
 IsOther (opens_filter agent look) = Unit {0}
 IsOther opens_run = Unit {0}
 IsOther (compares files) = Unit {0}
+IsOther (starts start) = Unit {0}
 
-other-status : (w : Work) (old new : SiteView) (n : ℕ) → IsOther w → Comes w old new n → (n ≡ 2 → ⊥) × (n ≡ 3 → ⊥) × (n ≡ 9 → ⊥)
-other-status (ends lines end) old new n h is = (λ e. h.0 (sym is ∙ e), λ e. h.1 (sym is ∙ e), λ e. h.2 (sym is ∙ e))
+session-other : (n : ℕ) → IsOneOf n session_statuses → (n ≡ 2 → ⊥) × (n ≡ 3 → ⊥)
+session-other n h = (λ e. two (subst (λ m. IsOneOf m session_statuses) e h), λ e. three (subst (λ m. IsOneOf m session_statuses) e h))
+  where
+    two : IsOneOf 2 session_statuses → ⊥
+    two h = not-among 2 session_statuses refl h
+
+    three : IsOneOf 3 session_statuses → ⊥
+    three h = not-among 3 session_statuses refl h
+
+other-status : (w : Work) (old new : SiteView) (n : ℕ) → IsOther w → Comes w old new n → (n ≡ 2 → ⊥) × (n ≡ 3 → ⊥)
+other-status (ends lines end) old new n h is = (λ e. h.0 (sym is ∙ e), λ e. h.1 (sym is ∙ e))
 other-status (judges trees mode kept) old new n h (inl is) = other-status kept old new n h is.1
-other-status (judges trees mode kept) old new n h (inr is) = (λ e. omega (arith, e, is.1), λ e. omega (arith, e, is.1), λ e. omega (arith, e, is.1))
-other-status (opens_filter agent look) old new n h (inl (inl is)) = (λ e. omega (arith, e, is.1), λ e. omega (arith, e, is.1), λ e. omega (arith, e, is.1))
-other-status (opens_filter agent look) old new n h (inl (inr is)) = (λ e. omega (arith, e, is.1), λ e. omega (arith, e, is.1), λ e. omega (arith, e, is.1))
-other-status (opens_filter agent look) old new n h (inr is) = (λ e. omega (arith, e, is), λ e. omega (arith, e, is), λ e. omega (arith, e, is))
+other-status (judges trees mode kept) old new n h (inr is) = (λ e. omega (arith, e, is.1), λ e. omega (arith, e, is.1))
+other-status (opens_filter agent look) old new n h (inl (inl is)) = (λ e. omega (arith, e, is.1), λ e. omega (arith, e, is.1))
+other-status (opens_filter agent look) old new n h (inl (inr is)) = (λ e. omega (arith, e, is.1), λ e. omega (arith, e, is.1))
+other-status (opens_filter agent look) old new n h (inr is) = (λ e. omega (arith, e, is), λ e. omega (arith, e, is))
 other-status opens_run old new n h is = (
   λ e. shown-other old new n 2 is e (λ f. omega (arith, f)) (λ f. omega (arith, f)) (λ f. omega (arith, f)) (λ f. omega (arith, f)),
   λ e. shown-other old new n 3 is e (λ f. omega (arith, f)) (λ f. omega (arith, f)) (λ f. omega (arith, f)) (λ f. omega (arith, f)),
-  λ e. shown-other old new n 9 is e (λ f. omega (arith, f)) (λ f. omega (arith, f)) (λ f. omega (arith, f)) (λ f. omega (arith, f)),
 )
 other-status (compares files) old new n h is = (
   λ e. has-other files n 2 is e (λ f. omega (arith, f)) (λ f. omega (arith, f)) (λ f. omega (arith, f)),
   λ e. has-other files n 3 is e (λ f. omega (arith, f)) (λ f. omega (arith, f)) (λ f. omega (arith, f)),
-  λ e. has-other files n 9 is e (λ f. omega (arith, f)) (λ f. omega (arith, f)) (λ f. omega (arith, f)),
 )
+other-status (starts start) old new n h (inl is) = (λ e. omega (arith, e, is.1), λ e. omega (arith, e, is.1))
+other-status (starts start) old new n h (inr (inl is)) = (λ e. omega (arith, e, is.1), λ e. omega (arith, e, is.1))
+other-status (starts start) old new n h (inr (inr is)) = session-other n (settled-listed start is)
 
 -- neither 8 nor 9 is told as the end of lines
 abbrev pub NotUnsaid : Work → Type 0
@@ -92,6 +109,7 @@ NotUnsaid (judges trees mode kept) = NotUnsaid kept
 NotUnsaid (opens_filter agent look) = Unit {0}
 NotUnsaid opens_run = Unit {0}
 NotUnsaid (compares files) = Unit {0}
+NotUnsaid (starts start) = Unit {0}
 
 other-said : (w : Work) → IsOther w → NotUnsaid w
 other-said (ends lines end) h = (h.2, h.3)
@@ -99,16 +117,21 @@ other-said (judges trees mode kept) h = other-said kept h
 other-said (opens_filter agent look) h = tt
 other-said opens_run h = tt
 other-said (compares files) h = tt
+other-said (starts start) h = tt
 
-performs-unsaid : (w : Work) (old mid new : SiteView) (last : End) (answer : ℕ) → NotUnsaid w → Performs w old mid last → Tells last mid new answer → answer ≡ 9 → new.clock.unsaid ≡ next_count old.clock.unsaid
-performs-unsaid (ends lines end) old mid new last answer other h tells e = works-unsaid lines end old mid new last answer other.0 h tells e
+rose-next : (n m : ℕ) → m ≡ next_count n → Rose n m
+rose-next n m e = omega (arith, e)
+
+performs-unsaid : (w : Work) (old mid new : SiteView) (last : End) (answer : ℕ) → NotUnsaid w → Performs w old mid last → Tells last mid new answer → answer ≡ 9 → Rose old.clock.unsaid new.clock.unsaid
+performs-unsaid (ends lines end) old mid new last answer other h tells e = rose-next old.clock.unsaid new.clock.unsaid (works-unsaid lines end old mid new last answer other.0 h tells e)
 performs-unsaid (judges trees mode kept) old mid new last answer other (inl h) tells e = performs-unsaid kept old mid new last answer other h.1 tells e
-performs-unsaid (judges trees mode kept) old mid new last answer other (inr (inl h)) tells e =
-    last-unsaid last (text_of last) mid new answer (λ is. let k : status_of last ≡ 1 = ap status_of h.ends in omega (arith, is, k)) tells e ∙ ap (λ (s : SiteView). next_count s.clock.unsaid) h.same
+performs-unsaid (judges trees mode kept) old mid new last answer other (inr (inl h)) tells e = rose-next old.clock.unsaid new.clock.unsaid
+    (last-unsaid last (text_of last) mid new answer (λ is. let k : status_of last ≡ 1 = ap status_of h.ends in omega (arith, is, k)) tells e ∙ ap (λ (s : SiteView). next_count s.clock.unsaid) h.same)
 performs-unsaid (judges trees mode kept) old mid new last answer other (inr (inr h)) tells e = absurd (omega (arith, e, (no-more last no_memory mid new answer h.ends refl tells).1))
-performs-unsaid (opens_filter agent look) old mid new last answer other h tells e = opens-unsaid agent look old mid new last answer h tells e
-performs-unsaid opens_run old mid new last answer other h tells e = run-unsaid old mid new last answer h tells e
-performs-unsaid (compares files) old mid new last answer other h tells e = compares-unsaid files old mid new last answer h tells e
+performs-unsaid (opens_filter agent look) old mid new last answer other h tells e = rose-next old.clock.unsaid new.clock.unsaid (opens-unsaid agent look old mid new last answer h tells e)
+performs-unsaid opens_run old mid new last answer other h tells e = rose-next old.clock.unsaid new.clock.unsaid (run-unsaid old mid new last answer h tells e)
+performs-unsaid (compares files) old mid new last answer other h tells e = rose-next old.clock.unsaid new.clock.unsaid (compares-unsaid files old mid new last answer h tells e)
+performs-unsaid (starts start) old mid new last answer other h tells e = start-unsaid start old mid new last answer h tells e
 
 eight : (end : End) (last : End) (mid new : SiteView) (answer : ℕ) → last ≡ end → (status_of end ≡ 8 → ⊥) → Tells last mid new answer → answer ≡ 8 → ⊥
 eight end last mid new answer is other tells e = go (tells-status last mid new answer tells)
@@ -129,6 +152,7 @@ performs-failed (judges trees mode kept) old mid new last answer other (inr (inr
 performs-failed (opens_filter agent look) old mid new last answer other h tells e = opens-failed agent look old mid new last answer h tells e
 performs-failed opens_run old mid new last answer other h tells e = run-failed old mid new last answer h tells e
 performs-failed (compares files) old mid new last answer other h tells e = absurd (compares-failed files old mid new last answer h tells e)
+performs-failed (starts start) old mid new last answer other h tells e = start-failed start old mid new last answer h tells e
 
 -- ---- the statuses of the work
 
@@ -160,6 +184,7 @@ trees-other texts does so = go (trees_case texts)
 texts-other : (asked : Asked) (texts : List NamedText) → IsOther (work_on asked texts)
 texts-other (canonises book) texts = trees-other texts (λ roots. ends (map canon_line roots) done) (λ roots. (λ e. omega (arith, e), λ e. omega (arith, e), λ e. omega (arith, e), λ e. omega (arith, e)))
 texts-other (checks books) texts = trees-other texts (λ roots. judges roots Reading (ends [] accepted)) (λ roots. (λ e. omega (arith, e), λ e. omega (arith, e), λ e. omega (arith, e), λ e. omega (arith, e)))
+texts-other (runs wanted) texts = trees-other (trees_wanted wanted texts) (λ roots. starts (start_of wanted texts)) (λ roots. tt)
 texts-other shows texts = tt
 texts-other (lists_rules agent) texts = tt
 texts-other (shadows agent) texts = tt
@@ -240,7 +265,7 @@ not_understood-ended None shelf old new answer h e = go (performs-comes (work No
     go (inr c) = inr c
 not_understood-ended (Some asked) shelf old new answer h e = absurd (cc)
 
-pub unsaid-ended : (asked : Option Asked) (shelf : ShelfCall) (old new : SiteView) (answer : ℕ) → Ended asked shelf old new answer → answer ≡ 9 → new.clock.unsaid ≡ next_count old.clock.unsaid
+pub unsaid-ended : (asked : Option Asked) (shelf : ShelfCall) (old new : SiteView) (answer : ℕ) → Ended asked shelf old new answer → answer ≡ 9 → Rose old.clock.unsaid new.clock.unsaid
 unsaid-ended asked shelf old new answer h e = performs-unsaid (work asked h.performed.read) old h.between new h.last answer
     (no-nine asked shelf.told h.performed.reads.count h.performed.read h.performed.reads.reads) h.performed.performs h.tells e
 
@@ -332,6 +357,7 @@ no-disk-fault asked shelf old new answer h = by asked h.performed
     by None p = plain None p tt
     by (Some (canonises book)) p = plain (Some (canonises book)) p (brief-plain (work (Some (canonises book)) p.read) (brief-canon book shelf.told p.reads.count p.read p.reads.reads))
     by (Some (checks books)) p = plain (Some (checks books)) p (brief-plain (work (Some (checks books)) p.read) (brief-check books p.read))
+    by (Some (runs wanted)) p = grows (Some (runs wanted)) p
     by (Some shows) p = grows (Some shows) p
     by (Some (lists_rules agent)) p = grows (Some (lists_rules agent)) p
     by (Some (decides agent packets)) p = grows (Some (decides agent packets)) p

@@ -2,7 +2,7 @@
 use Rattle.std.proofs.Common.{◌≡◌, ◌∙◌, refl, ap, arith, ℕ, List, [], ◌∷◌, ◌++◌, Option, Some, None}
 use Rattle.cacao_site.specs.View.{SiteView}
 use Rattle.cacao_words.specs.Words.{Text}
-use Rattle.cacao_cli.specs.Ends.{End, status_of, text_of, done, accepted, refused, not_understood, past, shelf_failed, no_such_file, not_readable, agrees, disagrees, damaged, disk_failed, unsaid, no_memory}
+use Rattle.cacao_cli.specs.Ends.{End, status_of, text_of, done, accepted, refused, not_understood, past, shelf_failed, no_such_file, not_readable, agrees, disagrees, damaged, disk_failed, unsaid, no_memory, bind_refused, ended_ok, ended_failed, paused, waiting, flooded, asked_for, other_run, other_book, run_used}
 use Rattle.cacao_cli.specs.Lines.{Tells, TellsText}
 
 -- ---- the status and the line of an end
@@ -11,6 +11,16 @@ pub end-unsaid : (end : End) → status_of end ≡ 9 → text_of end ≡ None
 end-unsaid done e = refl
 end-unsaid accepted e = absurd (omega (arith, e))
 end-unsaid (refused broken) e = absurd (omega (arith, e))
+end-unsaid (bind_refused rule) e = absurd (omega (arith, e))
+end-unsaid ended_ok e = absurd (omega (arith, e))
+end-unsaid ended_failed e = absurd (omega (arith, e))
+end-unsaid paused e = absurd (omega (arith, e))
+end-unsaid (waiting moment) e = absurd (omega (arith, e))
+end-unsaid flooded e = absurd (omega (arith, e))
+end-unsaid (asked_for issue) e = absurd (omega (arith, e))
+end-unsaid (other_run held asked) e = absurd (omega (arith, e))
+end-unsaid (other_book index) e = absurd (omega (arith, e))
+end-unsaid (run_used agent) e = absurd (omega (arith, e))
 end-unsaid not_understood e = absurd (omega (arith, e))
 end-unsaid (past limit) e = absurd (omega (arith, e))
 end-unsaid (shelf_failed name) e = absurd (omega (arith, e))
@@ -27,6 +37,16 @@ pub end-memory : (end : End) → status_of end ≡ 10 → text_of end ≡ None
 end-memory done e = refl
 end-memory accepted e = absurd (omega (arith, e))
 end-memory (refused broken) e = absurd (omega (arith, e))
+end-memory (bind_refused rule) e = absurd (omega (arith, e))
+end-memory ended_ok e = absurd (omega (arith, e))
+end-memory ended_failed e = absurd (omega (arith, e))
+end-memory paused e = absurd (omega (arith, e))
+end-memory (waiting moment) e = absurd (omega (arith, e))
+end-memory flooded e = absurd (omega (arith, e))
+end-memory (asked_for issue) e = absurd (omega (arith, e))
+end-memory (other_run held asked) e = absurd (omega (arith, e))
+end-memory (other_book index) e = absurd (omega (arith, e))
+end-memory (run_used agent) e = absurd (omega (arith, e))
 end-memory not_understood e = absurd (omega (arith, e))
 end-memory (past limit) e = absurd (omega (arith, e))
 end-memory (shelf_failed name) e = absurd (omega (arith, e))
@@ -43,6 +63,16 @@ pub end-failed : (end : End) → status_of end ≡ 3 → (name : Text) × (end �
 end-failed done e = absurd (omega (arith, e))
 end-failed accepted e = absurd (omega (arith, e))
 end-failed (refused broken) e = absurd (omega (arith, e))
+end-failed (bind_refused rule) e = absurd (omega (arith, e))
+end-failed ended_ok e = absurd (omega (arith, e))
+end-failed ended_failed e = absurd (omega (arith, e))
+end-failed paused e = absurd (omega (arith, e))
+end-failed (waiting moment) e = absurd (omega (arith, e))
+end-failed flooded e = absurd (omega (arith, e))
+end-failed (asked_for issue) e = absurd (omega (arith, e))
+end-failed (other_run held asked) e = absurd (omega (arith, e))
+end-failed (other_book index) e = absurd (omega (arith, e))
+end-failed (run_used agent) e = absurd (omega (arith, e))
 end-failed not_understood e = absurd (omega (arith, e))
 end-failed (past limit) e = absurd (omega (arith, e))
 end-failed (shelf_failed name) e = (name, refl)

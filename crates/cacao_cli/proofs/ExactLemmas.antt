@@ -5,12 +5,13 @@ use Rattle.serde_json.specs.Data.{Data}
 use Rattle.cacao_check.specs.FirstBreak.{IsAccepted}
 use Rattle.cacao_check.specs.declared.breaks.Mode.TheVariants.{Read as Reading}
 use Rattle.cacao_site.specs.View.{SiteView}
+use Rattle.cacao_words.specs.Requests.{RunRequest}
 use Rattle.cacao_words.specs.Words.{Text}
-use Rattle.cacao_cli.specs.Asked.{Asked, canonises, checks, shows, lists_rules, decides, shadows, audits}
+use Rattle.cacao_cli.specs.Asked.{Asked, canonises, checks, shows, lists_rules, decides, shadows, audits, runs}
 use Rattle.cacao_cli.specs.Ends.{End, status_of, accepted, done, past, shelf_failed, no_memory}
-use Rattle.cacao_cli.specs.Files.{File, Files, ShelfCall, Reads, files_of, named_by, has_too_many, reading}
+use Rattle.cacao_cli.specs.Files.{File, Files, NamedText, ShelfCall, Reads, files_of, named_by, has_too_many, reading}
 use Rattle.cacao_cli.specs.Lines.{Tells}
-use Rattle.cacao_cli.specs.Work.{Work, ends, judges, opens_filter, opens_run, compares, or_end, canon_line, trees_of, work, work_on}
+use Rattle.cacao_cli.specs.Work.{Work, ends, judges, opens_filter, opens_run, compares, or_end, canon_line, trees_of, work, work_on, starts, start_of, trees_wanted}
 use Rattle.cacao_cli.specs.Ended.{Performs, Performed, Ended}
 use Rattle.cacao_cli.specs.Exact.{IsBroken, IsOneOf, IfFilesTold, IfTold, HasStatus, HasVerdict, Answers, file_faults, faults_of}
 use Rattle.cacao_cli.specs.declared.limit.Limit.TheVariants.{BookCount}
@@ -18,6 +19,7 @@ use Rattle.cacao_cli.proofs.AuditLemmas.{compares-comes}
 use Rattle.cacao_cli.proofs.LineLemmas.{IsCutOff, cut-among, says-status, tells-status}
 use Rattle.cacao_cli.proofs.OpenLemmas.{ComesOpened, opens-comes}
 use Rattle.cacao_cli.proofs.RunLemmas.{ComesShown, run-comes}
+use Rattle.cacao_cli.proofs.StartLemmas.{start-comes}
 use Rattle.cacao_cli.proofs.ReadLemmas.{Read, Fails, by_shelf, by_memory, empty-read, reads-told}
 
 -- what may come of the work, whatever the disk tells
@@ -27,6 +29,7 @@ Comes (judges trees mode kept) old new n = (IsAccepted trees mode × Comes kept 
 Comes (opens_filter agent look) old new n = ComesOpened agent old new n
 Comes opens_run old new n = ComesShown old new n
 Comes (compares files) old new n = HasVerdict files n
+Comes (starts start) old new n = HasStatus (starts start) old new n
 
 -- the work was done, so the status is that of the work, or a line could not be said or memory was wanted
 pub performs-comes : (w : Work) (old mid new : SiteView) (last : End) (answer : ℕ) → Performs w old mid last → Tells last mid new answer → Comes w old new answer ⊎ IsCutOff answer
@@ -34,6 +37,7 @@ performs-comes (ends lines end) old mid new last answer p tells = says-status li
 performs-comes (opens_filter agent look) old mid new last answer p tells = opens-comes agent look old mid new last answer p tells
 performs-comes opens_run old mid new last answer p tells = run-comes old mid new last answer p tells
 performs-comes (compares files) old mid new last answer p tells = compares-comes files old mid new last answer p tells
+performs-comes (starts start) old mid new last answer p tells = start-comes start old mid new last answer p tells
 performs-comes (judges trees mode kept) old mid new last answer (inl (is_kept, p)) tells = go (performs-comes kept old mid new last answer p tells)
   where
     go : Comes kept old new answer ⊎ IsCutOff answer → Comes (judges trees mode kept) old new answer ⊎ IsCutOff answer
@@ -113,6 +117,7 @@ abbrev pub IsDiskTold : Option Asked → SiteView → Type 0
 IsDiskTold None old = Unit {0}
 IsDiskTold (Some (canonises book)) old = Unit {0}
 IsDiskTold (Some (checks books)) old = Unit {0}
+IsDiskTold (Some (runs wanted)) old = Unit {0}
 IsDiskTold (Some shows) old = IsTrue old.disk.told
 IsDiskTold (Some (lists_rules agent)) old = IsTrue old.disk.told
 IsDiskTold (Some (decides agent packets)) old = IsTrue old.disk.told
@@ -126,6 +131,7 @@ IsPlain (judges trees mode kept) = IsPlain kept
 IsPlain (opens_filter agent look) = ⊥
 IsPlain opens_run = ⊥
 IsPlain (compares files) = Unit {0}
+IsPlain (starts start) = ⊥
 
 trees-plain : (r : Result (List Data) End) (does : List Data → Work) → ((roots : List Data) → IsPlain (does roots)) → IsPlain (or_end r does)
 trees-plain (Err end) does so = tt
@@ -156,6 +162,7 @@ pub if-asked : (asked : Option Asked) (told : Option Files) (old : SiteView) (P 
 if-asked None told old P h = if-told [] told P (h tt)
 if-asked (Some (canonises book)) told old P h = if-told (files_of (Some (canonises book))) told P (h tt)
 if-asked (Some (checks books)) told old P h = if-told (files_of (Some (checks books))) told P (h tt)
+if-asked (Some (runs wanted)) told old P h = if-told (files_of (Some (runs wanted))) told P (h tt)
 if-asked (Some shows) told old P h = λ disk files. h disk files (by_none refl)
 if-asked (Some (lists_rules agent)) told old P h = λ disk files. h disk files (by_none refl)
 if-asked (Some (shadows agent)) told old P h = λ disk files. h disk files (by_none refl)
@@ -167,6 +174,7 @@ pub faults-with : (asked : Option Asked) (answer : ℕ) → IsOneOf answer (file
 faults-with None answer h = h
 faults-with (Some (canonises book)) answer h = h
 faults-with (Some (checks books)) answer h = h
+faults-with (Some (runs wanted)) answer h = h
 faults-with (Some shows) answer h = inr h
 faults-with (Some (lists_rules agent)) answer h = inr h
 faults-with (Some (shadows agent)) answer h = inr h
@@ -182,6 +190,20 @@ plain-status (judges trees mode kept) old new n plain (inr h) = inr h
 plain-status (opens_filter agent look) old new n plain h = absurd plain
 plain-status opens_run old new n plain h = absurd plain
 plain-status (compares files) old new n plain h = h
+plain-status (starts start) old new n plain h = absurd plain
+
+-- so it is of `run`, whose session settles its status
+pub run-settled : (wanted : RunRequest) (r : Read) (old new : SiteView) (n : ℕ) → Comes (work (Some (runs wanted)) r) old new n → HasStatus (work (Some (runs wanted)) r) old new n
+run-settled wanted r old new n = go (has_too_many (runs wanted)) r
+  where
+    by : (t : Result (List Data) End) (texts : List NamedText) → Comes (or_end t (λ roots. starts (start_of wanted texts))) old new n → HasStatus (or_end t (λ roots. starts (start_of wanted texts))) old new n
+    by (Err end) texts h = h
+    by (Ok roots) texts h = h
+
+    go : (b : Bool) (r : Read) → Comes (if b then ends [] (past BookCount) else or_end r (work_on (runs wanted))) old new n → HasStatus (if b then ends [] (past BookCount) else or_end r (work_on (runs wanted))) old new n
+    go true r h = h
+    go false (Err end) h = h
+    go false (Ok texts) h = by (trees_of (trees_wanted wanted texts)) texts h
 
 -- over a disk that is told, what comes is the status, or 8
 pub told-status : (w : Work) (old new : SiteView) (n : ℕ) → IsTrue old.disk.told → Comes w old new n → HasStatus w old new n ⊎ (n ≡ 8)
@@ -195,6 +217,7 @@ told-status (judges trees mode kept) old new n told (inr h) = inl (inr h)
 told-status (opens_filter agent look) old new n told (inl (inl h)) = inl (inl (h.0 told, h.1))
 told-status (opens_filter agent look) old new n told (inl (inr h)) = inl (inr (h.0 told, h.1))
 told-status (opens_filter agent look) old new n told (inr e) = inr e
+told-status (starts start) old new n told h = inl h
 told-status opens_run old new n told (inl h) = inl (inl (h.0 told, h.1))
 told-status opens_run old new n told (inr (inl h)) = inl (inr (inl (h.0 told, h.1)))
 told-status opens_run old new n told (inr (inr (inl h))) = inl (inr (inr (h.0 told, h.1)))
@@ -224,6 +247,8 @@ status-told asked files shelf old new answer disk seen ended = go asked disk (st
     go None told h = plain None tt h
     go (Some (canonises book)) told h = plain (Some (canonises book)) (canon-plain book files) h
     go (Some (checks books)) told h = plain (Some (checks books)) (check-plain books files) h
+    go (Some (runs wanted)) told (inl h) = inl (run-settled wanted (reading files (files_of (Some (runs wanted)))) old new answer h)
+    go (Some (runs wanted)) told (inr f) = inr f
     go (Some shows) told h = opened (Some shows) told (λ e. inl e) h
     go (Some (lists_rules agent)) told h = opened (Some (lists_rules agent)) told (λ e. inl e) h
     go (Some (shadows agent)) told h = opened (Some (shadows agent)) told (λ e. inl e) h

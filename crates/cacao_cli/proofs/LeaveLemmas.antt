@@ -1,5 +1,5 @@
 -- What a call leaves as it was, and which counts it raises.
-use Rattle.std.proofs.Common.{◌≡◌, suc, inl, inr, ◌∙◌, refl, sym, ap, subst, arith, ℕ, Bool, true, false, List, [], ◌∷◌, ◌++◌, length, map, Option, Some, None, Result, Ok, Err}
+use Rattle.std.proofs.Common.{◌≡◌, ◌⊎◌, suc, inl, inr, ◌∙◌, refl, sym, ap, subst, arith, ℕ, Bool, true, false, List, [], ◌∷◌, ◌++◌, length, map, Option, Some, None, Result, Ok, Err}
 use Rattle.std.specs.Prelude.{if◌then◌else◌}
 use Rattle.serde_json.specs.Data.{Data}
 use Rattle.cacao_site.specs.SayCalls.{SaysOnly}
@@ -8,19 +8,25 @@ use Rattle.cacao_check.specs.declared.breaks.Mode.{Mode}
 use Rattle.cacao_check.specs.declared.breaks.Mode.TheVariants.{Read as Reading}
 use Rattle.oc2_nets.specs.declared.packets.Packet.{Packet}
 use Rattle.filter_reports.specs.PacketFiles.{packets_of}
+use Rattle.cacao_words.specs.Requests.{RunRequest}
 use Rattle.cacao_words.specs.Words.{Text}
-use Rattle.cacao_cli.specs.Asked.{Asked, canonises, checks, shows, lists_rules, decides, shadows, audits}
-use Rattle.cacao_cli.specs.Ends.{End, text_of, done, accepted, not_understood, past, not_readable, unsaid}
+use Rattle.cacao_cli.specs.Asked.{Asked, canonises, checks, shows, lists_rules, decides, shadows, audits, runs}
+use Rattle.cacao_cli.specs.Ends.{End, text_of, done, accepted, not_understood, past, not_readable, unsaid, status_of}
 use Rattle.cacao_cli.specs.Files.{File, Files, ShelfCall, NamedText, Reads, all_read, wants_memory, stops, goes_on, item_then, files_of, has_too_many}
-use Rattle.cacao_cli.specs.Lines.{SaysAll, Tells, TellsText}
-use Rattle.cacao_cli.specs.Work.{Work, ends, judges, opens_filter, opens_run, compares, at_rules, at_shadows, at_decisions, or_end, packets_or_end, tree_of, trees_of, canon_line, run_files, work, work_on}
+use Rattle.cacao_cli.specs.Lines.{SaysAll, Tells, TellsText, SaysWork}
+use Rattle.cacao_cli.specs.Work.{Work, ends, judges, opens_filter, opens_run, compares, at_rules, at_shadows, at_decisions, or_end, packets_or_end, tree_of, trees_of, canon_line, run_files, work, work_on, Start, starts, start_of, trees_wanted}
 use Rattle.cacao_cli.specs.Ended.{Performs, Performed, Ended}
-use Rattle.cacao_cli.specs.Leaves.{SaysAtMostOnce, Leaves, ReadsAtMost, WritesNothing}
+use Rattle.cacao_cli.specs.Exact.{IsOneOf, session_statuses}
+use Rattle.cacao_cli.specs.Holding.{HoldsSession}
+use Rattle.cacao_cli.specs.Leaves.{LeavesSession, SaysAtMostOnce, Leaves, ReadsAtMost, WritesNothing}
 use Rattle.cacao_cli.specs.declared.limit.Limit.TheVariants.{BookCount}
 use Rattle.cacao_cli.specs.declared.reason.Reason.TheVariants.{Line}
 use Rattle.cacao_cli.proofs.EndLemmas.{end-unsaid, end-memory, no-more, no_cons}
 use Rattle.cacao_cli.proofs.OpenLemmas.{nothing-written, opens-refl, work-some, writes-nothing}
 use Rattle.cacao_cli.proofs.RunLemmas.{run-leaves}
+use Rattle.cacao_cli.proofs.HoldLemmas.{holds-status}
+use Rattle.cacao_cli.proofs.LineLemmas.{IsCutOff, tells-status}
+use Rattle.cacao_cli.proofs.StartLemmas.{tells-line}
 use Rattle.cacao_cli.proofs.ReadLemmas.{Read, reads-few, empty-read}
 
 -- ---- what is said by a command that says one line
@@ -45,7 +51,7 @@ last-once last (Some text) mid new answer is (inl (inl h)) = record {
 last-once last (Some text) mid new answer is (inl (inr h)) = record { once = inr h.fails.only; unsaid = λ e. h.fails.said; no_memory = λ e. absurd (omega (arith, e, h.answers)) }
 last-once last (Some text) mid new answer is (inr h) = record { once = inl h.same; unsaid = λ e. ap (λ (s : SiteView). s.link.said) h.same; no_memory = λ e. h.same }
 
-tells-once : (last : End) (mid new : SiteView) (answer : ℕ) → Tells last mid new answer → SaysAtMostOnce mid new answer
+pub tells-once : (last : End) (mid new : SiteView) (answer : ℕ) → Tells last mid new answer → SaysAtMostOnce mid new answer
 tells-once last mid new answer h = last-once last (text_of last) mid new answer refl h
 
 one_cons : (front behind : List Text) (first line only : Text) → only ∷ [] ≡ (first ∷ front) ++ line ∷ behind → ⊥
@@ -58,7 +64,7 @@ one_cons front behind first line only e = no_cons front behind first line (tails
     tails : only ∷ [] ≡ (first ∷ front) ++ line ∷ behind → [] ≡ front ++ line ∷ behind
     tails e = cc
 
-brief-once : (w : Work) (old mid new : SiteView) (last : End) (answer : ℕ) → IsBrief w → Performs w old mid last → Tells last mid new answer → SaysAtMostOnce old new answer
+pub brief-once : (w : Work) (old mid new : SiteView) (last : End) (answer : ℕ) → IsBrief w → Performs w old mid last → Tells last mid new answer → SaysAtMostOnce old new answer
 brief-once w old mid new last answer (silent end) (inl h) tells = subst (λ (s : SiteView). SaysAtMostOnce s new answer) h.says (tells-once last mid new answer tells)
 brief-once w old mid new last answer (silent end) (inr (inl h)) tells = absurd (no_cons h.front h.behind h.line h.line h.is)
 brief-once w old mid new last answer (silent end) (inr (inr h)) tells = subst (λ (s : SiteView). SaysAtMostOnce s new answer) h.same (tells-once last mid new answer tells)
@@ -147,11 +153,64 @@ decide-leaves agent packets old mid new last answer (Ok (text ∷ texts)) p tell
     go (Ok found) q = writes-nothing agent (at_decisions found) old mid new last answer q tells
     go (Err number) q = nothing-written agent old old new (opens-refl agent old) (work-some [] (not_readable text.name (Line number)) old mid new last answer q tells)
 
+-- ---- `run`
+
+-- no line was said before the last
+silent-same : (end : End) (old mid : SiteView) (last : End) → SaysWork [] end old mid last → mid ≡ old
+silent-same end old mid last (inl h) = h.says
+silent-same end old mid last (inr (inl h)) = absurd (no_cons h.front h.behind h.line h.line h.is)
+silent-same end old mid last (inr (inr h)) = h.same
+
+pub silent-once : (end : End) (old mid new : SiteView) (last : End) (answer : ℕ) → SaysWork [] end old mid last → Tells last mid new answer → SaysAtMostOnce old new answer
+silent-once end old mid new last answer h tells = subst (λ (s : SiteView). SaysAtMostOnce s new answer) (silent-same end old mid last h) (tells-once last mid new answer tells)
+
+-- the session was held, and one line said at most behind it; or that line alone
+abbrev pub RunLeft : RunRequest → SiteView → SiteView → ℕ → Type 0
+RunLeft wanted old new answer = SaysAtMostOnce old new answer ⊎ (LeavesSession wanted old new × ((IsOneOf answer session_statuses) ⊎ IsCutOff answer))
+
+start-left : (wanted : RunRequest) (texts : List NamedText) (old mid new : SiteView) (last : End) (answer : ℕ) → Performs (starts (start_of wanted texts)) old mid last → Tells last mid new answer → RunLeft wanted old new answer
+start-left wanted texts old mid new last answer p tells = go p
+  where
+    start : Start
+    start = start_of wanted texts
+
+    same : mid ≡ old → RunLeft wanted old new answer
+    same e = inl (subst (λ (s : SiteView). SaysAtMostOnce s new answer) e (tells-once last mid new answer tells))
+
+    listed : HoldsSession start old mid last → (answer ≡ status_of last) ⊎ IsCutOff answer → (IsOneOf answer session_statuses) ⊎ IsCutOff answer
+    listed h (inl e) = inl (subst (λ (n : ℕ). IsOneOf n session_statuses) (sym e) (holds-status h.given start.run start.most h.answers old mid last h.holds))
+    listed h (inr c) = inr c
+
+    go : Performs (starts start) old mid last → RunLeft wanted old new answer
+    go (inl h) = same h.same
+    go (inr (inl h)) = same h.same
+    go (inr (inr (inl h))) = same h.same
+    go (inr (inr (inr (inl h)))) = inr (
+      record { start = start; of_run = refl; most = refl; last = last; came = record { between = mid; session = h; behind = tells-line last mid new answer tells } },
+      listed h (tells-status last mid new answer tells),
+    )
+    go (inr (inr (inr (inr h)))) = same h.same
+
+pub run-left : (wanted : RunRequest) (r : Read) (b : Bool) (old mid new : SiteView) (last : End) (answer : ℕ) → Performs (if b then ends [] (past BookCount) else or_end r (work_on (runs wanted))) old mid last
+    → Tells last mid new answer → RunLeft wanted old new answer
+run-left wanted r true old mid new last answer h tells = inl (silent-once (past BookCount) old mid new last answer h tells)
+run-left wanted (Err end) false old mid new last answer h tells = inl (silent-once end old mid new last answer h tells)
+run-left wanted (Ok texts) false old mid new last answer h tells = go (trees_of (trees_wanted wanted texts)) h
+  where
+    go : (t : Result (List Data) End) → Performs (or_end t (λ roots. starts (start_of wanted texts))) old mid last → RunLeft wanted old new answer
+    go (Err end) h = inl (silent-once end old mid new last answer h tells)
+    go (Ok roots) h = start-left wanted texts old mid new last answer h tells
+
 pub leaves-ended : (asked : Option Asked) (shelf : ShelfCall) (old new : SiteView) (answer : ℕ) → Ended asked shelf old new answer → Leaves asked old new answer
 leaves-ended None shelf old new answer h = brief-once (ends [] not_understood) old h.between new h.last answer (silent not_understood) h.performed.performs h.tells
 leaves-ended (Some (canonises book)) shelf old new answer h = brief-once (work (Some (canonises book)) h.performed.read) old h.between new h.last answer
     (brief-canon book shelf.told h.performed.reads.count h.performed.read h.performed.reads.reads) h.performed.performs h.tells
 leaves-ended (Some (checks books)) shelf old new answer h = brief-once (work (Some (checks books)) h.performed.read) old h.between new h.last answer (brief-check books h.performed.read) h.performed.performs h.tells
+leaves-ended (Some (runs wanted)) shelf old new answer h = go (run-left wanted h.performed.read (has_too_many (runs wanted)) old h.between new h.last answer h.performed.performs h.tells)
+  where
+    go : RunLeft wanted old new answer → SaysAtMostOnce old new answer ⊎ LeavesSession wanted old new
+    go (inl once) = inl once
+    go (inr left) = inr left.0
 leaves-ended (Some shows) shelf old new answer h = run-leaves old h.between new h.last answer (show-performed shelf old h.between h.last h.performed) h.tells
 leaves-ended (Some (lists_rules agent)) shelf old new answer h = writes-nothing agent at_rules old h.between new h.last answer (rules-performed agent shelf old h.between h.last h.performed) h.tells
 leaves-ended (Some (decides agent packets)) shelf old new answer h = decide-leaves agent packets old h.between new h.last answer h.performed.read h.performed.performs h.tells

@@ -33,7 +33,7 @@ same-file n m e = grind arith
 other-file : (n m : ℕ) → false ≡ (n == m) → n ≡ m → ⊥
 other-file n m e f = grind arith
 
-each-file : (file : ℕ) (old between new : SiteView) → Opens file old between → KeepsDisk between.disk new.disk → (other : ℕ) → EachBeat other old.disk new.disk (IsLeft old.disk other old.disk.beat)
+pub each-file : (file : ℕ) (old between new : SiteView) → Opens file old between → KeepsDisk between.disk new.disk → (other : ℕ) → EachBeat other old.disk new.disk (IsLeft old.disk other old.disk.beat)
 each-file file old between new opens keeps other = go (other == file) refl
   where
     go : (b : Bool) → b ≡ (other == file) → EachBeat other old.disk new.disk (IsLeft old.disk other old.disk.beat)

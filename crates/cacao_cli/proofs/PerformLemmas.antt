@@ -8,18 +8,19 @@ use Rattle.cacao_site.specs.View.{SiteView}
 use Rattle.oc2_nets.specs.declared.packets.Packet.{Packet}
 use Rattle.filter_reports.specs.PacketFiles.{packets_of}
 use Rattle.cacao_words.specs.Words.{Text}
-use Rattle.cacao_cli.specs.Asked.{Asked, canonises, checks, shows, lists_rules, decides, shadows, audits}
+use Rattle.cacao_cli.specs.Asked.{Asked, canonises, checks, shows, lists_rules, decides, shadows, audits, runs}
 use Rattle.cacao_cli.specs.Audited.{TellsFiles}
 use Rattle.cacao_cli.specs.Command.{IsJudgement}
-use Rattle.cacao_cli.specs.Ends.{End, accepted, past, not_understood, not_readable, no_memory}
-use Rattle.cacao_cli.specs.Files.{File, ShelfCall, NamedText, ReadsTo, book_file, files_of, journal_file, packet_file, has_too_many}
+use Rattle.cacao_cli.specs.Ends.{End, accepted, past, not_understood, not_readable, no_memory, done}
+use Rattle.cacao_cli.specs.Files.{File, ShelfCall, NamedText, ReadsTo, book_file, files_of, journal_file, packet_file, has_too_many, item_then, run_names}
 use Rattle.cacao_cli.specs.Lines.{SaysWork}
-use Rattle.cacao_cli.specs.Work.{ends, judges, opens_filter, opens_run, compares, at_rules, at_shadows, at_decisions, or_end, packets_or_end, run_files, trees_of, work_on}
+use Rattle.cacao_cli.specs.Work.{ends, judges, opens_filter, opens_run, compares, at_rules, at_shadows, at_decisions, or_end, packets_or_end, run_files, trees_of, work_on, starts, canon_line, start_of, tree_of, trees_wanted}
 use Rattle.cacao_cli.specs.Ended.{Performs, Performed}
 use Rattle.cacao_cli.specs.declared.limit.Limit.TheVariants.{BookCount}
 use Rattle.cacao_cli.proofs.CauseLemmas.{TreesCase, all_trees, one_treeless, trees_case}
 use Rattle.cacao_cli.proofs.OpenLemmas.{opens-refl}
 use Rattle.cacao_cli.proofs.ReadLemmas.{Read, none-read, wanted-before}
+use Rattle.cacao_cli.proofs.TreeLemmas.{TreeCase, has_tree, tree_case, treeless}
 
 -- nothing is said, and the end is this one
 pub says-end : (end : End) (site : SiteView) → SaysWork [] end site site end
@@ -54,6 +55,28 @@ performed-memory (Some (checks books)) shelf site same steady = go (has_too_many
       read = p.0;
       reads = subst (λ (b : Bool). ReadsTo shelf (if b then [] else map book_file books) p.0) (sym few) p.1.0;
       performs = subst (λ (b : Bool). Performs (if b then ends [] (past BookCount) else or_end p.0 (work_on (checks books))) site site no_memory) (sym few) p.1.1;
+    }
+performed-memory (Some (runs wanted)) shelf site same steady = go (has_too_many (runs wanted)) refl
+  where
+    by : (names : List Text) → (read : Read) × (ReadsTo shelf (map book_file names) read × Performs (or_end read (work_on (runs wanted))) site site no_memory)
+    by [] = (Ok [], (none-read shelf same steady, at (trees_case (trees_wanted wanted []))))
+      where
+        at : TreesCase (trees_wanted wanted []) → Performs (or_end (trees_of (trees_wanted wanted [])) (λ roots. starts (start_of wanted []))) site site no_memory
+        at (all_trees roots r e) = subst (λ (t : Result (List Data) End). Performs (or_end t (λ roots. starts (start_of wanted []))) site site no_memory) (sym e) (inr (inr (inr (inr (record { same = refl; ends = refl })))))
+        at (one_treeless name reason r e) =
+            subst (λ (t : Result (List Data) End). Performs (or_end t (λ roots. starts (start_of wanted []))) site site no_memory) (sym e) (inr (inr (record { same = refl; no_fault = refl; ends = refl })))
+    by (name ∷ names) = (Err no_memory, (wanted-before shelf (book_file name) (map book_file names) same steady, says-end no_memory site))
+
+    go : (b : Bool) → has_too_many (runs wanted) ≡ b → Performed (Some (runs wanted)) shelf site site no_memory
+    go true many = record {
+      read = Ok [];
+      reads = subst (λ (b : Bool). ReadsTo shelf (if b then [] else map book_file (run_names wanted)) (Ok [])) (sym many) (none-read shelf same steady);
+      performs = subst (λ (b : Bool). Performs (if b then ends [] (past BookCount) else or_end (Ok []) (work_on (runs wanted))) site site no_memory) (sym many) (inr (inr (record { same = refl; no_fault = refl; ends = refl })));
+    }
+    go false few = let p = by (run_names wanted) in record {
+      read = p.0;
+      reads = subst (λ (b : Bool). ReadsTo shelf (if b then [] else map book_file (run_names wanted)) p.0) (sym few) p.1.0;
+      performs = subst (λ (b : Bool). Performs (if b then ends [] (past BookCount) else or_end p.0 (work_on (runs wanted))) site site no_memory) (sym few) p.1.1;
     }
 performed-memory (Some shows) shelf site same steady = record { read = Ok []; reads = none-read shelf same steady; performs = inr (inr (inr (inr (record { opens = opens-refl 0 site; ends = refl })))) }
 performed-memory (Some (lists_rules agent)) shelf site same steady = record { read = Ok []; reads = none-read shelf same steady; performs = inr (inr (inr (record { opens = opens-refl agent site; ends = refl }))) }
@@ -131,10 +154,10 @@ decide-found agent packets shelf text found old new end reads is performs = reco
 
 -- ---- check
 
-nat_lt-no : (n : ℕ) → n ≤ 16 → nat_lt 16 n ≡ false
+pub nat_lt-no : (n : ℕ) → n ≤ 16 → nat_lt 16 n ≡ false
 nat_lt-no n le = grind arith
 
-nat_lt-yes : (n : ℕ) → 16 < n → nat_lt 16 n ≡ true
+pub nat_lt-yes : (n : ℕ) → 16 < n → nat_lt 16 n ≡ true
 nat_lt-yes n lt = grind arith
 
 -- too many playbooks
@@ -152,7 +175,7 @@ check-many names shelf site lt same steady = record {
 pub few-files : (names : List (Bor Text)) → length names ≤ 16 → has_too_many (checks (map (λ name. name.now) names)) ≡ false
 few-files names le = ap (nat_lt 16) (length-map names (λ name. name.now)) ∙ nat_lt-no (length names) le
 
-files-named : (names : List (Bor Text)) → map (λ name. book_file name.now) names ≡ map book_file (map (λ name. name.now) names)
+pub files-named : (names : List (Bor Text)) → map (λ name. book_file name.now) names ≡ map book_file (map (λ name. name.now) names)
 files-named [] = refl
 files-named (name ∷ names) = ap (λ (rest : List File). book_file name.now ∷ rest) (files-named names)
 
@@ -188,3 +211,21 @@ check-judged books texts roots site end is judged = subst (λ (r : Result (List 
     go (inl (kept, e)) = inl (kept, inl (record { says = refl; ends = e }))
     go (inr (inl (broken, first, e))) = inr (inl (record { broken = broken; first = first; same = refl; ends = e }))
     go (inr (inr e)) = inr (inr (record { same = refl; ends = e }))
+
+-- ---- `canon`
+
+-- the text has no tree, or memory was wanted for it
+pub canon-untold : (book : Text) (shelf : ShelfCall) (site : SiteView) (text : NamedText) (end : End) → ReadsTo shelf (book_file book ∷ []) (Ok (text ∷ [])) → (tree_of text ≡ Err end) ⊎ (end ≡ no_memory)
+    → Performed (Some (canonises book)) shelf site site end
+canon-untold book shelf site text end reads why = record { read = Ok (text ∷ []); reads = reads; performs = go why }
+  where
+    as-tree : (r : Result Data End) (last : End) → tree_of text ≡ r → Performs (or_end (item_then r (Ok [])) (λ roots. ends (map canon_line roots) done)) site site last → Performs (work_on (canonises book) (text ∷ [])) site site last
+    as-tree r last is h = subst (λ (r : Result Data End). Performs (or_end (item_then r (Ok [])) (λ roots. ends (map canon_line roots) done)) site site last) (sym is) h
+
+    wanted : TreeCase text.name text.bytes → Performs (work_on (canonises book) (text ∷ [])) site site no_memory
+    wanted (has_tree root has is) = as-tree (Ok root) no_memory is (inr (inr (record { same = refl; no_fault = refl; ends = refl })))
+    wanted (treeless reason none is) = as-tree (Err (not_readable text.name reason)) no_memory is (inr (inr (record { same = refl; no_fault = refl; ends = refl })))
+
+    go : (tree_of text ≡ Err end) ⊎ (end ≡ no_memory) → Performs (work_on (canonises book) (text ∷ [])) site site end
+    go (inl is) = as-tree (Err end) end is (says-end end site)
+    go (inr is) = subst (λ (e : End). Performs (work_on (canonises book) (text ∷ [])) site site e) (sym is) (wanted (tree_case text.name text.bytes))

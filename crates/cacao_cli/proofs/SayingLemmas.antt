@@ -38,7 +38,7 @@ keeps-refl disk = record {
   faults = refl;
 }
 
-keeps-trans : (a b c : DiskView) → KeepsDisk a b → KeepsDisk b c → KeepsDisk a c
+pub keeps-trans : (a b c : DiskView) → KeepsDisk a b → KeepsDisk b c → KeepsDisk a c
 keeps-trans a b c p q = record {
   goes_on = goes_on-trans p.goes_on q.goes_on;
   stays = λ file. stays-trans p.goes_on q.goes_on (p.stays file) (q.stays file);

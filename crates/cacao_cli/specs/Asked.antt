@@ -1,13 +1,14 @@
 -- What the program is asked to do: one case and one row a command that is built.
 use Rattle.std.specs.Prelude.{ℕ, List, Option, Some, None, option_and_then}
 use Rattle.cacao_words.specs.Words.{Text}
-use Rattle.cacao_words.specs.Requests.{Request, request}
+use Rattle.cacao_words.specs.Requests.{Request, RunRequest, request}
 use Rattle.cacao_words.specs.Requests as words
 
 -- what the program is asked to do
 pub data Asked : Type 0 where
   canonises : (book : Text) → Asked
   checks : (books : List Text) → Asked
+  runs : (wanted : RunRequest) → Asked
   shows : Asked
   lists_rules : (agent : ℕ) → Asked
   decides : (agent : ℕ) (packets : Text) → Asked
@@ -18,7 +19,7 @@ pub data Asked : Type 0 where
 abbrev pub built : Request → Option Asked
 built (words.canonises book) = Some (canonises book)
 built (words.checks books) = Some (checks books)
-built (words.runs wanted) = None
+built (words.runs wanted) = Some (runs wanted)
 built words.shows = Some shows
 built (words.lists_rules agent) = Some (lists_rules agent)
 built (words.decides agent packets) = Some (decides agent packets)

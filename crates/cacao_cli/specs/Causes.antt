@@ -1,5 +1,5 @@
 -- The causes of the statuses, in words of their own. The files are those of the words, in the order in which they are read.
-use Rattle.std.specs.Prelude.{◌≡◌, ◌⊎◌, ℕ, ◌<◌, ◌≤◌, length, List, [], ◌∷◌, Option, Some, None, IsSomeAnd, IsOkAnd, true, false, Ok, Err}
+use Rattle.std.specs.Prelude.{◌≡◌, ◌⊎◌, ℕ, ◌<◌, ◌≤◌, length, List, [], ◌∷◌, Option, Some, None, IsSomeAnd, IsOkAnd, true, false, Ok, Err, map}
 use Rattle.serde_json.specs.Data.{Data}
 use Rattle.cacao_json.specs.Reading.{tree}
 use Rattle.cacao_check.specs.FirstBreak.{IsAccepted}
@@ -8,13 +8,16 @@ use Rattle.cacao_check.specs.declared.breaks.Mode.TheVariants.{Read}
 use Rattle.oc2_nets.specs.declared.packets.Packet.{Packet}
 use Rattle.filter_reports.specs.PacketFiles.{packets_of}
 use Rattle.cacao_site.specs.View.{SiteView}
-use Rattle.cacao_cli.specs.Asked.{Asked, canonises, checks, shows, lists_rules, decides, shadows, audits}
+use Rattle.cacao_cli.specs.Asked.{Asked, canonises, checks, shows, lists_rules, decides, shadows, audits, runs}
 use Rattle.cacao_cli.specs.Audited.{Agree, Disagree, PassTasks}
-use Rattle.cacao_cli.specs.Ends.{most}
+use Rattle.cacao_cli.specs.Ends.{most, End, asked_for, damaged, ended_ok, other_book, other_run, past, run_used, waiting}
+use Rattle.cacao_words.specs.Requests.{RunRequest}
 use Rattle.cacao_cli.specs.Exact.{IsBroken}
+use Rattle.cacao_cli.specs.Holding.{CameTo, HasBadAnswer, IsRefusedStart}
+use Rattle.cacao_cli.specs.declared.limit.Limit.{Limit}
 use Rattle.cacao_cli.specs.Openings.{HoldsFilter, HoldsRun, IsDamagedFilter, IsDamagedRun, IsTooLargeRun}
-use Rattle.cacao_cli.specs.Files.{File, Files, files_of, has_too_many, packet_file, reading}
-use Rattle.cacao_cli.specs.Work.{run_files}
+use Rattle.cacao_cli.specs.Files.{File, Files, files_of, has_too_many, packet_file, reading, NamedText, book_file, run_names}
+use Rattle.cacao_cli.specs.Work.{run_files, start_of, trees_wanted}
 use Rattle.cacao_words.specs.Words.{Text}
 
 -- the file is there, within its limit
@@ -65,11 +68,61 @@ HasBadLine files file = IsSomeAnd (files file.name) (λ bytes. (number : ℕ) ×
 abbrev pub IsAuditOf : Files → Text → List (ℕ × Text) → (List Text → Type 0) → Type 0
 IsAuditOf files engine filters P = IsOkAnd (reading files (files_of (Some (audits engine filters)))) (λ texts. P (run_files filters texts))
 
+-- ---- the files of `run`
+
+-- not too many playbooks are named, and each file is there within its limit: these are their texts
+pub record HasTexts (files : Files) (wanted : RunRequest) (texts : List NamedText) : Type 0 where
+  pub few : has_too_many (runs wanted) ≡ false
+  pub are : reading files (map book_file (run_names wanted)) ≡ Ok texts
+
+-- one of the texts has no tree
+abbrev pub LacksTree : List NamedText → Type 0
+LacksTree [] = ⊥
+LacksTree (text ∷ texts) = (tree text.bytes ≡ None) ⊎ LacksTree texts
+
+-- each of the texts that want a tree has one
+abbrev pub HasTrees : RunRequest → List NamedText → Type 0
+HasTrees wanted texts = LacksTree (trees_wanted wanted texts) → ⊥
+
+-- a session was held with what the texts give, and came to this end
+pub record SessionTo (wanted : RunRequest) (files : Files) (last : End) (old new : SiteView) : Type 0 where
+  pub texts : List NamedText
+  pub has : HasTexts files wanted texts
+  pub trees : HasTrees wanted texts
+  pub came : CameTo (start_of wanted texts) last old new
+
+-- so it was with a command that holds a session
+abbrev pub EndsAs : Option Asked → Files → End → SiteView → SiteView → Type 0
+EndsAs None files last old new = ⊥
+EndsAs (Some (canonises book)) files last old new = ⊥
+EndsAs (Some (checks books)) files last old new = ⊥
+EndsAs (Some (runs wanted)) files last old new = SessionTo wanted files last old new
+EndsAs (Some shows) files last old new = ⊥
+EndsAs (Some (lists_rules agent)) files last old new = ⊥
+EndsAs (Some (decides agent packets)) files last old new = ⊥
+EndsAs (Some (shadows agent)) files last old new = ⊥
+EndsAs (Some (audits engine filters)) files last old new = ⊥
+
+-- it found the engine's file taken by another run, or by one of other texts, or the number used
+abbrev pub EndsAsAnother : Option Asked → Files → SiteView → SiteView → Type 0
+EndsAsAnother asked files old new =
+    ((held : ℕ) × (number : ℕ) × EndsAs asked files (other_run held number) old new)
+    ⊎ (((index : ℕ) × EndsAs asked files (other_book index) old new) ⊎ ((agent : ℕ) × EndsAs asked files (run_used agent) old new))
+
+-- it waits for a moment, or for an operator's answer
+abbrev pub EndsAsWaiting : Option Asked → Files → SiteView → SiteView → Type 0
+EndsAsWaiting asked files old new = (moment : ℕ) × EndsAs asked files (waiting moment) old new
+
+abbrev pub EndsAsAsked : Option Asked → Files → SiteView → SiteView → Type 0
+EndsAsAsked asked files old new = (issue : ℕ) × EndsAs asked files (asked_for issue) old new
+
 -- a file of the words has no reading, and all are there within their limits
 abbrev pub IsUnreadable : Option Asked → Files → Type 0
 IsUnreadable None files = ⊥
 IsUnreadable (Some (canonises book)) files = AllWithin files (files_of (Some (canonises book))) × SomeTreeless files (files_of (Some (canonises book)))
 IsUnreadable (Some (checks books)) files = AllWithin files (files_of (Some (checks books))) × SomeTreeless files (files_of (Some (checks books)))
+IsUnreadable (Some (runs wanted)) files =
+    (texts : List NamedText) × HasTexts files wanted texts × (LacksTree (trees_wanted wanted texts) ⊎ HasBadAnswer (start_of wanted texts))
 IsUnreadable (Some shows) files = ⊥
 IsUnreadable (Some (lists_rules agent)) files = ⊥
 IsUnreadable (Some (decides agent packets)) files = IsWithin files (packet_file packets) × HasBadLine files (packet_file packets)
@@ -86,6 +139,8 @@ abbrev pub IsRefused : Option Asked → Files → Type 0
 IsRefused None files = ⊥
 IsRefused (Some (canonises book)) files = ⊥
 IsRefused (Some (checks books)) files = (has_too_many (checks books) ≡ false) × BreaksRule files (files_of (Some (checks books))) Read
+IsRefused (Some (runs wanted)) files =
+    (texts : List NamedText) × HasTexts files wanted texts × HasTrees wanted texts × IsRefusedStart (start_of wanted texts)
 IsRefused (Some shows) files = ⊥
 IsRefused (Some (lists_rules agent)) files = ⊥
 IsRefused (Some (decides agent packets)) files = ⊥
@@ -97,6 +152,8 @@ abbrev pub IsPastLimit : Option Asked → Files → SiteView → SiteView → Ty
 IsPastLimit None files old new = ⊥
 IsPastLimit (Some (canonises book)) files old new = (has_too_many (canonises book) ≡ true) ⊎ IsTooLong files (files_of (Some (canonises book)))
 IsPastLimit (Some (checks books)) files old new = (has_too_many (checks books) ≡ true) ⊎ IsTooLong files (files_of (Some (checks books)))
+IsPastLimit (Some (runs wanted)) files old new =
+    ((has_too_many (runs wanted) ≡ true) ⊎ IsTooLong files (files_of (Some (runs wanted)))) ⊎ ((limit : Limit) × SessionTo wanted files (past limit) old new)
 IsPastLimit (Some shows) files old new = IsTooLargeRun new
 IsPastLimit (Some (lists_rules agent)) files old new = ⊥
 IsPastLimit (Some (decides agent packets)) files old new = IsTooLong files (files_of (Some (decides agent packets)))
@@ -114,6 +171,7 @@ abbrev pub CanBeDone : Option Asked → Files → SiteView → SiteView → Type
 CanBeDone None files old new = ⊥
 CanBeDone (Some (canonises book)) files old new = (root : Data) × Trees files (files_of (Some (canonises book))) (root ∷ [])
 CanBeDone (Some (checks books)) files old new = (has_too_many (checks books) ≡ false) × KeepsRules files (files_of (Some (checks books))) Read
+CanBeDone (Some (runs wanted)) files old new = SessionTo wanted files ended_ok old new
 CanBeDone (Some shows) files old new = HoldsRun new
 CanBeDone (Some (lists_rules agent)) files old new = HoldsFilter agent new
 CanBeDone (Some (decides agent packets)) files old new = IsPacketFile files (packet_file packets) × HoldsFilter agent new
@@ -125,6 +183,7 @@ abbrev pub FindsItDamaged : Option Asked → Files → SiteView → SiteView →
 FindsItDamaged None files old new = ⊥
 FindsItDamaged (Some (canonises book)) files old new = ⊥
 FindsItDamaged (Some (checks books)) files old new = ⊥
+FindsItDamaged (Some (runs wanted)) files old new = (file : ℕ) × (place : ℕ) × SessionTo wanted files (damaged file place) old new
 FindsItDamaged (Some shows) files old new = IsDamagedRun new
 FindsItDamaged (Some (lists_rules agent)) files old new = IsDamagedFilter agent new
 FindsItDamaged (Some (decides agent packets)) files old new = IsPacketFile files (packet_file packets) × IsDamagedFilter agent new
@@ -136,6 +195,7 @@ abbrev pub FindsDisagreement : Option Asked → Files → Type 0
 FindsDisagreement None files = ⊥
 FindsDisagreement (Some (canonises book)) files = ⊥
 FindsDisagreement (Some (checks books)) files = ⊥
+FindsDisagreement (Some (runs wanted)) files = ⊥
 FindsDisagreement (Some shows) files = ⊥
 FindsDisagreement (Some (lists_rules agent)) files = ⊥
 FindsDisagreement (Some (decides agent packets)) files = ⊥

@@ -38,6 +38,16 @@ abbrev pub end_of : End → as_said.End
 end_of how.Done = as_said.done
 end_of how.Accepted = as_said.accepted
 end_of (how.Refused broken) = as_said.refused broken
+end_of (how.BindRefused rule) = as_said.bind_refused rule
+end_of how.EndedOk = as_said.ended_ok
+end_of how.EndedFailed = as_said.ended_failed
+end_of how.Paused = as_said.paused
+end_of (how.Waiting moment) = as_said.waiting moment
+end_of how.Flooded = as_said.flooded
+end_of (how.Asked issue) = as_said.asked_for issue
+end_of (how.OtherRun held asked) = as_said.other_run held asked
+end_of (how.OtherBook index) = as_said.other_book index
+end_of (how.RunUsed agent) = as_said.run_used agent
 end_of how.NotUnderstood = as_said.not_understood
 end_of (how.Past limit) = as_said.past limit
 end_of (how.ShelfFailed line) = as_said.shelf_failed line.name.now

@@ -3,7 +3,7 @@ use Rattle.std.specs.Prelude.{ℕ, Bool, true, false, ◌++◌, codes, decimal, 
 use Rattle.cacao_check.specs.declared.breaks.Break.{Break}
 use Rattle.cacao_words.specs.Words.{Text}
 use Rattle.cacao_cli.specs.declared.limit.Limit.{Limit}
-use Rattle.cacao_cli.specs.declared.limit.Limit.TheVariants.{FileBytes, BookCount, TaskCount, JournalBytes}
+use Rattle.cacao_cli.specs.declared.limit.Limit.TheVariants.{FileBytes, BookCount, TaskCount, JournalBytes, LastMoment, CommandBytes}
 use Rattle.cacao_cli.specs.declared.reason.Reason.{Reason}
 use Rattle.cacao_cli.specs.declared.reason.Reason.TheVariants.{NotJson, RepeatedName, NotWhole, Line}
 
@@ -12,6 +12,8 @@ limit_name FileBytes = codes "file"
 limit_name BookCount = codes "books"
 limit_name TaskCount = codes "tasks"
 limit_name JournalBytes = codes "journal"
+limit_name LastMoment = codes "moment"
+limit_name CommandBytes = codes "command"
 
 -- the most that is taken
 abbrev pub most : Limit → ℕ
@@ -19,6 +21,8 @@ most FileBytes = 1048576
 most BookCount = 16
 most TaskCount = 1000000
 most JournalBytes = 67108864
+most LastMoment = 9000000000000000
+most CommandBytes = 1048576
 
 abbrev pub limit_text : Limit → Text
 limit_text limit = limit_name limit ++ (codes " " ++ decimal (most limit))
@@ -43,6 +47,16 @@ pub data End : Type 0 where
   done : End  -- all was said before
   accepted : End
   refused : (broken : Break) → End
+  bind_refused : (rule : ℕ) → End  -- a rule of bindings is broken
+  ended_ok : End
+  ended_failed : End
+  paused : End
+  waiting : (moment : ℕ) → End
+  flooded : End
+  asked_for : (issue : ℕ) → End  -- the run waits for an operator alone
+  other_run : (held asked : ℕ) → End
+  other_book : (index : ℕ) → End
+  run_used : (agent : ℕ) → End
   not_understood : End
   past : (limit : Limit) → End
   shelf_failed : (name : Text) → End
@@ -59,6 +73,16 @@ abbrev pub status_of : End → ℕ
 status_of done = 0
 status_of accepted = 0
 status_of (refused broken) = 1
+status_of (bind_refused rule) = 1
+status_of ended_ok = 0
+status_of ended_failed = 6
+status_of paused = 7
+status_of (waiting moment) = 14
+status_of flooded = 15
+status_of (asked_for issue) = 16
+status_of (other_run held asked) = 12
+status_of (other_book index) = 12
+status_of (run_used agent) = 12
 status_of not_understood = 2
 status_of (past limit) = 11
 status_of (shelf_failed name) = 3
@@ -76,6 +100,16 @@ abbrev pub text_of : End → Option Text
 text_of done = None
 text_of accepted = Some (codes "accepted")
 text_of (refused broken) = Some (codes "refused: " ++ break_text broken)
+text_of (bind_refused rule) = Some (codes "refused: bind rule B" ++ decimal rule)
+text_of ended_ok = Some (codes "ended ok")
+text_of ended_failed = Some (codes "ended failed")
+text_of paused = Some (codes "paused")
+text_of (waiting moment) = Some (codes "waiting " ++ decimal moment)
+text_of flooded = Some (codes "flooded")
+text_of (asked_for issue) = Some (codes "asked " ++ decimal issue)
+text_of (other_run held asked) = Some (codes "other run " ++ (decimal held ++ (codes " " ++ decimal asked)))
+text_of (other_book index) = Some (codes "other playbook " ++ decimal index)
+text_of (run_used agent) = Some (codes "run used " ++ decimal agent)
 text_of not_understood = Some (codes "words not understood")
 text_of (past limit) = Some (codes "limit: " ++ limit_text limit)
 text_of (shelf_failed name) = Some (codes "shelf failed: " ++ name)
@@ -93,6 +127,16 @@ abbrev pub is_fault : End → Bool
 is_fault done = false
 is_fault accepted = false
 is_fault (refused broken) = false
+is_fault (bind_refused rule) = false
+is_fault ended_ok = false
+is_fault ended_failed = false
+is_fault paused = false
+is_fault (waiting moment) = false
+is_fault flooded = false
+is_fault (asked_for issue) = false
+is_fault (other_run held asked) = false
+is_fault (other_book index) = false
+is_fault (run_used agent) = false
 is_fault not_understood = false
 is_fault (past limit) = false
 is_fault (shelf_failed name) = true

@@ -5,13 +5,14 @@ use Rattle.cacao_check.specs.FirstBreak.{Demand, IsAccepted, Keeps}
 use Rattle.cacao_check.specs.declared.breaks.Mode.{Mode}
 use Rattle.cacao_site.specs.View.{SiteView}
 use Rattle.flow_audit.specs.declared.verdict.Verdict17.TheVariants as verdict
-use Rattle.cacao_cli.specs.Asked.{Asked, canonises, checks, shows, lists_rules, decides, shadows, audits}
+use Rattle.cacao_cli.specs.Asked.{Asked, canonises, checks, shows, lists_rules, decides, shadows, audits, runs}
 use Rattle.cacao_cli.specs.Audited.{IsOnlyVerdict, PassTasks}
-use Rattle.cacao_cli.specs.Ends.{status_of}
+use Rattle.cacao_cli.specs.Ends.{status_of, End}
 use Rattle.cacao_cli.specs.Files.{File, Files, files_of, reading}
 use Rattle.cacao_words.specs.Words.{Text}
 use Rattle.cacao_cli.specs.Openings.{HoldsFilter, HoldsRun, IsDamagedFilter, IsDamagedRun, IsTooLargeRun}
-use Rattle.cacao_cli.specs.Work.{Work, ends, judges, opens_filter, opens_run, compares, work}
+use Rattle.cacao_cli.specs.Work.{Work, ends, judges, opens_filter, opens_run, compares, work, Start, starts}
+use Rattle.cacao_cli.specs.Holding.{CameTo, HasBadAnswer, IsRefusedStart}
 
 abbrev pub IsOneOf : ℕ → List ℕ → Type 0
 IsOneOf n [] = ⊥
@@ -36,6 +37,7 @@ abbrev pub IfTold : Option Asked → Option Files → SiteView → (Files → Ty
 IfTold None told old P = IfFilesTold [] told P
 IfTold (Some (canonises book)) told old P = IfFilesTold (files_of (Some (canonises book))) told P
 IfTold (Some (checks books)) told old P = IfFilesTold (files_of (Some (checks books))) told P
+IfTold (Some (runs wanted)) told old P = IfFilesTold (files_of (Some (runs wanted))) told P
 IfTold (Some shows) told old P = IfDiskTold old P
 IfTold (Some (lists_rules agent)) told old P = IfDiskTold old P
 IfTold (Some (decides agent packets)) told old P = IsTrue old.disk.told → IfFilesTold (files_of (Some (decides agent packets))) told P
@@ -47,16 +49,33 @@ abbrev pub file_faults : List File → List ℕ
 file_faults [] = 9 ∷ 10 ∷ []
 file_faults (file ∷ more) = 3 ∷ 9 ∷ 10 ∷ []
 
+-- the statuses of a call that came to its session, but for faults of the shelf
+abbrev pub session_statuses : List ℕ
+session_statuses = 0 ∷ 6 ∷ 7 ∷ 8 ∷ 9 ∷ 10 ∷ 11 ∷ 12 ∷ 13 ∷ 14 ∷ 15 ∷ 16 ∷ []
+
 -- the same of a status that rests on all that the command reads
 abbrev pub faults_of : Option Asked → List ℕ
 faults_of None = file_faults []
 faults_of (Some (canonises book)) = file_faults (files_of (Some (canonises book)))
 faults_of (Some (checks books)) = file_faults (files_of (Some (checks books)))
+faults_of (Some (runs wanted)) = file_faults (files_of (Some (runs wanted)))
 faults_of (Some shows) = 8 ∷ 9 ∷ 10 ∷ []
 faults_of (Some (lists_rules agent)) = 8 ∷ 9 ∷ 10 ∷ []
 faults_of (Some (decides agent packets)) = 3 ∷ 8 ∷ 9 ∷ 10 ∷ []
 faults_of (Some (shadows agent)) = 8 ∷ 9 ∷ 10 ∷ []
 faults_of (Some (audits engine filters)) = file_faults (files_of (Some (audits engine filters)))
+
+-- the statuses that may stand in the place of one that a session settles: where several causes hold, the earlier in the order of a session decides
+abbrev pub stands_for : Option Asked → List ℕ
+stands_for None = faults_of None
+stands_for (Some (canonises book)) = faults_of (Some (canonises book))
+stands_for (Some (checks books)) = faults_of (Some (checks books))
+stands_for (Some (runs wanted)) = 3 ∷ session_statuses
+stands_for (Some shows) = faults_of (Some shows)
+stands_for (Some (lists_rules agent)) = faults_of (Some (lists_rules agent))
+stands_for (Some (decides agent packets)) = faults_of (Some (decides agent packets))
+stands_for (Some (shadows agent)) = faults_of (Some (shadows agent))
+stands_for (Some (audits engine filters)) = faults_of (Some (audits engine filters))
 
 -- a rule of the playbooks with these trees is broken
 abbrev pub IsBroken : List Data → Mode → Type 0
@@ -67,11 +86,19 @@ abbrev pub HasVerdict : List Text → ℕ → Type 0
 HasVerdict files answer = (((records : ℕ) × (acts : ℕ) × IsOnlyVerdict files (verdict.Yes records acts)) × (answer ≡ 0))
     ⊎ ((((file : ℕ) × (place : ℕ) × IsOnlyVerdict files (verdict.No file place)) × (answer ≡ 18)) ⊎ (PassTasks files × (answer ≡ 11)))
 
+-- a session was held with what the texts give, and the status is that of the end to which it came
+pub record IsSettled (start : Start) (old new : SiteView) (answer : ℕ) : Type 0 where
+  pub last : End
+  pub came : CameTo start last old new
+  pub is : answer ≡ status_of last
+
 -- the status is that of the work; a file of the disk is as it reads on return
 abbrev pub HasStatus : Work → SiteView → SiteView → ℕ → Type 0
 HasStatus (ends lines end) old new answer = answer ≡ status_of end
 HasStatus (judges trees mode accepted) old new answer = (IsAccepted trees mode × HasStatus accepted old new answer) ⊎ (IsBroken trees mode × (answer ≡ 1))
 HasStatus (opens_filter agent look) old new answer = (HoldsFilter agent new × (answer ≡ 0)) ⊎ (IsDamagedFilter agent new × (answer ≡ 13))
+HasStatus (starts start) old new answer =
+    (HasBadAnswer start × (answer ≡ 5)) ⊎ ((IsRefusedStart start × (answer ≡ 1)) ⊎ IsSettled start old new answer)
 HasStatus opens_run old new answer = (HoldsRun new × (answer ≡ 0)) ⊎ ((IsDamagedRun new × (answer ≡ 13)) ⊎ (IsTooLargeRun new × (answer ≡ 11)))
 HasStatus (compares files) old new answer = HasVerdict files answer
 

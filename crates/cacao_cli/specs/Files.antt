@@ -1,10 +1,11 @@
 -- The named files that a command reads, in order, and what reading them comes to.
 use Rattle.std.proofs.Common.{zero, suc}
-use Rattle.std.specs.Prelude.{◌≡◌, ℕ, ◌<◌, ◌≤◌, ◌==◌, nat_lt, nat_le, length, map, Bool, List, [], ◌∷◌, Option, Some, None, Result, Ok, Err}
+use Rattle.std.specs.Prelude.{◌≡◌, ℕ, ◌<◌, ◌≤◌, ◌==◌, nat_lt, nat_le, length, map, Bool, List, [], ◌∷◌, ◌++◌, Option, Some, None, Result, Ok, Err}
 use Rattle.std.specs.Prelude.{IfSome, IsSomeAnd, ⊤, if◌then◌else◌}
 use Rattle.cacao_site.specs.Counts.{next_count}
+use Rattle.cacao_words.specs.Requests.{RunRequest}
 use Rattle.cacao_words.specs.Words.{Text}
-use Rattle.cacao_cli.specs.Asked.{Asked, canonises, checks, shows, lists_rules, decides, shadows, audits}
+use Rattle.cacao_cli.specs.Asked.{Asked, canonises, checks, shows, lists_rules, decides, shadows, audits, runs}
 use Rattle.cacao_cli.specs.Ends.{End, most, status_of, past, shelf_failed, no_such_file, no_memory}
 use Rattle.cacao_cli.specs.declared.limit.Limit.{Limit}
 use Rattle.cacao_cli.specs.declared.limit.Limit.TheVariants.{FileBytes, JournalBytes}
@@ -30,6 +31,7 @@ journal_file name = file_within name JournalBytes
 abbrev pub books_of : Asked → List Text
 books_of (canonises book) = book ∷ []
 books_of (checks books) = books
+books_of (runs wanted) = wanted.books
 books_of shows = []
 books_of (lists_rules agent) = []
 books_of (decides agent packets) = []
@@ -40,9 +42,19 @@ books_of (audits engine filters) = []
 abbrev pub has_too_many : Asked → Bool
 has_too_many asked = nat_lt 16 (length (books_of asked))
 
+-- what is named, if it is
+abbrev pub listed : Option Text → List Text
+listed None = []
+listed (Some name) = name ∷ []
+
+-- the files of `run`: those of the playbooks, that of bindings and that of answers
+abbrev pub run_names : RunRequest → List Text
+run_names wanted = wanted.books ++ (listed wanted.bind ++ listed wanted.answers)
+
 abbrev pub named_by : Asked → List File
 named_by (canonises book) = book_file book ∷ []
 named_by (checks books) = map book_file books
+named_by (runs wanted) = map book_file (run_names wanted)
 named_by shows = []
 named_by (lists_rules agent) = []
 named_by (decides agent packets) = packet_file packets ∷ []

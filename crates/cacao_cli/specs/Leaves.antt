@@ -1,14 +1,20 @@
 -- What a call of the program leaves as it was.
-use Rattle.std.specs.Prelude.{◌≡◌, ◌⊎◌, ℕ, ◌+◌, ◌/◌, ◌≤◌, IsTrue, length, Option, Some, None, IfSome}
+use Rattle.std.specs.Prelude.{◌≡◌, ◌⊎◌, ℕ, ◌+◌, ◌/◌, ◌≤◌, IsTrue, List, [], ◌∷◌, length, Option, Some, None, IfSome}
 use Rattle.cacao_site.specs.DiskCalls.{EachBeat, IsLeft}
-use Rattle.cacao_site.specs.SayCalls.{KeepsTime, SaysOnly}
+use Rattle.cacao_site.specs.SayCalls.{KeepsTime}
 use Rattle.cacao_site.specs.View.{LinkView, SiteView}
-use Rattle.cacao_cli.specs.Asked.{Asked, canonises, checks, shows, lists_rules, decides, shadows, audits}
+use Rattle.cacao_cli.specs.Asked.{Asked, canonises, checks, shows, lists_rules, decides, shadows, audits, runs}
 use Rattle.cacao_cli.specs.Files.{Counts}
+use Rattle.cacao_cli.specs.Ends.{End}
+use Rattle.cacao_cli.specs.Exact.{IsOneOf}
+use Rattle.cacao_cli.specs.Holding.{CameTo}
+use Rattle.cacao_cli.specs.Lines.{SaysAtMostALine}
+use Rattle.cacao_cli.specs.Work.{Start}
+use Rattle.cacao_words.specs.Requests.{RunRequest}
 
 -- at most one call of `say` was made, and nothing else changed
 pub record SaysAtMostOnce (old new : SiteView) (answer : ℕ) : Type 0 where
-  pub once : (new ≡ old) ⊎ SaysOnly old new
+  pub once : SaysAtMostALine old new
   pub unsaid : answer ≡ 9 → new.link.said ≡ old.link.said
   pub no_memory : answer ≡ 10 → new ≡ old
 
@@ -34,15 +40,28 @@ pub record WritesNothing (file : ℕ) (old new : SiteView) : Type 0 where
   pub time : KeepsTime old.clock new.clock
   pub calls : CallsFew (length (new.disk.reads file)) old new
 
+-- what a `run` leaves that came to its session: what the session did, and one line said at most
+pub record LeavesSession (wanted : RunRequest) (old new : SiteView) : Type 0 where
+  pub start : Start
+  pub of_run : start.run ≡ wanted.run
+  pub most : start.most ≡ wanted.most
+  pub last : End
+  pub came : CameTo start last old new
+
 abbrev pub Leaves : Option Asked → SiteView → SiteView → ℕ → Type 0
 Leaves None old new answer = SaysAtMostOnce old new answer
 Leaves (Some (canonises book)) old new answer = SaysAtMostOnce old new answer
 Leaves (Some (checks books)) old new answer = SaysAtMostOnce old new answer
+Leaves (Some (runs wanted)) old new answer = SaysAtMostOnce old new answer ⊎ LeavesSession wanted old new
 Leaves (Some shows) old new answer = WritesNothing 0 old new
 Leaves (Some (lists_rules agent)) old new answer = WritesNothing agent old new
 Leaves (Some (decides agent packets)) old new answer = WritesNothing agent old new
 Leaves (Some (shadows agent)) old new answer = WritesNothing agent old new
 Leaves (Some (audits engine filters)) old new answer = SaysAtMostOnce old new answer
+
+-- a call that is refused before it opens a file of the disk says its line, and leaves all else
+abbrev pub LeavesAll : SiteView → SiteView → ℕ → Type 0
+LeavesAll old new answer = IsOneOf answer (1 ∷ 2 ∷ 3 ∷ 4 ∷ 5 ∷ []) → SaysAtMostOnce old new answer
 
 -- at most so many reads were counted, where the shelf tells them
 abbrev pub ReadsAtMost : ℕ → Option ℕ → Option ℕ → Type 0
@@ -53,6 +72,7 @@ abbrev pub NoDiskFault : Option Asked → SiteView → SiteView → Type 0
 NoDiskFault None old new = new.disk.faults ≡ old.disk.faults
 NoDiskFault (Some (canonises book)) old new = new.disk.faults ≡ old.disk.faults
 NoDiskFault (Some (checks books)) old new = new.disk.faults ≡ old.disk.faults
+NoDiskFault (Some (runs wanted)) old new = old.disk.faults ≤ new.disk.faults
 NoDiskFault (Some shows) old new = old.disk.faults ≤ new.disk.faults
 NoDiskFault (Some (lists_rules agent)) old new = old.disk.faults ≤ new.disk.faults
 NoDiskFault (Some (decides agent packets)) old new = old.disk.faults ≤ new.disk.faults

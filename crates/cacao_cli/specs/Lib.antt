@@ -1,3 +1,4 @@
+pub mod Agreement
 pub mod Asked
 pub mod Audited
 pub mod Causes
@@ -6,7 +7,9 @@ pub mod Ended
 pub mod Ends
 pub mod Exact
 pub mod Files
+pub mod Holding
 pub mod Leaves
 pub mod Lines
 pub mod Openings
+pub mod Starting
 pub mod Work

@@ -19,6 +19,10 @@ pub record FailsToSay (old new : SiteView) : Type 0 where
   pub said : new.link.said ≡ old.link.said
   pub unsaid : new.clock.unsaid ≡ next_count old.clock.unsaid
 
+-- at most one call of `say` was made, and nothing else changed
+abbrev pub SaysAtMostALine : SiteView → SiteView → Type 0
+SaysAtMostALine old new = (new ≡ old) ⊎ SaysOnly old new
+
 -- the lines were said in order, each by one call
 abbrev pub SaysAll : List Text → SiteView → SiteView → Type 0
 SaysAll [] old new = new ≡ old

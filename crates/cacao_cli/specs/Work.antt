@@ -1,5 +1,5 @@
 -- What a command does, once the words and the files that it reads are known. The tests stand in the order of the statuses.
-use Rattle.std.specs.Prelude.{ℕ, List, [], ◌∷◌, ◌++◌, map, Option, Some, None, Result, Ok, Err, if◌then◌else◌, codes, replicate, slice_set}
+use Rattle.std.specs.Prelude.{ℕ, List, [], ◌∷◌, ◌++◌, map, Option, Some, None, Result, Ok, Err, if◌then◌else◌, codes, replicate, slice_set, length, take, drop, option_to_list}
 use Rattle.serde_json.specs.Data.{Data}
 use Rattle.cacao_json.specs.Refusals.{answer}
 use Rattle.cacao_json.specs.declared.error.JsonError.{JsonError}
@@ -9,8 +9,9 @@ use Rattle.oc2_nets.specs.declared.packets.Packet.{Packet}
 use Rattle.filter_reports.specs.PacketFiles.{packets_of}
 use Rattle.cacao_check.specs.declared.breaks.Mode.{Mode}
 use Rattle.cacao_check.specs.declared.breaks.Mode.TheVariants.{Read}
+use Rattle.cacao_words.specs.Requests.{RunRequest}
 use Rattle.cacao_words.specs.Words.{Text}
-use Rattle.cacao_cli.specs.Asked.{Asked, canonises, checks, shows, lists_rules, decides, shadows, audits}
+use Rattle.cacao_cli.specs.Asked.{Asked, canonises, checks, shows, lists_rules, decides, shadows, audits, runs}
 use Rattle.cacao_cli.specs.Ends.{End, done, accepted, not_understood, past, not_readable, no_memory}
 use Rattle.cacao_cli.specs.Files.{NamedText, item_then, has_too_many}
 use Rattle.cacao_cli.specs.declared.limit.Limit.TheVariants.{BookCount}
@@ -22,15 +23,25 @@ pub data Look : Type 0 where
   at_decisions : (packets : List (ℕ × Packet)) → Look
   at_shadows : Look
 
+-- what a session is given, before it is judged: the run's number, the most records, the texts of the playbooks and of bindings, and the
+-- file of answers, if one is named
+pub record Start : Type 0 where
+  pub run : ℕ
+  pub most : ℕ
+  pub books : List Text
+  pub bind : Text
+  pub answers : Option NamedText
+
 -- What is left to be done where nothing was refused before: to say these lines and end so; to tell the first break of the playbooks with
 -- these trees, and where there is none to do this work; to open the filter of an agent and say this of it; to open the engine's file and say
--- how its run stands; to tell whether these files of a run agree.
+-- how its run stands; to tell whether these files of a run agree; to hold a session.
 pub data Work : Type 0 where
   ends : (lines : List Text) (end : End) → Work
   judges : (trees : List Data) (mode : Mode) (accepted : Work) → Work
   opens_filter : (agent : ℕ) (look : Look) → Work
   opens_run : Work
   compares : (files : List Text) → Work
+  starts : (start : Start) → Work
 
 -- the tree, or the end that says why there is none
 abbrev pub tree_or_end : Text → Result Data JsonError → Result Data End
@@ -77,10 +88,55 @@ placed files (number ∷ numbers) (text ∷ texts) = placed (slice_set files num
 abbrev pub run_files : List (ℕ × Text) → List NamedText → List Text
 run_files filters texts = placed (replicate 17 []) (0 ∷ map (λ filter. filter.0) filters) texts
 
+-- ---- the texts of a run
+
+-- the first text, if it is named, and those behind it
+abbrev pub first_if : Option Text → List NamedText → Option NamedText
+first_if None texts = None
+first_if (Some name) [] = None
+first_if (Some name) (text ∷ texts) = Some text
+
+abbrev pub rest_if : Option Text → List NamedText → List NamedText
+rest_if None texts = texts
+rest_if (Some name) [] = []
+rest_if (Some name) (text ∷ texts) = texts
+
+-- the texts of the playbooks, and those behind them: that of bindings, and that of answers
+abbrev pub book_texts : RunRequest → List NamedText → List NamedText
+book_texts wanted texts = take (length wanted.books) texts
+
+abbrev pub behind_books : RunRequest → List NamedText → List NamedText
+behind_books wanted texts = drop (length wanted.books) texts
+
+abbrev pub bind_text : RunRequest → List NamedText → Option NamedText
+bind_text wanted texts = first_if wanted.bind (behind_books wanted texts)
+
+abbrev pub answers_text : RunRequest → List NamedText → Option NamedText
+answers_text wanted texts = first_if wanted.answers (rest_if wanted.bind (behind_books wanted texts))
+
+-- no text is as an empty one
+abbrev pub bytes_of : Option NamedText → Text
+bytes_of None = []
+bytes_of (Some text) = text.bytes
+
+-- the texts that want a tree
+abbrev pub trees_wanted : RunRequest → List NamedText → List NamedText
+trees_wanted wanted texts = book_texts wanted texts ++ option_to_list (bind_text wanted texts)
+
+abbrev pub start_of : RunRequest → List NamedText → Start
+start_of wanted texts = record {
+  run = wanted.run;
+  most = wanted.most;
+  books = map (λ text. text.bytes) (book_texts wanted texts);
+  bind = bytes_of (bind_text wanted texts);
+  answers = answers_text wanted texts;
+}
+
 -- the work that the texts of its files come to
 abbrev pub work_on : Asked → List NamedText → Work
 work_on (canonises book) texts = or_end (trees_of texts) (λ roots. ends (map canon_line roots) done)
 work_on (checks books) texts = or_end (trees_of texts) (λ roots. judges roots Read (ends [] accepted))
+work_on (runs wanted) texts = or_end (trees_of (trees_wanted wanted texts)) (λ roots. starts (start_of wanted texts))
 work_on shows texts = opens_run
 work_on (lists_rules agent) texts = opens_filter agent at_rules
 work_on (decides agent packets) texts = or_end (packets_in texts) (λ found. opens_filter agent (at_decisions found))

@@ -30,7 +30,7 @@ pub fn check<'w, L: Shelf, S: Site>(
     ensures untouched { files_of (Some (checks (map (λ name. name.now) names.entry.now))) ≡ [] → shelf.new ≡ shelf.old }
 {
     let limit = Limit::BookCount;
-    if names.len() > limit.most() as usize {
+    if names.len() as u64 > limit.most() {
         return End::Past { limit };
     }
     let texts = match read_files(alloc, names, shelf) {

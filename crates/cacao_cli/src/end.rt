@@ -18,6 +18,25 @@ pub enum End<'w> {
     Accepted,
     /// A rule of a playbook is broken: this is the first break.
     Refused { broken: Break },
+    /// A rule of bindings is broken: this is the least.
+    BindRefused { rule: u8 },
+    /// The run has ended, well or not.
+    EndedOk,
+    EndedFailed,
+    /// As many records were appended as may be, and the run goes on.
+    Paused,
+    /// The clock was asked for this moment, in milliseconds, and answered an earlier one.
+    Waiting { moment: u64 },
+    /// Too many parcels changed nothing.
+    Flooded,
+    /// Nothing but an operator's answer for this issue can let the run go on.
+    Asked { issue: u32 },
+    /// The engine's file holds the run with the first number, and the other one was asked for.
+    OtherRun { held: u64, asked: u64 },
+    /// It holds a run of other playbooks: the first that differs, or their number where only the bindings do.
+    OtherBook { index: u32 },
+    /// It is empty, and this is the least filter that has an act of the run.
+    RunUsed { agent: u8 },
     /// The words have no reading.
     NotUnderstood,
     /// A quantity passes its limit.
@@ -48,17 +67,23 @@ impl<'w> End<'w> {
         ensures { result ≡ status_of (end_of self.now) }
     {
         match self {
-            End::Done | End::Accepted | End::Agrees { .. } => 0,
-            End::Refused { .. } => 1,
+            End::Done | End::Accepted | End::EndedOk | End::Agrees { .. } => 0,
+            End::Refused { .. } | End::BindRefused { .. } => 1,
             End::NotUnderstood => 2,
             End::ShelfFailed { .. } => 3,
             End::NoSuchFile { .. } => 4,
             End::NotReadable { .. } => 5,
+            End::EndedFailed => 6,
+            End::Paused => 7,
             End::DiskFailed => 8,
             End::Unsaid => 9,
             End::NoMemory => 10,
             End::Past { .. } => 11,
+            End::OtherRun { .. } | End::OtherBook { .. } | End::RunUsed { .. } => 12,
             End::Damaged { .. } => 13,
+            End::Waiting { .. } => 14,
+            End::Flooded => 15,
+            End::Asked { .. } => 16,
             End::Disagrees { .. } => 18,
         }
     }
@@ -93,6 +118,16 @@ impl<'w> fmt::Display for End<'w> {
                     )
                 }
             },
+            End::BindRefused { rule } => write!(f, "refused: bind rule B{rule}"),
+            End::EndedOk => f.write_str("ended ok"),
+            End::EndedFailed => f.write_str("ended failed"),
+            End::Paused => f.write_str("paused"),
+            End::Waiting { moment } => write!(f, "waiting {moment}"),
+            End::Flooded => f.write_str("flooded"),
+            End::Asked { issue } => write!(f, "asked {issue}"),
+            End::OtherRun { held, asked } => write!(f, "other run {held} {asked}"),
+            End::OtherBook { index } => write!(f, "other playbook {index}"),
+            End::RunUsed { agent } => write!(f, "run used {agent}"),
             End::NotUnderstood => f.write_str("words not understood"),
             End::Past { limit } => write!(f, "limit: {limit}"),
             End::ShelfFailed { line } => write!(f, "shelf failed: {}", line.name),

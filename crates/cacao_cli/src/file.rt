@@ -1,5 +1,5 @@
 // The named files that commands read.
-ghost use Rattle.std.specs.Prelude.{◌≡◌, ◌≤◌, ◌∷◌, [], IfOk, length, map};
+ghost use Rattle.std.specs.Prelude.{◌≡◌, ◌<◌, ◌≤◌, ◌∷◌, [], IfOk, length, map};
 ghost use Rattle.cacao_cli.specs.Command.{bytes_read, read_of, reads_of};
 ghost use Rattle.cacao_cli.specs.Ends.{most};
 ghost use Rattle.cacao_cli.specs.Files.{ReadsTo, book_file, file_within, shelf_call};
@@ -18,6 +18,7 @@ pub fn read_bytes<'w, L: Shelf>(
     limit: Limit,
     shelf: &mut L,
 ) -> Result<Bytes, End<'w>>
+    requires few { most limit < 4_294_967_296 }
     ensures reads { ReadsTo (shelf_call (L.told shelf.old) (L.faults shelf.old) (L.faults shelf.new) (L.reads shelf.old) (L.reads shelf.new))
         (file_within name.entry.now limit ∷ []) (bytes_read name.entry.now result) }
     ensures within { IfOk result (λ bytes. length bytes ≤ most limit) }
@@ -28,7 +29,7 @@ pub fn read_bytes<'w, L: Shelf>(
         Ok(line) => line,
         Err(_) => return Err(End::NoMemory),
     };
-    match shelf.read(alloc, name, limit.most()) {
+    match shelf.read(alloc, name, limit.most() as u32) {
         Ok(bytes) => Ok(bytes),
         Err(ShelfError::Missing) => Err(End::NoSuchFile { name }),
         Err(ShelfError::Failed) => Err(End::ShelfFailed { line }),

@@ -12,6 +12,10 @@ pub enum Limit {
     TaskCount,
     /// The bytes of a file of a run.
     JournalBytes,
+    /// A moment, in milliseconds.
+    LastMoment,
+    /// The bytes of a filled command.
+    CommandBytes,
 }
 
 impl Limit {
@@ -27,11 +31,13 @@ impl Limit {
             Limit::BookCount => "books",
             Limit::TaskCount => "tasks",
             Limit::JournalBytes => "journal",
+            Limit::LastMoment => "moment",
+            Limit::CommandBytes => "command",
         }
     }
 
     /// The most that is taken.
-    pub fn most(self) -> u32
+    pub fn most(self) -> u64
         ensures { result ≡ most self }
     {
         match self {
@@ -39,6 +45,8 @@ impl Limit {
             Limit::BookCount => 16,
             Limit::TaskCount => 1_000_000,
             Limit::JournalBytes => 67_108_864,
+            Limit::LastMoment => 9_000_000_000_000_000,
+            Limit::CommandBytes => 1_048_576,
         }
     }
 }

@@ -1,19 +1,23 @@
 // The program as one call.
 ghost use Rattle.std.specs.Prelude.{◌≡◌, ◌≢◌, ◌≤◌, ◌∷◌, [], length, map, string_bytes, Some, None};
 ghost use Rattle.cacao_site.specs.Counts.{Rose, next_count};
+ghost use Rattle.flow_world.specs.Sessions.{KeepsAgreement};
+ghost use Rattle.cacao_cli.specs.Agreement.{MayBegin};
 ghost use Rattle.cacao_cli.specs.Asked.{asked};
-ghost use Rattle.cacao_cli.specs.Causes.{CanBeDone, FindsDisagreement, FindsItDamaged, IsMissing, IsPastLimit, IsRefused, IsUnreadable};
+ghost use Rattle.cacao_cli.specs.Causes.{CanBeDone, FindsDisagreement, FindsItDamaged, IsMissing, IsPastLimit, IsRefused, IsUnreadable, EndsAs, EndsAsAnother, EndsAsAsked, EndsAsWaiting};
 ghost use Rattle.cacao_cli.specs.Command.{asked_by, end_of};
 ghost use Rattle.cacao_cli.specs.Ended.{Ended, Performed};
-ghost use Rattle.cacao_cli.specs.Exact.{Answers, ComesExactly, IfFilesTold, IfTold, faults_of};
+ghost use Rattle.cacao_cli.specs.Ends.{ended_failed, flooded, paused};
+ghost use Rattle.cacao_cli.specs.Exact.{Answers, ComesExactly, IfFilesTold, IfTold, stands_for};
 ghost use Rattle.cacao_cli.specs.Files.{files_of, shelf_call};
-ghost use Rattle.cacao_cli.specs.Leaves.{Leaves, NoFault, ReadsAtMost};
+ghost use Rattle.cacao_cli.specs.Leaves.{Leaves, LeavesAll, NoFault, ReadsAtMost};
 
 use crate::audit::audit;
 use crate::canon::canon;
 use crate::check::check;
 use crate::end::End;
 use crate::filters::{decide, say_rules, say_shadows};
+use crate::run::run;
 use crate::say::finish;
 use crate::show::show;
 use cacao_site::{Shelf, Site};
@@ -37,6 +41,7 @@ fn carry_out<'w, L: Shelf, S: Site>(
     match command {
         Command::Canon { book } => canon(alloc, book, shelf, site),
         Command::Check { books } => check(alloc, books.as_slice(), shelf, site),
+        Command::Run { wanted } => run(alloc, wanted, shelf, site),
         Command::Show => show(alloc, site),
         Command::Rules { agent } => say_rules(alloc, *agent, site),
         Command::Decide { agent, packets } => decide(alloc, *agent, packets, shelf, site),
@@ -44,7 +49,7 @@ fn carry_out<'w, L: Shelf, S: Site>(
         Command::Audit { engine, filters } => {
             audit(alloc, engine, filters.as_slice(), shelf, site)
         }
-        Command::Run { .. } | Command::Rehearse { .. } => End::NotUnderstood,
+        Command::Rehearse { .. } => End::NotUnderstood,
     }
 }
 
@@ -71,9 +76,12 @@ fn perform<'w, L: Shelf, S: Site>(
 
 /// Does what the words after the program's name ask, says its lines, and answers the exit status.
 ///
-/// Each status but 0 says why: 1 a rule is broken, 2 the words have no reading, 3 the shelf failed, 4 there is no such file, 5 a file has no reading, 8 the
-/// disk failed, 9 a line could not be said, 10 memory was wanted, 11 a limit was passed, 13 a file of the disk is damaged, 18 the files of a run do not agree. Where several causes hold, 2 comes before 11 for too many
-/// playbooks, then 3, 4 and 11 of one file before those of the next, all of them before 5, and 5 before 1.
+/// Each status but 0 says why: 1 a rule is broken, 2 the words have no reading, 3 the shelf failed, 4 there is no such file, 5 a file has
+/// no reading, 6 the run has ended and failed, 7 it is paused, 8 the disk failed, 9 a line could not be said, 10 memory was wanted, 11 a
+/// limit was passed, 12 the engine's file is another run's or the number is used, 13 a file of the disk is damaged, 14 the run waits
+/// for a moment, 15 too many parcels changed nothing, 16 the run waits for an operator, 18 the files of a run do not agree. Where
+/// several causes hold, 2 comes before 11 for too many playbooks, then 3, 4 and 11 of one file before those of the next, all of them before 5, 5 before 1, and 1 before those of
+/// a session, which come in its order.
 pub fn top<L: Shelf, S: Site>(alloc: Global, words: &[String], shelf: &mut L, site: &mut S) -> u8
     // All that the call does: what it reads, the work, the lines and the status.
     ensures ended { Ended (asked (map string_bytes words.now))
@@ -85,7 +93,7 @@ pub fn top<L: Shelf, S: Site>(alloc: Global, words: &[String], shelf: &mut L, si
 
     // Status by status, in words of its own.
     ensures done { IfTold (asked (map string_bytes words.now)) (L.told shelf.old) (S.view site.old) (λ files.
-        ComesExactly 0 (faults_of (asked (map string_bytes words.now)))
+        ComesExactly 0 (stands_for (asked (map string_bytes words.now)))
         (CanBeDone (asked (map string_bytes words.now)) files (S.view site.old) (S.view site.new)) result) }
     ensures refused { IfFilesTold (files_of (asked (map string_bytes words.now))) (L.told shelf.old) (λ files.
         ComesExactly 1 (3 ∷ 9 ∷ 10 ∷ []) (IsRefused (asked (map string_bytes words.now)) files) result) }
@@ -97,19 +105,43 @@ pub fn top<L: Shelf, S: Site>(alloc: Global, words: &[String], shelf: &mut L, si
     ensures unreadable { IfFilesTold (files_of (asked (map string_bytes words.now))) (L.told shelf.old) (λ files.
         ComesExactly 5 (3 ∷ 9 ∷ 10 ∷ []) (IsUnreadable (asked (map string_bytes words.now)) files) result) }
     ensures disk_failed { result ≡ 8 → Rose (S.view site.old).disk.faults (S.view site.new).disk.faults }
-    ensures unsaid { result ≡ 9 → (S.view site.new).clock.unsaid ≡ next_count (S.view site.old).clock.unsaid }
+    ensures unsaid { result ≡ 9 → Rose (S.view site.old).clock.unsaid (S.view site.new).clock.unsaid }
     ensures said { result ≢ 9 → (S.view site.new).clock.unsaid ≡ (S.view site.old).clock.unsaid }
     ensures no_memory { result ≡ 10 → NoFault (asked (map string_bytes words.now)) (L.faults shelf.old) (L.faults shelf.new) (S.view site.old) (S.view site.new) }
     ensures past_limit { IfTold (asked (map string_bytes words.now)) (L.told shelf.old) (S.view site.old) (λ files.
-        ComesExactly 11 (faults_of (asked (map string_bytes words.now)))
+        ComesExactly 11 (stands_for (asked (map string_bytes words.now)))
         (IsPastLimit (asked (map string_bytes words.now)) files (S.view site.old) (S.view site.new)) result) }
     ensures damaged { IfTold (asked (map string_bytes words.now)) (L.told shelf.old) (S.view site.old) (λ files.
-        ComesExactly 13 (faults_of (asked (map string_bytes words.now)))
+        ComesExactly 13 (stands_for (asked (map string_bytes words.now)))
         (FindsItDamaged (asked (map string_bytes words.now)) files (S.view site.old) (S.view site.new)) result) }
     ensures disagreement { IfFilesTold (files_of (asked (map string_bytes words.now))) (L.told shelf.old) (λ files.
         ComesExactly 18 (3 ∷ 9 ∷ 10 ∷ []) (FindsDisagreement (asked (map string_bytes words.now)) files) result) }
 
+    ensures failed { IfTold (asked (map string_bytes words.now)) (L.told shelf.old) (S.view site.old) (λ files.
+        ComesExactly 6 (stands_for (asked (map string_bytes words.now)))
+        (EndsAs (asked (map string_bytes words.now)) files ended_failed (S.view site.old) (S.view site.new)) result) }
+    ensures pauses { IfTold (asked (map string_bytes words.now)) (L.told shelf.old) (S.view site.old) (λ files.
+        ComesExactly 7 (stands_for (asked (map string_bytes words.now)))
+        (EndsAs (asked (map string_bytes words.now)) files paused (S.view site.old) (S.view site.new)) result) }
+    ensures another_run { IfTold (asked (map string_bytes words.now)) (L.told shelf.old) (S.view site.old) (λ files.
+        ComesExactly 12 (stands_for (asked (map string_bytes words.now)))
+        (EndsAsAnother (asked (map string_bytes words.now)) files (S.view site.old) (S.view site.new)) result) }
+    ensures waits { IfTold (asked (map string_bytes words.now)) (L.told shelf.old) (S.view site.old) (λ files.
+        ComesExactly 14 (stands_for (asked (map string_bytes words.now)))
+        (EndsAsWaiting (asked (map string_bytes words.now)) files (S.view site.old) (S.view site.new)) result) }
+    ensures floods { IfTold (asked (map string_bytes words.now)) (L.told shelf.old) (S.view site.old) (λ files.
+        ComesExactly 15 (stands_for (asked (map string_bytes words.now)))
+        (EndsAs (asked (map string_bytes words.now)) files flooded (S.view site.old) (S.view site.new)) result) }
+    ensures asks { IfTold (asked (map string_bytes words.now)) (L.told shelf.old) (S.view site.old) (λ files.
+        ComesExactly 16 (stands_for (asked (map string_bytes words.now)))
+        (EndsAsAsked (asked (map string_bytes words.now)) files (S.view site.old) (S.view site.new)) result) }
+
+    // The headline: where all agrees when the call begins, all that a crash may leave agrees at each beat of the call up to its return,
+    // whatever its status.
+    ensures agreement { MayBegin (asked (map string_bytes words.now)) (S.view site.old) → KeepsAgreement (S.view site.old) (S.view site.new) }
+
     // What stays as it was.
+    ensures stays { LeavesAll (S.view site.old) (S.view site.new) result }
     ensures leaves { Leaves (asked (map string_bytes words.now)) (S.view site.old) (S.view site.new) result }
     ensures files { L.told shelf.new ≡ L.told shelf.old }
     ensures faults { L.faults shelf.old ≤ L.faults shelf.new }

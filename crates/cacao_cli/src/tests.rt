@@ -2,6 +2,7 @@
 mod audits;
 mod filters;
 mod runs;
+mod sessions;
 
 use crate::top;
 use cacao_site::{CallList, MemoryShelf, MemorySite, SitePlan, WeatherList};

@@ -1,6 +1,7 @@
 // The trees of the files that commands read.
-ghost use Rattle.std.specs.Prelude.{◌≡◌, map};
-ghost use Rattle.cacao_cli.specs.Command.{AreTreesOrMemory, IsTreeOrMemory, text_of};
+ghost use Rattle.std.specs.Prelude.{◌≡◌, Err, map};
+ghost use Rattle.cacao_cli.specs.Command.{AreTreesOrMemory, IsTreeOrMemory, end_of, text_of};
+ghost use Rattle.cacao_cli.specs.Work.{tree_or_end};
 
 use crate::end::End;
 use crate::file_text::FileText;
@@ -8,26 +9,34 @@ use crate::reason::Reason;
 use cacao_json::{JsonError, Tree, read_tree};
 use std::alloc::Global;
 
+/// How a call ends where a file has no tree for this reason.
+pub fn json_end<'w>(name: &'w str, error: JsonError) -> End<'w>
+    ensures { Err (end_of result) ≡ tree_or_end name.entry.now (Err error) }
+{
+    match error {
+        JsonError::NotJson => End::NotReadable {
+            name,
+            reason: Reason::NotJson,
+        },
+        JsonError::RepeatedName { colons, members } => End::NotReadable {
+            name,
+            reason: Reason::RepeatedName { colons, members },
+        },
+        JsonError::NotWhole { index } => End::NotReadable {
+            name,
+            reason: Reason::NotWhole { index },
+        },
+        JsonError::Memory => End::NoMemory,
+    }
+}
+
 /// The tree of the bytes of a file.
 pub fn tree_of<'w>(alloc: Global, text: &FileText<'w>) -> Result<Tree, End<'w>>
     ensures { IsTreeOrMemory (text_of text.entry.now) result }
 {
-    let name = text.name;
     match read_tree(alloc, text.bytes.as_slice()) {
         Ok(tree) => Ok(tree),
-        Err(JsonError::NotJson) => Err(End::NotReadable {
-            name,
-            reason: Reason::NotJson,
-        }),
-        Err(JsonError::RepeatedName { colons, members }) => Err(End::NotReadable {
-            name,
-            reason: Reason::RepeatedName { colons, members },
-        }),
-        Err(JsonError::NotWhole { index }) => Err(End::NotReadable {
-            name,
-            reason: Reason::NotWhole { index },
-        }),
-        Err(JsonError::Memory) => Err(End::NoMemory),
+        Err(error) => Err(json_end(text.name, error)),
     }
 }
 

@@ -32,8 +32,7 @@ returns-in-Shadow-clause-performed g c =
     subst (λ (a : Option Asked). Performed a shelf old new (end_of c.say_shadows.result)) (sym (ap asked_by c.in-Shadow.is))
     (shadows-perform c.in-Shadow.agent.number shelf old new (end_of c.say_shadows.result) refl refl c.say_shadows.ensures)
 
-pub returns-in-Run-clause-performed : goal.returns-in-Run-clause-performed
-returns-in-Run-clause-performed g c =
+pub returns-in-Rehearse-clause-performed : goal.returns-in-Rehearse-clause-performed
+returns-in-Rehearse-clause-performed g c =
     let shelf : ShelfCall = record { told = g.L.Shelf.told c.args.shelf.now; before = g.L.Shelf.faults c.args.shelf.now; after = g.L.Shelf.faults c.args.shelf.now; reads_before = g.L.Shelf.reads c.args.shelf.now; reads_after = g.L.Shelf.reads c.args.shelf.now } in
-    let none : asked_by c.args.command.now ≡ None = ⊎_elim (λ h. ap asked_by h.1) (λ h. ap asked_by h.1) c.in-Run.is in
-    performed-none (asked_by c.args.command.now) shelf (g.S.Disk.view c.args.site.now) none refl refl
+    performed-none (asked_by c.args.command.now) shelf (g.S.Disk.view c.args.site.now) (ap asked_by c.in-Rehearse.is) refl refl

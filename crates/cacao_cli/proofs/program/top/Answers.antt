@@ -3,10 +3,12 @@ use Rattle.std.proofs.Common.{map, string_bytes}
 use Rattle.cacao_cli.specs.Asked.{asked}
 use Rattle.cacao_cli.specs.Command.{end_of}
 use Rattle.cacao_cli.specs.Files.{ShelfCall}
+use Rattle.cacao_cli.proofs.AgreedLemmas.{agrees-ended}
 use Rattle.cacao_cli.proofs.CountLemmas.{disk-ended, failed-ended, steady-ended, unsaid-ended, said-ended, memory-ended}
 use Rattle.cacao_cli.proofs.ExactLemmas.{exact-ended}
 use Rattle.cacao_cli.proofs.LeaveLemmas.{leaves-ended, few-ended}
-use Rattle.cacao_cli.proofs.StatusLemmas.{damaged-ended, disagreement-ended, done-ended, words-ended, missing-ended, unreadable-ended, past-ended, refused-ended}
+use Rattle.cacao_cli.proofs.StatusLemmas.{damaged-ended, disagreement-ended, done-ended, words-ended, missing-ended, unreadable-ended, past-ended, refused-ended, another-ended, asked-ended, failed-run-ended, flooded-ended, paused-ended, waiting-ended}
+use Rattle.cacao_cli.proofs.StayLemmas.{stays-ended}
 use Rattle.cacao_cli.proofs.program.top.Goals as goal
 
 pub returns-clause-exactly : goal.returns-clause-exactly
@@ -110,3 +112,51 @@ returns-clause-disagreement g c =
     let shelf : ShelfCall = record { told = g.L.Shelf.told c.args.shelf.now; before = g.L.Shelf.faults c.args.shelf.now; after = g.L.Shelf.faults c.perform-end.new.shelf; reads_before = g.L.Shelf.reads c.args.shelf.now; reads_after = g.L.Shelf.reads c.perform-end.new.shelf } in
     disagreement-ended (asked (map string_bytes c.args.words.now)) shelf (g.S.Disk.view c.args.site.now) (g.S.Disk.view c.finish.new.site) c.finish.result
     (record { last = end_of c.perform-end.result; between = g.S.Disk.view c.perform-end.new.site; performed = c.perform-end.ensures.performed; tells = c.finish.ensures })
+
+pub returns-clause-failed : goal.returns-clause-failed
+returns-clause-failed g c =
+    let shelf : ShelfCall = record { told = g.L.Shelf.told c.args.shelf.now; before = g.L.Shelf.faults c.args.shelf.now; after = g.L.Shelf.faults c.perform-end.new.shelf; reads_before = g.L.Shelf.reads c.args.shelf.now; reads_after = g.L.Shelf.reads c.perform-end.new.shelf } in
+    failed-run-ended (asked (map string_bytes c.args.words.now)) shelf (g.S.Disk.view c.args.site.now) (g.S.Disk.view c.finish.new.site) c.finish.result
+    (record { last = end_of c.perform-end.result; between = g.S.Disk.view c.perform-end.new.site; performed = c.perform-end.ensures.performed; tells = c.finish.ensures })
+
+pub returns-clause-pauses : goal.returns-clause-pauses
+returns-clause-pauses g c =
+    let shelf : ShelfCall = record { told = g.L.Shelf.told c.args.shelf.now; before = g.L.Shelf.faults c.args.shelf.now; after = g.L.Shelf.faults c.perform-end.new.shelf; reads_before = g.L.Shelf.reads c.args.shelf.now; reads_after = g.L.Shelf.reads c.perform-end.new.shelf } in
+    paused-ended (asked (map string_bytes c.args.words.now)) shelf (g.S.Disk.view c.args.site.now) (g.S.Disk.view c.finish.new.site) c.finish.result
+    (record { last = end_of c.perform-end.result; between = g.S.Disk.view c.perform-end.new.site; performed = c.perform-end.ensures.performed; tells = c.finish.ensures })
+
+pub returns-clause-another_run : goal.returns-clause-another_run
+returns-clause-another_run g c =
+    let shelf : ShelfCall = record { told = g.L.Shelf.told c.args.shelf.now; before = g.L.Shelf.faults c.args.shelf.now; after = g.L.Shelf.faults c.perform-end.new.shelf; reads_before = g.L.Shelf.reads c.args.shelf.now; reads_after = g.L.Shelf.reads c.perform-end.new.shelf } in
+    another-ended (asked (map string_bytes c.args.words.now)) shelf (g.S.Disk.view c.args.site.now) (g.S.Disk.view c.finish.new.site) c.finish.result
+    (record { last = end_of c.perform-end.result; between = g.S.Disk.view c.perform-end.new.site; performed = c.perform-end.ensures.performed; tells = c.finish.ensures })
+
+pub returns-clause-waits : goal.returns-clause-waits
+returns-clause-waits g c =
+    let shelf : ShelfCall = record { told = g.L.Shelf.told c.args.shelf.now; before = g.L.Shelf.faults c.args.shelf.now; after = g.L.Shelf.faults c.perform-end.new.shelf; reads_before = g.L.Shelf.reads c.args.shelf.now; reads_after = g.L.Shelf.reads c.perform-end.new.shelf } in
+    waiting-ended (asked (map string_bytes c.args.words.now)) shelf (g.S.Disk.view c.args.site.now) (g.S.Disk.view c.finish.new.site) c.finish.result
+    (record { last = end_of c.perform-end.result; between = g.S.Disk.view c.perform-end.new.site; performed = c.perform-end.ensures.performed; tells = c.finish.ensures })
+
+pub returns-clause-floods : goal.returns-clause-floods
+returns-clause-floods g c =
+    let shelf : ShelfCall = record { told = g.L.Shelf.told c.args.shelf.now; before = g.L.Shelf.faults c.args.shelf.now; after = g.L.Shelf.faults c.perform-end.new.shelf; reads_before = g.L.Shelf.reads c.args.shelf.now; reads_after = g.L.Shelf.reads c.perform-end.new.shelf } in
+    flooded-ended (asked (map string_bytes c.args.words.now)) shelf (g.S.Disk.view c.args.site.now) (g.S.Disk.view c.finish.new.site) c.finish.result
+    (record { last = end_of c.perform-end.result; between = g.S.Disk.view c.perform-end.new.site; performed = c.perform-end.ensures.performed; tells = c.finish.ensures })
+
+pub returns-clause-asks : goal.returns-clause-asks
+returns-clause-asks g c =
+    let shelf : ShelfCall = record { told = g.L.Shelf.told c.args.shelf.now; before = g.L.Shelf.faults c.args.shelf.now; after = g.L.Shelf.faults c.perform-end.new.shelf; reads_before = g.L.Shelf.reads c.args.shelf.now; reads_after = g.L.Shelf.reads c.perform-end.new.shelf } in
+    asked-ended (asked (map string_bytes c.args.words.now)) shelf (g.S.Disk.view c.args.site.now) (g.S.Disk.view c.finish.new.site) c.finish.result
+    (record { last = end_of c.perform-end.result; between = g.S.Disk.view c.perform-end.new.site; performed = c.perform-end.ensures.performed; tells = c.finish.ensures })
+
+pub returns-clause-stays : goal.returns-clause-stays
+returns-clause-stays g c =
+    let shelf : ShelfCall = record { told = g.L.Shelf.told c.args.shelf.now; before = g.L.Shelf.faults c.args.shelf.now; after = g.L.Shelf.faults c.perform-end.new.shelf; reads_before = g.L.Shelf.reads c.args.shelf.now; reads_after = g.L.Shelf.reads c.perform-end.new.shelf } in
+    stays-ended (asked (map string_bytes c.args.words.now)) shelf (g.S.Disk.view c.args.site.now) (g.S.Disk.view c.finish.new.site) c.finish.result
+    (record { last = end_of c.perform-end.result; between = g.S.Disk.view c.perform-end.new.site; performed = c.perform-end.ensures.performed; tells = c.finish.ensures })
+
+pub returns-clause-agreement : goal.returns-clause-agreement
+returns-clause-agreement g c =
+    let shelf : ShelfCall = record { told = g.L.Shelf.told c.args.shelf.now; before = g.L.Shelf.faults c.args.shelf.now; after = g.L.Shelf.faults c.perform-end.new.shelf; reads_before = g.L.Shelf.reads c.args.shelf.now; reads_after = g.L.Shelf.reads c.perform-end.new.shelf } in
+    agrees-ended (asked (map string_bytes c.args.words.now)) shelf (g.S.Disk.view c.args.site.now) (g.S.Disk.view c.perform-end.new.site) (g.S.Disk.view c.finish.new.site) (end_of c.perform-end.result) c.finish.result
+    (g.met.S.Disk.sound c.args.site.now) (g.met.S.Disk.sound c.perform-end.new.site) c.perform-end.ensures.performed c.finish.ensures

@@ -1,0 +1,58 @@
+-- What comes of the texts of a run, once its playbooks are judged.
+use Rattle.std.proofs.Common.{◌≡◌, inl, inr, refl, sym, subst, ℕ, List, Option, Some}
+use Rattle.std.specs.Prelude.{IsSome}
+use Rattle.serde_json.specs.Data.{Data}
+use Rattle.cacao_check.specs.Fits.{FitsKind}
+use Rattle.cacao_site.specs.View.{SiteView}
+use Rattle.flow_core.specs.SetupReading.{AreTreesOf, BreaksBindRule}
+use Rattle.flow_core.specs.Setups.{AreAccepted}
+use Rattle.flow_engine.specs.Answers as told
+use Rattle.flow_engine.specs.declared.answers.OperatorAnswer.{OperatorAnswer}
+use Rattle.flow_rules.specs.Accepted.{Accepted}
+use Rattle.flow_rules.specs.Bindings.{bindings_of}
+use Rattle.flow_rules.specs.Givens.{Given}
+use Rattle.cacao_words.specs.Requests.{RunRequest}
+use Rattle.cacao_cli.specs.Command.{end_of}
+use Rattle.cacao_cli.specs.Ends.{End, bind_refused}
+use Rattle.cacao_cli.specs.Holding.{HoldsSo}
+use Rattle.cacao_cli.specs.Starting.{BeginsSo, HasBind, LacksOthers, answers_of}
+use Rattle.cacao_cli.specs.declared.end.End.{End as HowEnd}
+use Rattle.cacao_cli.specs.declared.run_texts.RunTexts.{RunTexts}
+
+is-some : {A : Type 0} (o : Option A) (x : A) → o ≡ Some x → IsSome o
+is-some {A} o x e = subst (λ (o : Option A). IsSome o) (sym e) refl
+
+module _ (wanted : RunRequest) (texts : RunTexts) where
+  pub begins-held : (given : Given) (answers : List OperatorAnswer) (old new : SiteView) (last : End) → Accepted AreAccepted FitsKind texts.books.items texts.bind given → HasBind wanted texts
+      → told.Answers (answers_of texts) wanted.run answers → HoldsSo given wanted.run wanted.most answers old new last → BeginsSo wanted texts old new last
+  begins-held given answers old new last accepted bind are holds = inr (inr (inl (record {
+    trees = accepted.trees;
+    are = accepted.trees_are;
+    bindings = is-some (bindings_of texts.bind) accepted.bindings accepted.bindings_are;
+    bind = bind;
+    performs = inr (inr (inr (inl (record { answers = answers; are = are; given = given; accepted = accepted; holds = holds }))));
+  })))
+
+  pub begins-bind : (rule : ℕ) (answers : List OperatorAnswer) (site : SiteView) → BreaksBindRule texts.books.items texts.bind rule → HasBind wanted texts → told.Answers (answers_of texts) wanted.run answers
+      → BeginsSo wanted texts site site (bind_refused rule)
+  begins-bind rule answers site breaks bind are = inr (inr (inl (record {
+    trees = breaks.trees;
+    are = breaks.trees_are;
+    bindings = is-some (bindings_of texts.bind) breaks.bindings breaks.bindings_are;
+    bind = bind;
+    performs = inr (inr (inl (record { answers = answers; are = are; rule = rule; breaks = breaks; same = refl; ends = refl })));
+  })))
+
+  begins-lacking : (trees : List Data) → AreTreesOf texts.books.items trees → IsSome (bindings_of texts.bind) → (how : HowEnd) (site : SiteView) → LacksOthers wanted texts how → BeginsSo wanted texts site site (end_of how)
+  begins-lacking trees are some how site (inl blank) = inr (inl (record { trees = trees; are = are; blank = blank; same = refl }))
+  begins-lacking trees are some how site (inr (bind, inl (text, is, number, bad, stops))) = inr (inr (inl (record {
+    trees = trees;
+    are = are;
+    bindings = some;
+    bind = bind;
+    performs = inl (record { text = text; is = is; number = number; bad = bad; same = refl; ends = stops });
+  })))
+  begins-lacking trees are some how site (inr (bind, inr memory)) = inr (inr (inr (record { same = refl; ends = memory })))
+
+  pub bind-lacking : (rule : ℕ) (how : HowEnd) (site : SiteView) → BreaksBindRule texts.books.items texts.bind rule → LacksOthers wanted texts how → BeginsSo wanted texts site site (end_of how)
+  bind-lacking rule how site breaks lacks = begins-lacking breaks.trees breaks.trees_are (is-some (bindings_of texts.bind) breaks.bindings breaks.bindings_are) how site lacks

@@ -1,0 +1,107 @@
+-- What settles the status of a start.
+use Rattle.std.proofs.Common.{◌≡◌, ◌⊎◌, inl, inr, ◌∙◌, refl, sym, ap, subst, arith, ℕ, List, [], ◌∷◌, Bool, true, false, Option, Some, None}
+use Rattle.std.specs.Prelude.{nat_eq}
+use Rattle.std.specs.List.{list_any}
+use Rattle.std.proofs.lemmas.Option.{none-some}
+use Rattle.serde_json.specs.Data.{Data}
+use Rattle.cacao_json.specs.Reading.{tree}
+use Rattle.cacao_site.specs.View.{SiteView}
+use Rattle.flow_core.specs.SetupReading.{RefusesTexts}
+use Rattle.flow_core.specs.declared.setup_errors.SetupError.TheVariants as setup_error
+use Rattle.flow_engine.specs.Answers as told
+use Rattle.flow_engine.proofs.AnswerLawLemmas.{bad_lines_tell_nothing}
+use Rattle.run_reports.proofs.AcceptLemmas.{not-accepted}
+use Rattle.cacao_words.specs.Words.{Text}
+use Rattle.cacao_cli.specs.Causes.{LacksTree}
+use Rattle.cacao_cli.specs.Ends.{End, status_of, ended_ok}
+use Rattle.cacao_cli.specs.Exact.{HasStatus, IsOneOf, IsSettled, session_statuses}
+use Rattle.cacao_cli.specs.Files.{NamedText}
+use Rattle.cacao_cli.specs.Holding.{CameTo, HasAnswers, HasBadAnswer, IsAcceptedStart, IsRefusedStart}
+use Rattle.cacao_cli.specs.Work.{Start, bytes_of, starts}
+use Rattle.cacao_cli.proofs.CauseLemmas.{Roots, Treeless}
+use Rattle.cacao_cli.proofs.EndCases.{not-among}
+use Rattle.cacao_cli.proofs.HoldLemmas.{holds-done, holds-status}
+
+-- ---- trees
+
+pub lacks-tree : (texts : List NamedText) → Treeless texts → LacksTree texts
+lacks-tree [] h = h
+lacks-tree (text ∷ texts) (inl none) = inl none
+lacks-tree (text ∷ texts) (inr h) = inr (lacks-tree texts h)
+
+pub roots-lack : (texts : List NamedText) (roots : List Data) → Roots texts roots → LacksTree texts → ⊥
+roots-lack [] roots r h = h
+roots-lack (text ∷ texts) [] r h = r
+roots-lack (text ∷ texts) (root ∷ roots) r (inl none) = none-some root (sym none ∙ r.0)
+roots-lack (text ∷ texts) (root ∷ roots) r (inr h) = roots-lack texts roots r.1 h
+
+-- ---- no two of the causes hold
+
+bad-answers : (start : Start) → HasBadAnswer start → HasAnswers start → ⊥
+bad-answers start (text, is, number, bad) (answers, are) =
+    bad_lines_tell_nothing text.bytes start.run number answers bad (subst (λ (b : Text). told.Answers b start.run answers) (ap bytes_of is) are)
+
+refused-accepted : (start : Start) → IsRefusedStart start → IsAcceptedStart start → ⊥
+refused-accepted start (answers, inl (broken, h)) (others, (given, a)) = not-accepted start.books start.bind (setup_error.Broken broken) h (λ e. no-broken e) given a
+  where
+    no-broken : setup_error.Broken broken ≡ setup_error.Memory → ⊥
+    no-broken e = cc
+refused-accepted start (answers, inr (rule, h)) (others, (given, a)) = not-accepted start.books start.bind (setup_error.Bind rule) h (λ e. no-bind e) given a
+  where
+    no-bind : setup_error.Bind rule ≡ setup_error.Memory → ⊥
+    no-bind e = cc
+
+-- ---- the status settles the cause
+
+pub came-accepted : (start : Start) (old new : SiteView) (last : End) → CameTo start last old new → IsAcceptedStart start
+came-accepted start old new last h = ((h.session.answers, h.session.are), (h.session.given, h.session.accepted))
+
+pub came-done : (start : Start) (old new : SiteView) (last : End) → CameTo start last old new → status_of last ≡ 0 → last ≡ ended_ok
+came-done start old new last h is = holds-done h.session.given start.run start.most h.session.answers old h.between last is h.session.holds
+
+module _ (start : Start) {old new : SiteView} {n : ℕ} where
+  -- the status of a session is one of theirs, and its texts are accepted
+  pub settled-listed : IsSettled start old new n → IsOneOf n session_statuses
+  settled-listed h = subst (λ (m : ℕ). IsOneOf m session_statuses) (sym h.is)
+      (holds-status h.came.session.given start.run start.most h.came.session.answers old h.came.between h.last h.came.session.holds)
+
+  not-settled : (m : ℕ) → list_any (nat_eq m) session_statuses ≡ false → IsSettled start old new n → n ≡ m → ⊥
+  not-settled m none h e = not-among m session_statuses none (subst (λ (k : ℕ). IsOneOf k session_statuses) e (settled-listed h))
+
+  pub start-refused : HasStatus (starts start) old new n → n ≡ 1 → IsRefusedStart start
+  start-refused (inl h) e = absurd (omega (arith, e, h.1))
+  start-refused (inr (inl h)) e = h.0
+  start-refused (inr (inr h)) e = absurd (not-settled 1 refl h e)
+
+  pub refused-start : IsRefusedStart start → HasStatus (starts start) old new n → n ≡ 1
+  refused-start r (inl h) = absurd (bad-answers start h.0 r.0)
+  refused-start r (inr (inl h)) = h.1
+  refused-start r (inr (inr h)) = absurd (refused-accepted start r (came-accepted start old new h.last h.came))
+
+  pub start-bad : HasStatus (starts start) old new n → n ≡ 5 → HasBadAnswer start
+  start-bad (inl h) e = h.0
+  start-bad (inr (inl h)) e = absurd (omega (arith, e, h.1))
+  start-bad (inr (inr h)) e = absurd (not-settled 5 refl h e)
+
+  pub bad-start : HasBadAnswer start → HasStatus (starts start) old new n → n ≡ 5
+  bad-start b (inl h) = h.1
+  bad-start b (inr (inl h)) = absurd (bad-answers start b h.0.0)
+  bad-start b (inr (inr h)) = absurd (bad-answers start b (came-accepted start old new h.last h.came).0)
+
+  pub start-other : (m : ℕ) → HasStatus (starts start) old new n → n ≡ m → (5 ≡ m → ⊥) → (1 ≡ m → ⊥) → list_any (nat_eq m) session_statuses ≡ false → ⊥
+  start-other m (inl h) e a b c = a (sym h.1 ∙ e)
+  start-other m (inr (inl h)) e a b c = b (sym h.1 ∙ e)
+  start-other m (inr (inr h)) e a b c = not-settled m c h e
+
+  pub start-settled : HasStatus (starts start) old new n → (n ≡ 5 → ⊥) → (n ≡ 1 → ⊥) → IsSettled start old new n
+  start-settled (inl h) a b = absurd (a h.1)
+  start-settled (inr (inl h)) a b = absurd (b h.1)
+  start-settled (inr (inr h)) a b = h
+
+  pub start-listed : IsAcceptedStart start → HasStatus (starts start) old new n → IsOneOf n session_statuses
+  start-listed a (inl h) = absurd (bad-answers start h.0 a.0)
+  start-listed a (inr (inl h)) = absurd (refused-accepted start h.0 a)
+  start-listed a (inr (inr h)) = settled-listed h
+
+  pub start-among : IsAcceptedStart start → HasStatus (starts start) old new n → IsOneOf n (3 ∷ session_statuses)
+  start-among a h = inr (start-listed a h)

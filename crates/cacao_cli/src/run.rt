@@ -1,0 +1,47 @@
+// The command `run`.
+ghost use Rattle.std.specs.Prelude.{◌≡◌, ◌≤◌, [], Some};
+ghost use Rattle.cacao_words.specs.Commands.{run_request};
+ghost use Rattle.cacao_cli.specs.Asked.{runs};
+ghost use Rattle.cacao_cli.specs.Command.{end_of};
+ghost use Rattle.cacao_cli.specs.Ended.{Performed};
+ghost use Rattle.cacao_cli.specs.Files.{files_of, shelf_call};
+
+use crate::end::End;
+use crate::file::read_files;
+use crate::hold::start;
+use crate::limit::Limit;
+use crate::run_parts::{names_of, split};
+use cacao_site::{Shelf, Site};
+use cacao_words::RunWords;
+use std::alloc::Global;
+
+/// `run`: one session of a run, a line for each record that it appends.
+pub fn run<'w, L: Shelf, S: Site>(
+    alloc: Global,
+    wanted: &RunWords<'w>,
+    shelf: &mut L,
+    site: &mut S,
+) -> End<'w>
+    ensures performed { Performed (Some (runs (run_request wanted.entry.now)))
+        (shelf_call (L.told shelf.old) (L.faults shelf.old) (L.faults shelf.new) (L.reads shelf.old) (L.reads shelf.new))
+        (S.view site.old) (S.view site.new) (end_of result) }
+    ensures files { L.told shelf.new ≡ L.told shelf.old }
+    ensures faults { L.faults shelf.old ≤ L.faults shelf.new }
+    ensures untouched { files_of (Some (runs (run_request wanted.entry.now))) ≡ [] → shelf.new ≡ shelf.old }
+{
+    let limit = Limit::BookCount;
+    if wanted.books.as_slice().len() as u64 > limit.most() {
+        return End::Past { limit };
+    }
+    let Ok(names) = names_of(alloc, wanted) else {
+        return End::NoMemory;
+    };
+    let texts = match read_files(alloc, names.as_slice(), shelf) {
+        Ok(texts) => texts,
+        Err(end) => return end,
+    };
+    match split(alloc, wanted, texts) {
+        Ok(texts) => start(alloc, wanted, &texts, site),
+        Err(_) => End::NoMemory,
+    }
+}
