@@ -1,0 +1,11 @@
+//! Sessions on sites in memory, played for worked cases: playbooks, what is outside the engine and the filters, and what came of a
+//! session in plain values. No function promises more than that it is safe and ends.
+#![tactic(auto)]
+
+mod books;
+mod outside;
+mod play;
+
+pub use books::{Book, cut};
+pub use outside::{LATE, Outside, fair};
+pub use play::{Asked, Came, Files, Held, Play, whole};

@@ -1,0 +1,118 @@
+// Each weather of three parcels.
+use cacao_site::Weather;
+use flow_world::Close;
+use session_plays::{Book, Came, Outside, Play, fair, whole};
+use std::alloc::{AllocError, Global};
+use std::io;
+
+/// The weathers of a parcel.
+const WEATHERS: [Weather; 4] = [
+    Weather::Deliver,
+    Weather::Lose,
+    Weather::Twice,
+    Weather::Hold { until: 3_005 },
+];
+
+/// A run that ended well in one session.
+#[derive(Clone, Copy)]
+struct Ended {
+    records: usize,
+    acts: u32,
+}
+
+/// How many runs ended well with one act and with two, how many of all that ended well have nine records, and how many ended otherwise.
+#[derive(Clone, Copy)]
+struct Count {
+    one: u32,
+    two: u32,
+    nine: u32,
+    other: u32,
+}
+
+impl Count {
+    /// Counts the acts of a run.
+    fn add_acts(&mut self, acts: u32) {
+        match acts {
+            1 => self.one = self.one.saturating_add(1),
+            2 => self.two = self.two.saturating_add(1),
+            _ => self.other = self.other.saturating_add(1),
+        }
+    }
+
+    /// Counts a run.
+    fn add(&mut self, ended: Option<Ended>) {
+        match ended {
+            Some(ended) => {
+                self.add_acts(ended.acts);
+                if ended.records == 9 {
+                    self.nine = self.nine.saturating_add(1);
+                }
+            }
+            None => self.other = self.other.saturating_add(1),
+        }
+    }
+}
+
+/// No run.
+const NONE: Count = Count {
+    one: 0,
+    two: 0,
+    nine: 0,
+    other: 0,
+};
+
+/// What a run of a playbook has that ends well under this weather; nothing where it does not.
+fn ended_under(
+    alloc: Global,
+    book: Book,
+    weather: [Weather; 9],
+) -> Result<Option<Ended>, AllocError> {
+    let mut play = Play::new(alloc, Outside { weather, ..fair() })?;
+    match play.play(whole(book)) {
+        Came::Closed(Close::Ended { well: true }) => Ok(found(&mut play)),
+        _ => Ok(None),
+    }
+}
+
+/// What a run has that ended in one session: each record that was appended was said.
+fn found(play: &mut Play) -> Option<Ended> {
+    let held = play.held()?;
+    Some(Ended {
+        records: play.line_count(),
+        acts: held.acts,
+    })
+}
+
+/// The weather of three parcels, by a number below 64; each behind them is delivered.
+fn weather_of(number: usize) -> [Weather; 9] {
+    let mut weather = [Weather::Deliver; 9];
+    weather[0] = WEATHERS[number / 16 % 4];
+    weather[1] = WEATHERS[number / 4 % 4];
+    weather[2] = WEATHERS[number % 4];
+    weather
+}
+
+/// Prints how runs of a playbook ended under each weather.
+fn say_runs(rt: &(impl Print + AllocGlobal), what: &str, book: Book) -> io::Result<()> {
+    let mut count = NONE;
+    for number in 0..64usize {
+        count.add(ended_under(rt.alloc(), book, weather_of(number))?);
+    }
+    println!(rt;
+        "{what}: one act {}, two acts {}, nine records {}, other {}",
+        count.one, count.two, count.nine, count.other
+    )
+}
+
+/// Plays them.
+///
+/// In the first playbook a command has a minute, so one of its puts comes through, and its filter acts once. In the second one it has
+/// three seconds, and expires where no reply comes by then: where its first put is lost or held, in 32 weathers; where it comes and
+/// the second parcel, the reply, is lost or held, in 8; where it comes twice and both replies are lost or held, in 4. These 44 runs
+/// have nine records, and the other 20 six. The filter acts once in these 20, and in the 16 where the first put is lost; twice in the
+/// other 28.
+pub(crate) fn cases(rt: &(impl Print + AllocGlobal)) -> io::Result<()> {
+    println!(rt; "== each weather of three parcels")?;
+    say_runs(rt, "a host is blocked", Book::Block)?;
+    say_runs(rt, "one action after another", Book::Second)
+}
