@@ -1,0 +1,6 @@
+pub mod CommandTexts
+pub mod Digits
+pub mod Given
+pub mod Held
+pub mod Plain
+pub mod Running

@@ -1,0 +1,128 @@
+-- What a session that ended well leaves, and what is counted of it.
+use Rattle.std.proofs.Common.{◌≡◌, ◌⊎◌, inl, inr, ℕ, Bool, true, false, List, [], ◌∷◌, refl, sym, subst, ◌∙◌}
+use Rattle.cacao_site.specs.Counts.{Rose}
+use Rattle.cacao_site.specs.DiskCalls.{AllLeft}
+use Rattle.cacao_site.specs.View.{SiteView}
+use Rattle.flow_engine.specs.EngineView.{HoldsRecords}
+use Rattle.flow_engine.specs.declared.answers.OperatorAnswer.{OperatorAnswer}
+use Rattle.flow_core.specs.SetupReading.{BreaksRule}
+use Rattle.flow_rules.specs.Givens.{Given}
+use Rattle.flow_steps.specs.Sides.{AreFilters}
+use Rattle.flow_steps.specs.Unbroken.{AreFiltersSure, EndedByFilter}
+use Rattle.flow_steps.specs.Worlds.{Cause, Phase, World, refused, rests}
+use Rattle.flow_world.specs.Sessions.{HasClosed, HasRefused}
+use Rattle.flow_world.specs.declared.close.Close.{Close}
+use Rattle.flow_world.specs.declared.close.Close.TheVariants as close
+use Rattle.flow_world.specs.declared.error.WorldError.{WorldError}
+use Rattle.std.specs.Prelude.{IfErr, IfOk, Result, Ok, Err}
+use Rattle.rehearsal.specs.Books.{rehearsal_text}
+use Rattle.rehearsal.specs.Counts.{Counts, HoldsFilters, HoldsRun, KeepsImages}
+use Rattle.rehearsal.specs.Rehearsals.{Closes, ClosesOtherwise, FailsToCount, FailsToRehearse, FailsToRun, Refuses, Rehearsed, RunsWell, ended_well, is_well, most_records, run_number}
+use Rattle.rehearsal.specs.Settings.{IsAccepted, RefusesText}
+use Rattle.rehearsal.specs.declared.error.RehearsalError.{RehearsalError}
+use Rattle.rehearsal.specs.declared.error.RehearsalError.TheVariants as error
+use Rattle.rehearsal.specs.declared.summary.Summary.{Summary}
+
+pub is_ended_well : (how : Close) → is_well how ≡ true → how ≡ ended_well
+is_ended_well (close.Ended true) e = refl
+is_ended_well (close.Ended false) e = absurd (cc)
+is_ended_well close.Paused e = absurd (cc)
+is_ended_well (close.Waiting due) e = absurd (cc)
+is_ended_well close.Flooded e = absurd (cc)
+is_ended_well (close.Asked issue) e = absurd (cc)
+
+rests_not_refused : (p : Phase) (cause : Cause) (lacks : Bool) → p ≡ rests → p ≡ refused cause lacks → ⊥
+rests_not_refused p cause lacks e f = let g : rests ≡ refused cause lacks = sym e ∙ f in cc
+
+filters_sure : (a b : World) → b.phase ≡ rests → AreFiltersSure b ⊎ EndedByFilter a b → AreFiltersSure b
+filters_sure a b e (inl sure) = sure
+filters_sure a b e (inr over) = absurd (rests_not_refused b.phase _ _ e over.fails.phase)
+
+module _ (given : Given) (run most : ℕ) (answers : List OperatorAnswer) (old new : SiteView) (closed : HasClosed ended_well given run most answers old new) where
+  abbrev w : World
+  w = closed.went.to
+
+  records_held : AllLeft 0 new.disk (HoldsRecords w.engine.history.records)
+  records_held =
+      let whole = closed.closes.turn.up.has_file in
+      subst (λ (site : SiteView). AllLeft 0 site.disk (HoldsRecords w.engine.history.records)) closed.went.to_is
+      (λ told image left. (whole.engine.ready whole.whole told image left).0)
+
+  filters_held : AreFilters w.filters new
+  filters_held =
+      let sure = filters_sure closed.went.start w closed.closes.turn.phase closed.went.sums.unbroken.filters in
+      subst (λ (site : SiteView). AreFilters w.filters site) closed.went.to_is sure.filters
+
+  pub holds_run : HoldsRun new.disk
+  holds_run = record { records = w.engine.history.records; holds = records_held }
+
+  pub holds_filters : HoldsFilters new
+  holds_filters = record { filters = w.filters; are = filters_held }
+
+-- ---- what is told of the run
+
+without_answers : (given : Given) (how other : Close) (answers : List OperatorAnswer) (old after : SiteView) → how ≡ other → answers ≡ []
+    → HasClosed how given run_number most_records answers old after → Closes given other old after
+without_answers given how other answers old after same none closed =
+    subst (λ (h : Close). HasClosed h given run_number most_records [] old after) same
+    (subst (λ (l : List OperatorAnswer). HasClosed how given run_number most_records l old after) none closed)
+
+pub refuses : (given : Given) (why : WorldError) (answers : List OperatorAnswer) (old new : SiteView) → answers ≡ []
+    → HasRefused why given run_number most_records answers old new → Refuses given why old new
+refuses given why answers old new none told = subst (λ (l : List OperatorAnswer). HasRefused why given run_number most_records l old new) none told
+
+pub closes_otherwise : (given : Given) (how : Close) (answers : List OperatorAnswer) (old new : SiteView) → answers ≡ []
+    → HasClosed how given run_number most_records answers old new → is_well how ≡ false → ClosesOtherwise given how old new
+closes_otherwise given how answers old new none closed other = record { closed = without_answers given how how answers old new refl none closed; other = other }
+
+module _ (given : Given) (how : Close) (answers : List OperatorAnswer) (old after : SiteView) (none : answers ≡ [])
+    (closed : HasClosed how given run_number most_records answers old after) (well : is_well how ≡ true) where
+  closes : Closes given ended_well old after
+  closes = without_answers given how ended_well answers old after (is_ended_well how well) none closed
+
+  pub run_held : HoldsRun after.disk
+  run_held = holds_run given run_number most_records [] old after closes
+
+  pub all_held : HoldsFilters after
+  all_held = holds_filters given run_number most_records [] old after closes
+
+  pub fails_to_count : (new : SiteView) → Rose after.disk.faults new.disk.faults → FailsToCount given old new
+  fails_to_count new rose = record { after = after; closed = closes; rose = rose }
+
+  pub runs_well : (new : SiteView) (summary : Summary) → KeepsImages after.disk new.disk → Counts after summary → RunsWell given old new summary
+  runs_well new summary keeps counts = record {
+    after = after;
+    closed = closes;
+    keeps = keeps;
+    records = counts.records closes.went.to.engine.history.records (records_held given run_number most_records [] old after closes);
+    acts = counts.acts closes.went.to.filters (filters_held given run_number most_records [] old after closes);
+    rules = counts.rules closes.went.to.filters (filters_held given run_number most_records [] old after closes);
+  }
+
+pub fails_then : (positions : ℕ) (text : List ℕ) (given : Given) (old new : SiteView) (r : Result Summary RehearsalError) → text ≡ rehearsal_text positions → IsAccepted text given
+    → IfErr r (FailsToRun given old new) → IfErr r (FailsToRehearse positions old new)
+fails_then positions text given old new (Ok summary) same accepted why = tt
+fails_then positions text given old new (Err error.TooLong) same accepted why = absurd why
+fails_then positions text given old new (Err (error.Broken told)) same accepted why = absurd why
+fails_then positions text given old new (Err (error.Closed how)) same accepted why =
+    record { given = given; accepted = subst (λ (t : List ℕ). IsAccepted t given) same accepted; fails = why }
+fails_then positions text given old new (Err (error.Refused cause)) same accepted why =
+    record { given = given; accepted = subst (λ (t : List ℕ). IsAccepted t given) same accepted; fails = why }
+fails_then positions text given old new (Err error.Disk) same accepted why =
+    record { given = given; accepted = subst (λ (t : List ℕ). IsAccepted t given) same accepted; fails = why }
+fails_then positions text given old new (Err error.Memory) same accepted why = tt
+
+pub runs_then : (positions : ℕ) (text : List ℕ) (given : Given) (old new : SiteView) (r : Result Summary RehearsalError) → text ≡ rehearsal_text positions → IsAccepted text given
+    → IfOk r (RunsWell given old new) → IfOk r (Rehearsed positions old new)
+runs_then positions text given old new (Ok summary) same accepted runs =
+    record { given = given; accepted = subst (λ (t : List ℕ). IsAccepted t given) same accepted; runs = runs }
+runs_then positions text given old new (Err why) same accepted runs = tt
+
+pub not_read : (positions : ℕ) (text : List ℕ) (site : SiteView) (why : RehearsalError) → text ≡ rehearsal_text positions → RefusesText text why → FailsToRehearse positions site site why
+not_read positions text site error.TooLong same told = absurd told
+not_read positions text site (error.Broken told) same breaks =
+    record { breaks = subst (λ (t : List ℕ). BreaksRule (t ∷ []) [] told) same breaks; same = refl }
+not_read positions text site (error.Closed how) same told = absurd told
+not_read positions text site (error.Refused cause) same told = absurd told
+not_read positions text site error.Disk same told = absurd told
+not_read positions text site error.Memory same told = tt

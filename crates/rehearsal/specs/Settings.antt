@@ -1,0 +1,37 @@
+-- What a session of a rehearsal is given.
+use Rattle.std.specs.Prelude.{◌≡◌, ℕ, List, [], ◌∷◌, ⊤}
+use Rattle.cacao_site.specs.Clock.{clock_at}
+use Rattle.cacao_site.specs.MemorySite.{plan_of, view_of}
+use Rattle.cacao_site.specs.MemoryView.{memory_view, no_link}
+use Rattle.cacao_site.specs.declared.memory_site.MemorySite.{MemorySite}
+use Rattle.cacao_site.specs.declared.plan.SitePlan.{SitePlan}
+use Rattle.cacao_check.specs.Fits.{FitsKind}
+use Rattle.flow_rules.specs.Accepted.{Accepted}
+use Rattle.flow_rules.specs.Givens.{Given}
+use Rattle.flow_core.specs.SetupReading.{BreaksRule}
+use Rattle.flow_core.specs.Setups.{AreAccepted}
+use Rattle.rehearsal.specs.declared.error.RehearsalError.{RehearsalError}
+use Rattle.rehearsal.specs.declared.error.RehearsalError.TheVariants as error
+
+-- ---- the site
+
+-- much room, no device call that fails, no mishap, and a clock that goes on by itself
+abbrev pub site_plan : SitePlan
+site_plan = record { room = 67108864; calls = 131072; start = 0; stop_clock = 9000000000000000; failing = []; weather = [] }
+
+-- blank files, no parcel, no line
+pub record IsNewSite (site : MemorySite) : Type 0 where
+  pub plan : plan_of site ≡ site_plan
+  pub blank : view_of site ≡ memory_view [] [] 0 0 0 0 no_link (clock_at 0)
+
+-- ---- the text
+
+-- the text of the playbook alone is accepted, and this is what it gives a run
+abbrev pub IsAccepted : List ℕ → Given → Type 0
+IsAccepted text given = Accepted AreAccepted FitsKind (text ∷ []) [] given
+
+-- why the text gives no run
+abbrev pub RefusesText : List ℕ → RehearsalError → Type 0
+RefusesText text (error.Broken told) = BreaksRule (text ∷ []) [] told
+RefusesText text error.Memory = ⊤
+RefusesText text other = ⊥

@@ -1,0 +1,77 @@
+// One rehearsal.
+ghost use Rattle.std.specs.Prelude.{◌≡◌, IfOk, IfErr};
+ghost use Rattle.cacao_site.specs.MemorySite.{view_of};
+ghost use Rattle.rehearsal.specs.Rehearsals.{FailsToRehearse, FailsToRun, Rehearsed, RunsWell, is_well};
+
+use crate::book::rehearsal_text;
+use crate::counting::{CountError, count};
+use crate::error::RehearsalError;
+use crate::setting::{no_answers, read_setup};
+use crate::summary::Summary;
+use cacao_site::MemorySite;
+use flow_core::Setup;
+use flow_world::{Close, session};
+use std::alloc::Global;
+
+/// The number of the run.
+const RUN: u64 = 1;
+
+/// How many records the session may append.
+const MOST_RECORDS: u64 = 1_000_000_000;
+
+/// The most bytes of a playbook.
+const MOST_BYTES: usize = 1_048_576;
+
+/// Whether the run has ended, and well.
+fn is_well(close: Close) -> bool
+    ensures { result ≡ is_well close }
+{
+    match close {
+        Close::Ended { well } => well,
+        Close::Paused => false,
+        Close::Waiting { .. } => false,
+        Close::Flooded => false,
+        Close::Asked { .. } => false,
+    }
+}
+
+/// Runs what is given on a site in memory, and counts.
+fn run(alloc: Global, site: &mut MemorySite, setup: Setup) -> Result<Summary, RehearsalError>
+    ensures ok { IfOk result (RunsWell setup (view_of site.old) (view_of site.new)) }
+    ensures err { IfErr result (FailsToRun setup (view_of site.old) (view_of site.new)) }
+{
+    let answers = no_answers(alloc)?;
+    let close = match session(alloc, site, setup, &answers, RUN, MOST_RECORDS) {
+        Ok(close) => close,
+        Err(error) => return Err(RehearsalError::Refused(error)),
+    };
+    if !is_well(close) {
+        return Err(RehearsalError::Closed(close));
+    }
+    match count(alloc, site) {
+        Ok(summary) => Ok(summary),
+        Err(CountError::Disk) => Err(RehearsalError::Disk),
+        Err(CountError::Memory) => Err(RehearsalError::Memory),
+    }
+}
+
+/// Makes the playbook with so many positions, and holds one session of it on a site in memory, as `new_site` makes one: run 1, with
+/// at most 1,000,000,000 records. Then the records, the acts and the rules are counted.
+pub fn rehearse(
+    alloc: Global,
+    site: &mut MemorySite,
+    positions: u32,
+) -> Result<Summary, RehearsalError>
+    ensures ok { IfOk result (Rehearsed positions (view_of site.old) (view_of site.new)) }
+    ensures err { IfErr result (FailsToRehearse positions (view_of site.old) (view_of site.new)) }
+{
+    let text = rehearsal_text(alloc, positions)?;
+    if text.len() > MOST_BYTES {
+        return Err(RehearsalError::TooLong);
+    }
+    let setup = match read_setup(alloc, text) {
+        Ok(setup) => setup,
+        Err(error) => return Err(error),
+    };
+    run(alloc, site, setup)
+}
