@@ -5,13 +5,17 @@ use cacao_cli::top;
 use cacao_site::{FileShelf, FileSite};
 use std::alloc::{AllocError, Global};
 use std::process::ExitCode;
-use std::{env, io};
+use std::{env, fs, io};
 
 /// The exit status where memory was wanted.
 const NO_MEMORY: u8 = 10;
 
 fn main(rt: HostRuntime) -> ExitCode {
     let alloc = rt.alloc();
+    // Held to the end: where standard input and output are closed these take their numbers, so that no line is written into
+    // a file of the disk.
+    let _input = fs::open(&rt, "/");
+    let _output = fs::open(&rt, "/");
     let Ok(words) = words(&rt, alloc) else {
         return ExitCode::from(NO_MEMORY);
     };
