@@ -1,0 +1,77 @@
+#!/usr/bin/env python3
+"""Plays the built program as a hostile world would, on real files in temporary folders, and prints what was tried and what was found.
+
+usage: hostile.py [PROGRAM] [--rounds N] [--seed N] [--only kill|stop|lies|memory|fault|disk|depth|rows].. [--examples FOLDER]
+  kill    `run` is killed at random moments, and played again until it ends
+  stop    `run` is stopped before each of its calls to the outside, also with torn writes
+  lies    the same on a disk that syncs nothing: there something has to be found, or the comparison sees nothing
+  memory  each request for memory is refused
+  fault   each call to the outside fails, or moves one byte
+  disk    full disks, limits, files without permission, closed outputs, folders in the place of files
+  depth   the longest chains and the deepest nests that the limits allow, on a stack of 8 MiB
+  rows    bad input: cut files, broken bytes, texts at the edge of a limit
+PROGRAM is the one that `./cacao` builds, if none is named. It ends with status 1 where anything was found. docs/HOSTILE.md says what is compared.
+"""
+import argparse
+import os
+import random
+import shutil
+import subprocess
+import sys
+import tempfile
+
+from hostile_parts import books, depth, disk, play, rows, stops
+
+HERE = os.path.dirname(os.path.realpath(__file__))
+TOP = os.path.dirname(HERE)
+PARTS = {
+    "kill": stops.kill,
+    "stop": stops.stop,
+    "lies": stops.lies,
+    "memory": stops.memory,
+    "fault": stops.faults,
+    "disk": disk.disk,
+    "depth": depth.depth,
+    "rows": rows.rows,
+}
+
+
+def words():
+    parser = argparse.ArgumentParser(description=__doc__, formatter_class=argparse.RawDescriptionHelpFormatter)
+    parser.add_argument("program", nargs="?")
+    parser.add_argument("--rounds", type=int, default=100)
+    parser.add_argument("--seed", type=int, default=1)
+    parser.add_argument("--only", action="append", choices=PARTS)
+    parser.add_argument("--examples", default=f"{TOP}/examples")
+    return parser.parse_args()
+
+
+def built():
+    """The program that the launcher builds, where it is missing or made of other sources."""
+    subprocess.run([f"{TOP}/cacao", "canon", f"{TOP}/crates/cacao/data/empty.json"], stdout=subprocess.DEVNULL, check=True)
+    return f"{TOP}/.build/cacao"
+
+
+def shim(folder):
+    """The library that stands between the program and the C library; None where there is no C compiler."""
+    library = f"{folder}/hostile_shim.so"
+    compiled = subprocess.run(["cc", "-O1", "-shared", "-fPIC", "-o", library, f"{HERE}/hostile_shim.c", "-ldl"], check=False) if shutil.which("cc") else None
+    return library if compiled and compiled.returncode == 0 else None
+
+
+def main():
+    asked = words()
+    table = play.Table()
+    with tempfile.TemporaryDirectory(prefix="hostile-program-") as folder:
+        # A copy, so that any user may run it, and so that a build beside this does not change it.
+        os.chmod(folder, 0o755)
+        program = play.Program(shutil.copy(asked.program or built(), f"{folder}/cacao"), shim(folder))
+        cases = [*books.example_cases(asked.examples), *books.made_cases()]
+        for part in asked.only or PARTS:
+            PARTS[part](program, cases, table, asked.rounds, random.Random(asked.seed))
+    table.print()
+    return 1 if table.findings else 0
+
+
+if __name__ == "__main__":
+    sys.exit(main())

@@ -1,0 +1,188 @@
+"""Plays the built program in a folder, and keeps what was tried and found."""
+import os
+import resource
+import shutil
+import signal
+import subprocess
+import sys
+import tempfile
+import time
+
+SECONDS = 300  # that one run may take
+STACK = 8 * 1024 * 1024
+
+
+class Played:
+    """One run of the program: its exit status (less than 0: the signal that ended it, None: it was ended for its time), and what it said."""
+
+    def __init__(self, words, status, said):
+        self.words, self.status, self.said = words, status, said
+
+    @property
+    def lines(self):
+        """The whole lines, without their line feeds."""
+        return self.said.decode(errors="replace").split("\n")[:-1]
+
+    def __str__(self):
+        said = self.said if len(self.said) < 200 else self.said[:100] + b" .. " + self.said[-60:]
+        words = " ".join(self.words)[:200].encode(errors="surrogateescape")
+        return f"{words!r} ended with {self.status} and said {said!r}"
+
+
+class Limits:
+    """What a run may have, each as `resource` takes it; and the user who runs it."""
+
+    def __init__(self, stack=None, file=None, space=None, opened=None, user=None, closed=(), no_signal=False):
+        self.stack, self.file, self.space, self.opened = stack, file, space, opened
+        self.user, self.closed, self.no_signal = user, closed, no_signal
+
+    def take(self):
+        """Runs in the new process, before the program."""
+        pairs = [(resource.RLIMIT_STACK, self.stack), (resource.RLIMIT_FSIZE, self.file), (resource.RLIMIT_AS, self.space)]
+        for kind, most in [*pairs, (resource.RLIMIT_NOFILE, self.opened), (resource.RLIMIT_CORE, 0)]:
+            if most is not None:
+                resource.setrlimit(kind, (most, resource.getrlimit(kind)[1]))
+        if self.no_signal:
+            signal.signal(signal.SIGXFSZ, signal.SIG_IGN)
+        if self.user is not None:
+            os.setgroups([])
+            os.setgid(self.user)
+            os.setuid(self.user)
+        for number in self.closed:
+            os.close(number)
+
+
+class Program:
+    """The built program; `shim` is the library that stands between it and the C library, None where it can't be had."""
+
+    def __init__(self, path, shim):
+        self.path, self.shim = path, shim
+
+    def play(self, folder, words, shim=None, limits=None, stdout=None, kill_after=None, seconds=SECONDS):
+        """Runs the program with these words in the folder. `shim` has what the library is asked for, by the names of its source without HOSTILE_.
+        What it says goes to a file, or to `stdout`, which then keeps it."""
+        env = {"PATH": os.environ.get("PATH", "")}
+        if shim:
+            env["LD_PRELOAD"] = self.shim
+            env.update({f"HOSTILE_{name}": str(value) for name, value in shim.items()})
+        with tempfile.TemporaryFile() as told:
+            limits = limits or Limits()
+            process = subprocess.Popen(
+                [self.path, *words], cwd=folder, env=env, stdin=subprocess.DEVNULL, stdout=stdout or told, stderr=subprocess.DEVNULL, preexec_fn=limits.take
+            )
+            try:
+                if kill_after is not None:
+                    time.sleep(kill_after)
+                    process.kill()
+                status = process.wait(seconds)
+            except subprocess.TimeoutExpired:
+                process.kill()
+                process.wait()
+                status = None
+            told.seek(0)
+            return Played(words, status, told.read())
+
+    def counts(self, folder, words):
+        """How many requests for memory and calls to the outside a run makes; None where the library is not asked."""
+        if self.shim is None:
+            return None
+        with tempfile.TemporaryDirectory() as place:
+            self.play(folder, words, shim={"TELL": f"{place}/tell"})
+            if not os.path.exists(f"{place}/tell"):
+                return None
+            with open(f"{place}/tell") as told:
+                requests, calls = map(int, told.read().split())
+        return (requests, calls) if requests and calls else None
+
+    def has(self, words):
+        """Whether the program understands these words, in an empty folder."""
+        with tempfile.TemporaryDirectory() as folder:
+            return self.play(folder, words).status != 2
+
+
+class Table:
+    """What was tried and what was found, a row for each kind of trial."""
+
+    def __init__(self, is_silent=False):
+        self.rows, self.findings, self.notes, self.is_silent = [], 0, [], is_silent
+
+    def row(self, part, what):
+        row = Row(self, part, what)
+        self.rows.append(row)
+        return row
+
+    def note(self, text):
+        self.notes.append(text)
+
+    def print(self):
+        print(f"\n{'part':7} {'what':92} {'tries':>6} {'stopped':>7} {'midway':>6} {'findings':>8}")
+        for row in self.rows:
+            print(f"{row.part:7} {row.what:92} {row.tries:6} {row.stopped or '':>7} {row.midway or '':>6} {row.found:8}")
+        for text in self.notes:
+            print(f"note: {text}")
+        for part in dict.fromkeys(row.part for row in self.rows):
+            self.print_sum(part, [row for row in self.rows if row.part == part])
+        self.print_sum("all", self.rows)
+
+    @staticmethod
+    def print_sum(part, rows):
+        sums = [sum(getattr(row, name) for row in rows) for name in ("tries", "stopped", "midway", "found")]
+        print("{:7} {:92} {:6} {:7} {:6} {:8}".format(part, "in all", *sums))
+
+
+class Row:
+    """One kind of trial: how often it was tried, how many runs were stopped in it, how many of these with a part of their records kept, and
+    what was found; and, where memory was refused, how often a file failed for it, and how often a parcel was lost for it."""
+
+    def __init__(self, table, part, what):
+        self.table, self.part, self.what = table, part, what
+        self.tries = self.stopped = self.midway = self.found = self.faults = self.late = 0
+
+    def find(self, text):
+        self.found += 1
+        self.table.findings += 1
+        if self.table.is_silent:
+            return
+        if self.found <= 20:
+            print(f"FOUND {self.part}, {self.what}: {text}", flush=True)
+        elif self.found == 21:
+            print(f"FOUND {self.part}, {self.what}: more of them", flush=True)
+
+    def expect(self, holds, text):
+        if not holds:
+            self.find(text)
+        return holds
+
+
+class Folder:
+    """A fresh folder with these files, removed at the end."""
+
+    def __init__(self, files=None):
+        self.files = files or {}
+
+    def __enter__(self):
+        self.path = tempfile.mkdtemp(prefix="hostile-")
+        for name, text in self.files.items():
+            put(self.path, name, text)
+        return self.path
+
+    def __exit__(self, *_):
+        shutil.rmtree(self.path, ignore_errors=True)
+
+
+def put(folder, name, text):
+    with open(os.path.join(folder, name), "wb") as file:
+        file.write(text)
+
+
+def bytes_of(folder, name):
+    """The bytes of a file, none where it is not there."""
+    try:
+        with open(os.path.join(folder, name), "rb") as file:
+            return file.read()
+    except FileNotFoundError:
+        return b""
+
+
+def progress(text):
+    print(text, file=sys.stderr, flush=True)

@@ -1,0 +1,239 @@
+// Stands between a program and the C library (LD_PRELOAD): refuses requests for memory, and fails, shortens or stops calls to the outside.
+//
+//   HOSTILE_REFUSE=N       the Nth request for memory gets none
+//   HOSTILE_REFUSE_FROM=N  nor do the Nth and all later ones
+//   HOSTILE_FAIL=N         the Nth call to the outside fails, with the error HOSTILE_ERRNO (5, EIO, if that is not given)
+//   HOSTILE_FAIL_FROM=N    so do the Nth and all later ones
+//   HOSTILE_SHORT=N        the Nth call to the outside, if it reads or writes, moves one byte
+//   HOSTILE_STOP=N         the process is killed before its Nth call to the outside
+//   HOSTILE_TEAR=SEED      and what it wrote since the last sync of a file is left as a lost page leaves it: kept, lost, cut or noise
+//   HOSTILE_LIES=1         a sync does nothing, so that a tear takes all that was ever written
+//   HOSTILE_TELL=FILE      at the end the numbers of requests and of calls are written to FILE
+//
+// Calls to the outside are open, read, write, lseek, fsync, fdatasync, ftruncate, statx and close, counted together from 1.
+#define _GNU_SOURCE
+#include <dlfcn.h>
+#include <errno.h>
+#include <fcntl.h>
+#include <signal.h>
+#include <stdarg.h>
+#include <stdio.h>
+#include <stdlib.h>
+#include <string.h>
+#include <sys/stat.h>
+#include <unistd.h>
+
+#define FILES 256
+#define KEPT 64
+
+// A write to a file that no sync followed: where, how much, the length of the file before it, and the first bytes that it covered.
+static struct {
+    int held;
+    off_t at, before;
+    size_t count;
+    unsigned char was[KEPT];
+} unsynced[FILES];
+
+static char writable[FILES];
+static long requests, calls, refuse, refuse_from, failing, failing_from, shortened, stopping, seed, lies;
+static int is_set, error_number;
+
+#define REAL(name) ((__typeof__(&name))dlsym(RTLD_NEXT, #name))
+
+static long number(const char *name) {
+    const char *text = getenv(name);
+    return text ? atol(text) : 0;
+}
+
+static void set_up(void) {
+    if (is_set)
+        return;
+    is_set = 1;
+    refuse = number("HOSTILE_REFUSE");
+    refuse_from = number("HOSTILE_REFUSE_FROM");
+    failing = number("HOSTILE_FAIL");
+    failing_from = number("HOSTILE_FAIL_FROM");
+    shortened = number("HOSTILE_SHORT");
+    stopping = number("HOSTILE_STOP");
+    seed = number("HOSTILE_TEAR");
+    lies = number("HOSTILE_LIES");
+    error_number = number("HOSTILE_ERRNO") ? (int)number("HOSTILE_ERRNO") : EIO;
+}
+
+static int is_refused(void) {
+    set_up();
+    ++requests;
+    return requests == refuse || (refuse_from && requests >= refuse_from);
+}
+
+static unsigned draw(void) {
+    seed = seed * 6364136223846793005L + 1442695040888963407L;
+    return (unsigned)(seed >> 33);
+}
+
+// Leaves of the bytes that were written what a crash may leave of them: the choice is 0 all, 1 none, 2 the front, 3 noise.
+static void tear(int file) {
+    off_t at = unsynced[file].at, before = unsynced[file].before, end = at + (off_t)unsynced[file].count;
+    unsigned choice = draw() % 4;
+    if (choice == 0)
+        return;
+    if (choice == 1 && at < before)
+        pwrite(file, unsynced[file].was, unsynced[file].count < KEPT ? unsynced[file].count : KEPT, at);
+    for (off_t place = at; choice == 3 && place < end; place++) {
+        unsigned char byte = (unsigned char)draw();
+        pwrite(file, &byte, 1, place);
+    }
+    if (end > before)
+        REAL(ftruncate)(file, choice == 1 ? before : before + (off_t)(draw() % (unsigned)(end - before + 1)));
+}
+
+static void stop(void) {
+    for (int file = 0; seed && file < FILES; file++)
+        if (unsynced[file].held)
+            tear(file);
+    kill(getpid(), SIGKILL);
+}
+
+// Counts a call; answers whether it is to fail.
+static int fails(void) {
+    set_up();
+    ++calls;
+    if (calls == stopping)
+        stop();
+    if (calls != failing && !(failing_from && calls >= failing_from))
+        return 0;
+    errno = error_number;
+    return 1;
+}
+
+static size_t moved(size_t count) { return calls == shortened && count > 1 ? 1 : count; }
+
+// Whether the program opened it to write.
+static int is_ours(int file) { return file >= 0 && file < FILES && writable[file]; }
+
+static void note(int file, size_t count) {
+    struct stat told;
+    off_t at = lseek(file, 0, SEEK_CUR);
+    if (!is_ours(file) || fstat(file, &told))
+        return;
+    unsynced[file].held = 1;
+    unsynced[file].at = at;
+    unsynced[file].before = told.st_size;
+    unsynced[file].count = count;
+    pread(file, unsynced[file].was, KEPT, at);
+}
+
+static void forget(int file) {
+    if (is_ours(file) && !lies)
+        unsynced[file].held = 0;
+}
+
+void *malloc(size_t size) {
+    static void *(*real)(size_t);
+    if (!real)
+        real = REAL(malloc);
+    if (is_refused()) {
+        errno = ENOMEM;
+        return 0;
+    }
+    return real(size);
+}
+
+void *realloc(void *old, size_t size) {
+    static void *(*real)(void *, size_t);
+    if (!real)
+        real = REAL(realloc);
+    if (is_refused()) {
+        errno = ENOMEM;
+        return 0;
+    }
+    return real(old, size);
+}
+
+int posix_memalign(void **found, size_t align, size_t size) {
+    static int (*real)(void **, size_t, size_t);
+    if (!real)
+        real = REAL(posix_memalign);
+    return is_refused() ? ENOMEM : real(found, align, size);
+}
+
+void *aligned_alloc(size_t align, size_t size) {
+    static void *(*real)(size_t, size_t);
+    if (!real)
+        real = REAL(aligned_alloc);
+    if (is_refused()) {
+        errno = ENOMEM;
+        return 0;
+    }
+    return real(align, size);
+}
+
+int open(const char *name, int flags, ...) {
+    va_list rest;
+    va_start(rest, flags);
+    mode_t mode = flags & O_CREAT ? va_arg(rest, mode_t) : 0;
+    va_end(rest);
+    if (fails())
+        return -1;
+    int file = REAL(open)(name, flags, mode);
+    if (file >= 0 && file < FILES) {
+        writable[file] = (flags & O_ACCMODE) != O_RDONLY;
+        unsynced[file].held = 0;
+    }
+    return file;
+}
+
+ssize_t read(int file, void *into, size_t count) { return fails() ? -1 : REAL(read)(file, into, moved(count)); }
+
+ssize_t write(int file, const void *bytes, size_t count) {
+    if (fails())
+        return -1;
+    if (seed)
+        note(file, moved(count));
+    return REAL(write)(file, bytes, moved(count));
+}
+
+off_t lseek(int file, off_t at, int whence) {
+    // `note` asks for the place, which is no call of the program.
+    if (whence == SEEK_CUR && at == 0)
+        return REAL(lseek)(file, at, whence);
+    return fails() ? -1 : REAL(lseek)(file, at, whence);
+}
+
+int fsync(int file) {
+    if (fails())
+        return -1;
+    forget(file);
+    return REAL(fsync)(file);
+}
+
+int fdatasync(int file) {
+    if (fails())
+        return -1;
+    forget(file);
+    return REAL(fdatasync)(file);
+}
+
+int ftruncate(int file, off_t length) { return fails() ? -1 : REAL(ftruncate)(file, length); }
+
+int statx(int folder, const char *restrict name, int flags, unsigned mask, struct statx *restrict into) {
+    return fails() ? -1 : REAL(statx)(folder, name, flags, mask, into);
+}
+
+// A close that fails closes nevertheless. A file that is to be torn later stays open.
+int close(int file) {
+    int fault = fails(), code = errno, answer = lies && is_ours(file) ? 0 : REAL(close)(file);
+    if (!fault)
+        return answer;
+    errno = code;
+    return -1;
+}
+
+__attribute__((destructor)) static void tell(void) {
+    const char *name = getenv("HOSTILE_TELL");
+    char text[64];
+    if (!name)
+        return;
+    int file = REAL(open)(name, O_WRONLY | O_CREAT | O_TRUNC, 0666);
+    REAL(write)(file, text, (size_t)snprintf(text, sizeof text, "%ld %ld\n", requests, calls));
+}
