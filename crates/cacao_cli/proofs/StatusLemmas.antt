@@ -17,7 +17,7 @@ use Rattle.cacao_cli.specs.Work.{Work, ends, judges, opens_filter, opens_run, co
 use Rattle.cacao_cli.specs.Ended.{Ended}
 use Rattle.cacao_cli.specs.Audited.{Agree, Disagree, PassTasks}
 use Rattle.cacao_cli.specs.Exact.{HasVerdict, IsOneOf, ComesExactly, IfFilesTold, IfTold, IsBroken, HasStatus, file_faults, faults_of, IsSettled, session_statuses, stands_for}
-use Rattle.cacao_cli.specs.Causes.{AllWithin, FindsDisagreement, IsAuditOf, SomeTreeless, Trees, IsMissing, IsTooLong, IsUnreadable, IsPastLimit, IsRefused, BreaksRule, KeepsRules, CanBeDone, FindsItDamaged, EndsAs, EndsAsAnother, EndsAsAsked, EndsAsWaiting, HasTexts, HasTrees, LacksTree, SessionTo}
+use Rattle.cacao_cli.specs.Causes.{AllWithin, FindsDisagreement, IsAuditOf, SomeTreeless, Trees, IsMissing, IsTooLong, IsUnreadable, IsPastLimit, NamesTooMuch, IsRefused, BreaksRule, KeepsRules, CanBeDone, FindsItDamaged, EndsAs, EndsAsAnother, EndsAsAsked, EndsAsWaiting, HasTexts, HasTrees, LacksTree, SessionTo}
 use Rattle.cacao_cli.specs.Openings.{HoldsFilter, IsDamagedFilter}
 use Rattle.cacao_cli.specs.declared.limit.Limit.TheVariants.{BookCount}
 use Rattle.cacao_cli.specs.declared.reason.Reason.TheVariants.{Line}
@@ -707,6 +707,53 @@ file-statuses (Some (shadows agent)) files old new n called = filter-files (Some
 file-statuses (Some (decides agent packets)) files old new n called = decide-files agent packets files old new n called
 file-statuses (Some (audits engine filters)) files old new n called = (audit-statuses engine filters files old new n called).of_files
 
+-- too many playbooks, and files that are too long, are told before all work
+decides-much : (agent : ℕ) (packets : Text) (files : Files) (old new : SiteView) (n : ℕ) → Comes (packet_work files agent packets) old new n → IsTooLong files (packet_file packets ∷ []) → n ≡ 11
+decides-much agent packets files old new n called long = go (packet_work_case files agent packets)
+  where
+    at : (w : Work) → packet_work files agent packets ≡ w → Comes w old new n
+    at w is = subst (λ (w : Work). Comes w old new n) is called
+
+    go : PacketWork files agent packets → n ≡ 11
+    go (is_missing name m is) = absurd (missing-long files (packet_file packets ∷ []) m long)
+    go (is_too_long limit l is) = at (ends [] (past limit)) is
+    go (is_bad name number b is) = absurd (long-apart files packets long b.0)
+    go (is_read found has is) = absurd (long-apart files packets long has.0)
+
+runs-much : (wanted : RunRequest) (files : Files) (old new : SiteView) (n : ℕ) → Called (Some (runs wanted)) files old new n → NamesTooMuch (Some (runs wanted)) files → n ≡ 11
+runs-much wanted files old new n called much = go (run_case wanted files) much
+  where
+    at : (w : Work) → work (Some (runs wanted)) (reading files (files_of (Some (runs wanted)))) ≡ w → Comes w old new n
+    at w is = subst (λ (w : Work). Comes w old new n) is called
+
+    none : (texts : List NamedText) → HasTexts files wanted texts → NamesTooMuch (Some (runs wanted)) files → ⊥
+    none texts has (inl many) = no-texts files wanted texts has many
+    none texts has (inr long) = long-texts wanted files old new n texts has long
+
+    go : RunCase wanted files → NamesTooMuch (Some (runs wanted)) files → n ≡ 11
+    go (run_many many is) h = at (ends [] (past BookCount)) is
+    go (run_missing name m is) (inl many) = absurd (subst (λ (b : Bool). IsMissing files (RunList wanted b)) many m)
+    go (run_missing name m is) (inr long) = absurd (missing-long files (files_of (Some (runs wanted))) m long)
+    go (run_long limit l is) h = at (ends [] (past limit)) is
+    go (run_treeless texts name reason has within t is) h = absurd (none texts has h)
+    go (run_starts texts roots has within r is) h = absurd (none texts has h)
+
+too-much : (asked : Option Asked) (files : Files) (old new : SiteView) (n : ℕ) → Called asked files old new n → NamesTooMuch asked files → IsOneOf n (11 ∷ 3 ∷ 9 ∷ 10 ∷ [])
+too-much None files old new n called h = absurd h
+too-much (Some (canonises book)) files old new n called h = (canon-statuses book files old new n called).told.past_is h
+too-much (Some (checks books)) files old new n called h = inl ((check-by books files old new n (has_too_many (checks books)) called).past_is h)
+too-much (Some (runs wanted)) files old new n called h = inl (runs-much wanted files old new n called h)
+too-much (Some shows) files old new n called (inl many) = absurd (true≢false (sym many))
+too-much (Some shows) files old new n called (inr long) = absurd long
+too-much (Some (lists_rules agent)) files old new n called (inl many) = absurd (true≢false (sym many))
+too-much (Some (lists_rules agent)) files old new n called (inr long) = absurd long
+too-much (Some (shadows agent)) files old new n called (inl many) = absurd (true≢false (sym many))
+too-much (Some (shadows agent)) files old new n called (inr long) = absurd long
+too-much (Some (decides agent packets)) files old new n called (inl many) = absurd (true≢false (sym many))
+too-much (Some (decides agent packets)) files old new n called (inr long) = inl (decides-much agent packets files old new n called long)
+too-much (Some (audits engine filters)) files old new n called (inl many) = absurd (true≢false (sym many))
+too-much (Some (audits engine filters)) files old new n called (inr long) = (audit-statuses engine filters files old new n called).told.past_is (inl long)
+
 -- a status may come of its work
 has-comes : (w : Work) (old new : SiteView) (n : ℕ) → HasStatus w old new n → Comes w old new n
 has-comes (ends lines end) old new n h = h
@@ -905,7 +952,7 @@ stands-with (Some (shadows agent)) n h = h
 stands-with (Some (audits engine filters)) n h = h
 
 widen : (Has : Type 0) (answer : ℕ) (list : List File) → Has ⊎ IsOneOf answer (file_faults list) → Has ⊎ IsOneOf answer (3 ∷ 9 ∷ 10 ∷ [])
-widen Has answer list (inl h) = inl h
+widen Has answer _ (inl h) = inl h
 widen Has answer [] (inr f) = inr (inr f)
 widen Has answer (file ∷ more) (inr f) = inr f
 
@@ -927,6 +974,14 @@ module _ (asked : Option Asked) (shelf : ShelfCall) (old new : SiteView) (answer
       comes 1 (3 ∷ 9 ∷ 10 ∷ []) (Called asked files old new answer) (IsRefused asked files) answer (λ h. (file-statuses asked files old new answer h).is_refused) (λ h. (file-statuses asked files old new answer h).refused_is)
       (apart 1 (λ e. omega (arith, e)) (λ e. omega (arith, e)) (λ e. omega (arith, e)))
       (widen (Called asked files old new answer) answer (files_of asked) (status-seen asked files shelf old new answer seen ended)))
+
+  pub much-ended : IfFilesTold (files_of asked) shelf.told (λ files. NamesTooMuch asked files → IsOneOf answer (11 ∷ 3 ∷ 9 ∷ 10 ∷ []))
+  much-ended = if-told (files_of asked) shelf.told _ (λ files seen. λ h.
+      much files h (widen (Called asked files old new answer) answer (files_of asked) (status-seen asked files shelf old new answer seen ended)))
+    where
+      much : (files : Files) → NamesTooMuch asked files → Called asked files old new answer ⊎ IsOneOf answer (3 ∷ 9 ∷ 10 ∷ []) → IsOneOf answer (11 ∷ 3 ∷ 9 ∷ 10 ∷ [])
+      much files h (inl called) = too-much asked files old new answer called h
+      much files h (inr f) = inr f
 
   pub disagreement-ended : IfFilesTold (files_of asked) shelf.told (λ files. ComesExactly 18 (3 ∷ 9 ∷ 10 ∷ []) (FindsDisagreement asked files) answer)
   disagreement-ended = if-told (files_of asked) shelf.told _ (λ files seen.

@@ -147,6 +147,11 @@ IsRefused (Some (decides agent packets)) files = ⊥
 IsRefused (Some (shadows agent)) files = ⊥
 IsRefused (Some (audits engine filters)) files = ⊥
 
+-- the words name too many playbooks, or the first file that is not there within its limit is longer than that
+abbrev pub NamesTooMuch : Option Asked → Files → Type 0
+NamesTooMuch None files = ⊥
+NamesTooMuch (Some command) files = (has_too_many command ≡ true) ⊎ IsTooLong files (files_of (Some command))
+
 -- a quantity passes its limit
 abbrev pub IsPastLimit : Option Asked → Files → SiteView → SiteView → Type 0
 IsPastLimit None files old new = ⊥

@@ -4,11 +4,11 @@ ghost use Rattle.cacao_site.specs.Counts.{Rose, next_count};
 ghost use Rattle.flow_world.specs.Sessions.{KeepsAgreement};
 ghost use Rattle.cacao_cli.specs.Agreement.{MayBegin};
 ghost use Rattle.cacao_cli.specs.Asked.{asked};
-ghost use Rattle.cacao_cli.specs.Causes.{CanBeDone, FindsDisagreement, FindsItDamaged, IsMissing, IsPastLimit, IsRefused, IsUnreadable, EndsAs, EndsAsAnother, EndsAsAsked, EndsAsWaiting};
+ghost use Rattle.cacao_cli.specs.Causes.{CanBeDone, FindsDisagreement, FindsItDamaged, IsMissing, IsPastLimit, IsRefused, IsUnreadable, NamesTooMuch, EndsAs, EndsAsAnother, EndsAsAsked, EndsAsWaiting};
 ghost use Rattle.cacao_cli.specs.Command.{asked_by, end_of};
 ghost use Rattle.cacao_cli.specs.Ended.{Ended, Performed};
 ghost use Rattle.cacao_cli.specs.Ends.{ended_failed, flooded, paused};
-ghost use Rattle.cacao_cli.specs.Exact.{Answers, ComesExactly, IfFilesTold, IfTold, stands_for};
+ghost use Rattle.cacao_cli.specs.Exact.{IsOneOf, Answers, ComesExactly, IfFilesTold, IfTold, stands_for};
 ghost use Rattle.cacao_cli.specs.Files.{files_of, shelf_call};
 ghost use Rattle.cacao_cli.specs.Leaves.{Leaves, LeavesAll, NoFault, ReadsAtMost};
 
@@ -111,6 +111,8 @@ pub fn top<L: Shelf, S: Site>(alloc: Global, words: &[String], shelf: &mut L, si
     ensures past_limit { IfTold (asked (map string_bytes words.now)) (L.told shelf.old) (S.view site.old) (λ files.
         ComesExactly 11 (stands_for (asked (map string_bytes words.now)))
         (IsPastLimit (asked (map string_bytes words.now)) files (S.view site.old) (S.view site.new)) result) }
+    ensures too_much { IfFilesTold (files_of (asked (map string_bytes words.now))) (L.told shelf.old) (λ files.
+        NamesTooMuch (asked (map string_bytes words.now)) files → IsOneOf result (11 ∷ 3 ∷ 9 ∷ 10 ∷ [])) }
     ensures damaged { IfTold (asked (map string_bytes words.now)) (L.told shelf.old) (S.view site.old) (λ files.
         ComesExactly 13 (stands_for (asked (map string_bytes words.now)))
         (FindsItDamaged (asked (map string_bytes words.now)) files (S.view site.old) (S.view site.new)) result) }
