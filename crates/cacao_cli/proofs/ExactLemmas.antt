@@ -59,7 +59,7 @@ pub data IsSeen (told : Option Files) (list : List File) (files : Files) : Type 
   by_told : told ≡ Some files → IsSeen told list files
   by_none : list ≡ [] → IsSeen told list files
 
-seen-read : (told : Option Files) (list : List File) (files : Files) (count : ℕ) (read : Read) → IsSeen told list files → Reads told list count read → (read ≡ reading files list) ⊎ Fails list read
+pub seen-read : (told : Option Files) (list : List File) (files : Files) (count : ℕ) (read : Read) → IsSeen told list files → Reads told list count read → (read ≡ reading files list) ⊎ Fails list read
 seen-read told list files count read (by_told is) reads = reads-told files list count read (subst (λ (t : Option Files). Reads t list count read) is reads)
 seen-read told list files count read (by_none is) reads = inl ((empty-read told count read (subst (λ (l : List File). Reads told l count read) is reads)).1 ∙ ap (reading files) (sym is))
 
@@ -72,7 +72,7 @@ memory-or-cut answer list (inl e) = cut-among answer list (inr (inl e))
 memory-or-cut answer list (inr h) = cut-among answer list h
 
 -- a call whose reading failed
-failed-status : (asked : Asked) (read : Read) (b : Bool) (old mid new : SiteView) (last : End) (answer : ℕ) → Fails (if b then [] else named_by asked) read
+pub failed-status : (asked : Asked) (read : Read) (b : Bool) (old mid new : SiteView) (last : End) (answer : ℕ) → Fails (if b then [] else named_by asked) read
     → Performs (if b then ends [] (past BookCount) else or_end read (work_on asked)) old mid last → Tells last mid new answer → IsOneOf answer (file_faults (if b then [] else named_by asked))
 failed-status asked read true old mid new last answer (by_shelf name is none) performs tells = absurd (cc)
 failed-status asked read true old mid new last answer (by_memory is none) performs tells = absurd (cc)

@@ -21,6 +21,7 @@ pub mod PerformLemmas
 pub mod ReadLemmas
 pub mod ReportLines
 pub mod ReportWords
+pub mod ReturnLemmas
 pub mod RunFileLemmas
 pub mod RunFiles
 pub mod RunLemmas

@@ -434,7 +434,7 @@ module _ (engine : Text) (filters : List (ℕ × Text)) (files : Files) (old new
 -- ---- run
 
 -- what the files of `run` come to
-data RunCase (wanted : RunRequest) (files : Files) : Type 0 where
+pub data RunCase (wanted : RunRequest) (files : Files) : Type 0 where
   run_many : has_too_many (runs wanted) ≡ true → work (Some (runs wanted)) (reading files (files_of (Some (runs wanted)))) ≡ ends [] (past BookCount) → RunCase wanted files
   run_missing : (name : Text) → IsMissing files (files_of (Some (runs wanted))) → work (Some (runs wanted)) (reading files (files_of (Some (runs wanted)))) ≡ ends [] (no_such_file name) → RunCase wanted files
   run_long : (limit : Limit) → IsTooLong files (files_of (Some (runs wanted))) → work (Some (runs wanted)) (reading files (files_of (Some (runs wanted)))) ≡ ends [] (past limit) → RunCase wanted files
@@ -449,7 +449,7 @@ RunList wanted b = if b then [] else map book_file (run_names wanted)
 abbrev RunWork : RunRequest → Bool → WasRead → Work
 RunWork wanted b r = if b then ends [] (past BookCount) else or_end r (work_on (runs wanted))
 
-run_case : (wanted : RunRequest) (files : Files) → RunCase wanted files
+pub run_case : (wanted : RunRequest) (files : Files) → RunCase wanted files
 run_case wanted files = go (has_too_many (runs wanted)) refl
   where
     go : (b : Bool) → b ≡ has_too_many (runs wanted) → RunCase wanted files
@@ -478,7 +478,7 @@ run_case wanted files = go (has_too_many (runs wanted)) refl
             in_trees (all_trees roots r f) = run_starts texts roots has within r (at (Ok texts) e ∙ ap (λ (r : Result (List Data) End). or_end r (λ roots. starts (start_of wanted texts))) f)
 
 -- the texts are one list
-same-texts : (files : Files) (wanted : RunRequest) (xs ys : List NamedText) → HasTexts files wanted xs → HasTexts files wanted ys → xs ≡ ys
+pub same-texts : (files : Files) (wanted : RunRequest) (xs ys : List NamedText) → HasTexts files wanted xs → HasTexts files wanted ys → xs ≡ ys
 same-texts files wanted xs ys a b = one (reading files (map book_file (run_names wanted))) xs ys a.are b.are
   where
     one : (r : WasRead) (xs ys : List NamedText) → r ≡ Ok xs → r ≡ Ok ys → xs ≡ ys

@@ -11,5 +11,6 @@ pub mod Holding
 pub mod Leaves
 pub mod Lines
 pub mod Openings
+pub mod Returning
 pub mod Starting
 pub mod Work

@@ -11,6 +11,7 @@ ghost use Rattle.cacao_cli.specs.Ends.{ended_failed, flooded, paused};
 ghost use Rattle.cacao_cli.specs.Exact.{IsOneOf, Answers, ComesExactly, IfFilesTold, IfTold, stands_for};
 ghost use Rattle.cacao_cli.specs.Files.{files_of, shelf_call};
 ghost use Rattle.cacao_cli.specs.Leaves.{Leaves, LeavesAll, NoFault, ReadsAtMost};
+ghost use Rattle.cacao_cli.specs.Returning.{TellsOnReturn};
 
 use crate::audit::audit;
 use crate::canon::canon;
@@ -137,6 +138,9 @@ pub fn top<L: Shelf, S: Site>(alloc: Global, words: &[String], shelf: &mut L, si
     ensures asks { IfTold (asked (map string_bytes words.now)) (L.told shelf.old) (S.view site.old) (λ files.
         ComesExactly 16 (stands_for (asked (map string_bytes words.now)))
         (EndsAsAsked (asked (map string_bytes words.now)) files (S.view site.old) (S.view site.new)) result) }
+
+    // Where `run` held a session that closed, how its run stands by the bytes that the engine's file reads as on return.
+    ensures on_return { TellsOnReturn (asked (map string_bytes words.now)) (L.told shelf.old) (S.view site.new) result }
 
     // The headline: where all agrees when the call begins, all that a crash may leave agrees at each beat of the call up to its return,
     // whatever its status.

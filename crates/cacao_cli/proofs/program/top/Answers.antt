@@ -7,6 +7,7 @@ use Rattle.cacao_cli.proofs.AgreedLemmas.{agrees-ended}
 use Rattle.cacao_cli.proofs.CountLemmas.{disk-ended, failed-ended, steady-ended, unsaid-ended, said-ended, memory-ended}
 use Rattle.cacao_cli.proofs.ExactLemmas.{exact-ended}
 use Rattle.cacao_cli.proofs.LeaveLemmas.{leaves-ended, few-ended}
+use Rattle.cacao_cli.proofs.ReturnLemmas.{returns-ended}
 use Rattle.cacao_cli.proofs.StatusLemmas.{damaged-ended, disagreement-ended, done-ended, words-ended, missing-ended, unreadable-ended, past-ended, much-ended, refused-ended, another-ended, asked-ended, failed-run-ended, flooded-ended, paused-ended, waiting-ended}
 use Rattle.cacao_cli.proofs.StayLemmas.{stays-ended}
 use Rattle.cacao_cli.proofs.program.top.Goals as goal
@@ -166,3 +167,9 @@ returns-clause-agreement g c =
     let shelf : ShelfCall = record { told = g.L.Shelf.told c.args.shelf.now; before = g.L.Shelf.faults c.args.shelf.now; after = g.L.Shelf.faults c.perform-end.new.shelf; reads_before = g.L.Shelf.reads c.args.shelf.now; reads_after = g.L.Shelf.reads c.perform-end.new.shelf } in
     agrees-ended (asked (map string_bytes c.args.words.now)) shelf (g.S.Disk.view c.args.site.now) (g.S.Disk.view c.perform-end.new.site) (g.S.Disk.view c.finish.new.site) (end_of c.perform-end.result) c.finish.result
     (g.met.S.Disk.sound c.args.site.now) (g.met.S.Disk.sound c.perform-end.new.site) c.perform-end.ensures.performed c.finish.ensures
+
+pub returns-clause-on_return : goal.returns-clause-on_return
+returns-clause-on_return g c =
+    let shelf : ShelfCall = record { told = g.L.Shelf.told c.args.shelf.now; before = g.L.Shelf.faults c.args.shelf.now; after = g.L.Shelf.faults c.perform-end.new.shelf; reads_before = g.L.Shelf.reads c.args.shelf.now; reads_after = g.L.Shelf.reads c.perform-end.new.shelf } in
+    returns-ended (asked (map string_bytes c.args.words.now)) shelf (g.S.Disk.view c.args.site.now) (g.S.Disk.view c.perform-end.new.site) (g.S.Disk.view c.finish.new.site) (end_of c.perform-end.result) c.finish.result
+    (g.met.S.Disk.sound c.perform-end.new.site) c.perform-end.ensures.performed c.finish.ensures
