@@ -1,12 +1,12 @@
 -- Agreement over lines that are no record's.
-use Rattle.std.proofs.Common.{◌≡◌, ◌⊎◌, inl, inr, ◌∙◌, refl, sym, ap, subst, arith, ℕ, ◌≤◌, ◌<◌, nat_le, IsTrue, List, [], ◌∷◌, ◌++◌, append-nil, append_assoc, All, Option, Some, None}
-use Rattle.std.specs.Prelude.{Contains, IfSome, filter}
+use Rattle.std.proofs.Common.{◌≡◌, inl, inr, ◌∙◌, refl, sym, ap, subst, arith, ℕ, ◌≤◌, nat_le, IsTrue, List, [], ◌∷◌, ◌++◌, append-nil, append_assoc, All, Option, Some, None}
+use Rattle.std.specs.Prelude.{Contains, IfSome}
 use Rattle.std.proofs.lemmas.Bool.{cases_lt}
 use Rattle.std.proofs.lemmas.List.Elements.{All-contains, All-contains_itself, All-filter, Contains-append_cases, Contains-push_cases, filter-append}
 use Rattle.cacao_site.specs.DiskCalls.{IsLeft, KeepsDisk, SameRest}
 use Rattle.cacao_site.specs.LinkCalls.{Gains, GainsAll}
 use Rattle.cacao_site.specs.Sound.{IsSound}
-use Rattle.cacao_site.specs.View.{ClockView, DiskView, LinkView, SiteView}
+use Rattle.cacao_site.specs.View.{LinkView, SiteView}
 use Rattle.cacao_site.specs.declared.parcel.Parcel.{Parcel}
 use Rattle.flow_rules.specs.Laws.{IsRecordLine}
 use Rattle.flow_laws.specs.Beats.{OnlyChanges}

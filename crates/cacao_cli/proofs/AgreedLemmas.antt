@@ -1,8 +1,7 @@
 -- Agreement at each beat of a call.
-use Rattle.std.proofs.Common.{◌≡◌, ◌⊎◌, inl, inr, ◌∙◌, refl, sym, ap, subst, arith, ℕ, ◌≤◌, Bool, true, false, List, [], ◌∷◌, ◌++◌, Option, Some, None, Result, Ok, Err, map}
+use Rattle.std.proofs.Common.{◌≡◌, inl, inr, refl, ap, subst, ℕ, Bool, true, false, List, [], ◌∷◌, ◌++◌, Option, Some, None, Result, Ok, Err, map}
 use Rattle.std.specs.Prelude.{if◌then◌else◌}
 use Rattle.serde_json.specs.Data.{Data}
-use Rattle.cacao_site.specs.DiskCalls.{IsLeft}
 use Rattle.cacao_site.specs.Sound.{IsSound}
 use Rattle.cacao_site.specs.View.{LinkView, SiteView}
 use Rattle.oc2_nets.specs.declared.packets.Packet.{Packet}
@@ -14,18 +13,17 @@ use Rattle.flow_world.specs.Sessions.{IsStart, KeepsAgreement}
 use Rattle.slpf_acts.specs.Acts.{table_of}
 use Rattle.cacao_check.specs.declared.breaks.Mode.TheVariants.{Read as Reading}
 use Rattle.run_reports.specs.RunLines.{lines_of}
-use Rattle.cacao_words.specs.Requests.{RunRequest}
 use Rattle.cacao_words.specs.Words.{Text}
 use Rattle.cacao_cli.specs.Agreement.{Agrees, MayBegin}
-use Rattle.cacao_cli.specs.Asked.{Asked, canonises, checks, runs, shows, lists_rules, decides, shadows, audits}
+use Rattle.cacao_cli.specs.Asked.{Asked, canonises, checks, runs, shows, lists_rules, decides, shadows, rehearses, audits}
 use Rattle.cacao_cli.specs.Ended.{Performed, Performs}
 use Rattle.cacao_cli.specs.Ends.{End, text_of, accepted, done, past}
 use Rattle.cacao_cli.specs.Files.{NamedText, ShelfCall, has_too_many}
 use Rattle.cacao_cli.specs.Lines.{SaysWork, Tells, TellsText}
 use Rattle.cacao_cli.specs.Openings.{Opens}
-use Rattle.cacao_cli.specs.Work.{Look, Work, ends, judges, opens_filter, opens_run, compares, starts, at_decisions, at_rules, at_shadows, canon_line, or_end, packets_or_end, start_of, trees_of, trees_wanted, work, work_on}
+use Rattle.cacao_cli.specs.Work.{Work, ends, judges, opens_filter, opens_run, compares, rehearsals, starts, at_decisions, canon_line, or_end, packets_or_end, start_of, trees_of, trees_wanted, work, work_on}
 use Rattle.cacao_cli.specs.declared.limit.Limit.TheVariants.{BookCount}
-use Rattle.cacao_cli.proofs.AgreeLemmas.{AreOtherLines, IsInTime, SaysOthers, front-others, others-all, others-failed, others-line, others-same, others-trans, rest-in-time, since-others, sound-in-time}
+use Rattle.cacao_cli.proofs.AgreeLemmas.{AreOtherLines, SaysOthers, front-others, others-all, others-failed, others-line, others-same, others-trans, rest-in-time, since-others, sound-in-time}
 use Rattle.cacao_cli.proofs.OpenLemmas.{each-file}
 use Rattle.cacao_cli.proofs.OtherLines.{canon-others, filter-others, last-other}
 use Rattle.cacao_cli.proofs.ReadLemmas.{Read}
@@ -77,6 +75,7 @@ BeginsWork (judges trees mode kept) old = BeginsWork kept old × Agrees old
 BeginsWork (opens_filter agent look) old = Agrees old
 BeginsWork opens_run old = Agrees old
 BeginsWork (compares files) old = Agrees old
+BeginsWork (rehearsals positions) old = Agrees old
 BeginsWork (starts start) old = IsStart old start.run
 
 work-agrees : (w : Work) (old mid new : SiteView) (last : End) (answer : ℕ) → IsSound old → IsSound mid → BeginsWork w old → Performs w old mid last → Tells last mid new answer → KeepsAgreement old new
@@ -99,6 +98,8 @@ work-agrees opens_run old mid new last answer sound later b (inr (inr (inl p))) 
 work-agrees opens_run old mid new last answer sound later b (inr (inr (inr (inl p)))) tells = read-since old sound b 0 mid new p.opens (tells-others last mid new answer tells)
 work-agrees opens_run old mid new last answer sound later b (inr (inr (inr (inr p)))) tells = read-since old sound b 0 mid new p.opens (tells-others last mid new answer tells)
 work-agrees (compares files) old mid new last answer sound later b p tells =
+    said-since old sound b new (others-trans old mid new (others-same old mid p.same) (tells-others last mid new answer tells))
+work-agrees (rehearsals positions) old mid new last answer sound later b p tells =
     said-since old sound b new (others-trans old mid new (others-same old mid p.same) (tells-others last mid new answer tells))
 work-agrees (starts start) old mid new last answer sound later b p tells =
     since-others old mid new (start-agrees start old mid mid last answer p b) (sound-in-time mid later) (tells-others last mid new answer tells)
@@ -128,6 +129,7 @@ texts-begin (decides agent packets) (text ∷ texts) old h = go (packets_of text
     go (Err number) = (tt, h)
     go (Ok found) = h
 texts-begin (shadows agent) texts old h = h
+texts-begin (rehearses positions) texts old h = h
 texts-begin (audits engine filters) texts old h = h
 
 agrees-there : (asked : Option Asked) (old : SiteView) → MayBegin asked old → Agrees old
@@ -139,6 +141,7 @@ agrees-there (Some shows) old h = h
 agrees-there (Some (lists_rules agent)) old h = h
 agrees-there (Some (decides agent packets)) old h = h
 agrees-there (Some (shadows agent)) old h = h
+agrees-there (Some (rehearses positions)) old h = h
 agrees-there (Some (audits engine filters)) old h = h
 
 work-begins : (asked : Option Asked) (read : Read) (old : SiteView) → MayBegin asked old → BeginsWork (work asked read) old

@@ -1,6 +1,5 @@
 -- The files of a run are compared, and the verdict is told.
-use Rattle.std.proofs.Common.{◌≡◌, ◌⊎◌, inl, inr, ◌∙◌, refl, sym, ap, subst, arith, ℕ, List, [], Option, Some, None, Result, Ok, Err}
-use Rattle.std.specs.Prelude.{IsOkAnd}
+use Rattle.std.proofs.Common.{◌≡◌, ◌⊎◌, inl, inr, ◌∙◌, sym, ap, arith, ℕ, List}
 use Rattle.cacao_site.specs.Counts.{next_count}
 use Rattle.cacao_site.specs.View.{SiteView}
 use Rattle.flow_audit.specs.declared.verdict.Verdict17.{Verdict17}

@@ -9,22 +9,23 @@ use Rattle.cacao_check.specs.declared.breaks.Mode.TheVariants.{Read as Reading}
 use Rattle.oc2_nets.specs.declared.packets.Packet.{Packet}
 use Rattle.filter_reports.specs.PacketFiles.{packets_of}
 use Rattle.cacao_words.specs.Words.{Text}
-use Rattle.cacao_cli.specs.Asked.{Asked, canonises, checks, shows, lists_rules, decides, shadows, audits, runs}
+use Rattle.cacao_cli.specs.Asked.{Asked, canonises, checks, shows, lists_rules, decides, shadows, rehearses, audits, runs}
 use Rattle.cacao_cli.specs.Ends.{End, status_of, text_of, is_fault, done, accepted, refused, past, shelf_failed, no_such_file, unsaid, no_memory}
 use Rattle.cacao_cli.specs.Files.{File, Files, Content, ShelfCall, NamedText, Reads, all_read, wants_memory, stops, goes_on, text_in, item_then, named, whole, missing, too_long, failed, no_room, faults_behind, files_of, named_by, has_too_many}
 use Rattle.cacao_cli.specs.Lines.{SaysWork, Tells}
-use Rattle.cacao_cli.specs.Work.{Work, ends, judges, opens_filter, opens_run, compares, at_decisions, or_end, packets_or_end, trees_of, canon_line, work, work_on, starts, start_of, trees_wanted}
+use Rattle.cacao_cli.specs.Work.{Work, ends, judges, opens_filter, opens_run, compares, rehearsals, at_decisions, or_end, packets_or_end, trees_of, canon_line, work, work_on, starts, start_of, trees_wanted}
 use Rattle.cacao_cli.specs.Ended.{Performs, Performed, Ended}
 use Rattle.cacao_cli.specs.Exact.{IsOneOf, session_statuses}
-use Rattle.cacao_cli.specs.Leaves.{NoDiskFault, NoFault}
+use Rattle.cacao_cli.specs.Leaves.{CountsDisk, CountsUnsaid, NoDiskFault, NoFault}
 use Rattle.cacao_cli.specs.declared.limit.Limit.TheVariants.{BookCount}
 use Rattle.cacao_cli.proofs.AuditLemmas.{compares-disk, compares-failed, compares-said, compares-unsaid, has-other}
+use Rattle.cacao_cli.proofs.RehearseLemmas.{rehearsed-other, rehearses-disk, rehearses-failed, rehearses-said, rehearses-unsaid}
 use Rattle.cacao_cli.proofs.CauseLemmas.{TreesCase, all_trees, one_treeless, trees_case}
 use Rattle.cacao_cli.proofs.ExactLemmas.{Comes, IsPlain, performs-comes}
 use Rattle.cacao_cli.proofs.EndCases.{not-among}
 use Rattle.cacao_cli.proofs.JudgedLemmas.{settled-listed}
 use Rattle.cacao_cli.proofs.EndLemmas.{end-failed, no-more, no_cons}
-use Rattle.cacao_cli.proofs.LeaveLemmas.{IsBrief, silent, one_line, judged, brief-audit, brief-canon, brief-check, compared}
+use Rattle.cacao_cli.proofs.LeaveLemmas.{IsBrief, silent, one_line, judged, brief-audit, brief-canon, brief-check, brief-rehearse, compared, rehearse-performed, rehearsed}
 use Rattle.cacao_cli.proofs.OpenLemmas.{opens-grows, opens-said, opens-unsaid, opens-failed}
 use Rattle.cacao_cli.proofs.RunLemmas.{run-failed, run-grows, run-said, run-unsaid, shown-other}
 use Rattle.cacao_cli.proofs.StartLemmas.{start-failed, start-grows, start-said, start-unsaid}
@@ -40,6 +41,7 @@ performs-disk (judges trees mode kept) old mid last plain (inr (inr h)) = ap (λ
 performs-disk (opens_filter agent look) old mid last plain h = absurd plain
 performs-disk opens_run old mid last plain h = absurd plain
 performs-disk (compares files) old mid last plain h = compares-disk files old mid last h
+performs-disk (rehearsals positions) old mid last plain h = rehearses-disk positions old mid last h
 performs-disk (starts start) old mid last plain h = absurd plain
 
 same-grows : (n m : ℕ) → m ≡ n → n ≤ m
@@ -53,6 +55,7 @@ performs-grows (judges trees mode kept) old mid last (inr (inr h)) = same-grows 
 performs-grows (opens_filter agent look) old mid last h = opens-grows agent look old mid last h
 performs-grows opens_run old mid last h = run-grows old mid mid last 0 h
 performs-grows (compares files) old mid last h = same-grows old.disk.faults mid.disk.faults (compares-disk files old mid last h)
+performs-grows (rehearsals positions) old mid last h = same-grows old.disk.faults mid.disk.faults (rehearses-disk positions old mid last h)
 performs-grows (starts start) old mid last h = start-grows start old mid mid last 0 h
 
 performs-said : (w : Work) (old mid new : SiteView) (last : End) (answer : ℕ) → Performs w old mid last → Tells last mid new answer → (answer ≡ 9 → ⊥) → new.clock.unsaid ≡ old.clock.unsaid
@@ -63,6 +66,7 @@ performs-said (judges trees mode kept) old mid new last answer (inr (inr h)) tel
 performs-said (opens_filter agent look) old mid new last answer h tells unlike = opens-said agent look old mid new last answer h tells unlike
 performs-said opens_run old mid new last answer h tells unlike = run-said old mid new last answer h tells unlike
 performs-said (compares files) old mid new last answer h tells unlike = compares-said files old mid new last answer h tells unlike
+performs-said (rehearsals positions) old mid new last answer h tells unlike = rehearses-said positions old mid new last answer h tells unlike
 performs-said (starts start) old mid new last answer h tells unlike = start-said start old mid new last answer h tells unlike
 
 -- the work ends with other statuses than 2, 3, 8 and 9
@@ -72,6 +76,7 @@ IsOther (judges trees mode kept) = IsOther kept
 IsOther (opens_filter agent look) = Unit {0}
 IsOther opens_run = Unit {0}
 IsOther (compares files) = Unit {0}
+IsOther (rehearsals positions) = Unit {0}
 IsOther (starts start) = Unit {0}
 
 session-other : (n : ℕ) → IsOneOf n session_statuses → (n ≡ 2 → ⊥) × (n ≡ 3 → ⊥)
@@ -98,6 +103,10 @@ other-status (compares files) old new n h is = (
   λ e. has-other files n 2 is e (λ f. omega (arith, f)) (λ f. omega (arith, f)) (λ f. omega (arith, f)),
   λ e. has-other files n 3 is e (λ f. omega (arith, f)) (λ f. omega (arith, f)) (λ f. omega (arith, f)),
 )
+other-status (rehearsals positions) old new n h is = (
+  λ e. rehearsed-other positions n 2 is e (λ f. omega (arith, f)) (λ f. omega (arith, f)) refl,
+  λ e. rehearsed-other positions n 3 is e (λ f. omega (arith, f)) (λ f. omega (arith, f)) refl,
+)
 other-status (starts start) old new n h (inl is) = (λ e. omega (arith, e, is.1), λ e. omega (arith, e, is.1))
 other-status (starts start) old new n h (inr (inl is)) = (λ e. omega (arith, e, is.1), λ e. omega (arith, e, is.1))
 other-status (starts start) old new n h (inr (inr is)) = session-other n (settled-listed start is)
@@ -109,6 +118,7 @@ NotUnsaid (judges trees mode kept) = NotUnsaid kept
 NotUnsaid (opens_filter agent look) = Unit {0}
 NotUnsaid opens_run = Unit {0}
 NotUnsaid (compares files) = Unit {0}
+NotUnsaid (rehearsals positions) = Unit {0}
 NotUnsaid (starts start) = Unit {0}
 
 other-said : (w : Work) → IsOther w → NotUnsaid w
@@ -117,21 +127,33 @@ other-said (judges trees mode kept) h = other-said kept h
 other-said (opens_filter agent look) h = tt
 other-said opens_run h = tt
 other-said (compares files) h = tt
+other-said (rehearsals positions) h = tt
 other-said (starts start) h = tt
+
+-- the work is done with the site that is handed in
+abbrev pub IsHanded : Work → Type 0
+IsHanded (ends lines end) = Unit {0}
+IsHanded (judges trees mode kept) = IsHanded kept
+IsHanded (opens_filter agent look) = Unit {0}
+IsHanded opens_run = Unit {0}
+IsHanded (compares files) = Unit {0}
+IsHanded (rehearsals positions) = ⊥
+IsHanded (starts start) = Unit {0}
 
 rose-next : (n m : ℕ) → m ≡ next_count n → Rose n m
 rose-next n m e = omega (arith, e)
 
-performs-unsaid : (w : Work) (old mid new : SiteView) (last : End) (answer : ℕ) → NotUnsaid w → Performs w old mid last → Tells last mid new answer → answer ≡ 9 → Rose old.clock.unsaid new.clock.unsaid
-performs-unsaid (ends lines end) old mid new last answer other h tells e = rose-next old.clock.unsaid new.clock.unsaid (works-unsaid lines end old mid new last answer other.0 h tells e)
-performs-unsaid (judges trees mode kept) old mid new last answer other (inl h) tells e = performs-unsaid kept old mid new last answer other h.1 tells e
-performs-unsaid (judges trees mode kept) old mid new last answer other (inr (inl h)) tells e = rose-next old.clock.unsaid new.clock.unsaid
+performs-unsaid : (w : Work) (old mid new : SiteView) (last : End) (answer : ℕ) → IsHanded w → NotUnsaid w → Performs w old mid last → Tells last mid new answer → answer ≡ 9 → Rose old.clock.unsaid new.clock.unsaid
+performs-unsaid (ends lines end) old mid new last answer handed other h tells e = rose-next old.clock.unsaid new.clock.unsaid (works-unsaid lines end old mid new last answer other.0 h tells e)
+performs-unsaid (judges trees mode kept) old mid new last answer handed other (inl h) tells e = performs-unsaid kept old mid new last answer handed other h.1 tells e
+performs-unsaid (judges trees mode kept) old mid new last answer handed other (inr (inl h)) tells e = rose-next old.clock.unsaid new.clock.unsaid
     (last-unsaid last (text_of last) mid new answer (λ is. let k : status_of last ≡ 1 = ap status_of h.ends in omega (arith, is, k)) tells e ∙ ap (λ (s : SiteView). next_count s.clock.unsaid) h.same)
-performs-unsaid (judges trees mode kept) old mid new last answer other (inr (inr h)) tells e = absurd (omega (arith, e, (no-more last no_memory mid new answer h.ends refl tells).1))
-performs-unsaid (opens_filter agent look) old mid new last answer other h tells e = rose-next old.clock.unsaid new.clock.unsaid (opens-unsaid agent look old mid new last answer h tells e)
-performs-unsaid opens_run old mid new last answer other h tells e = rose-next old.clock.unsaid new.clock.unsaid (run-unsaid old mid new last answer h tells e)
-performs-unsaid (compares files) old mid new last answer other h tells e = rose-next old.clock.unsaid new.clock.unsaid (compares-unsaid files old mid new last answer h tells e)
-performs-unsaid (starts start) old mid new last answer other h tells e = start-unsaid start old mid new last answer h tells e
+performs-unsaid (judges trees mode kept) old mid new last answer handed other (inr (inr h)) tells e = absurd (omega (arith, e, (no-more last no_memory mid new answer h.ends refl tells).1))
+performs-unsaid (opens_filter agent look) old mid new last answer handed other h tells e = rose-next old.clock.unsaid new.clock.unsaid (opens-unsaid agent look old mid new last answer h tells e)
+performs-unsaid opens_run old mid new last answer handed other h tells e = rose-next old.clock.unsaid new.clock.unsaid (run-unsaid old mid new last answer h tells e)
+performs-unsaid (compares files) old mid new last answer handed other h tells e = rose-next old.clock.unsaid new.clock.unsaid (compares-unsaid files old mid new last answer h tells e)
+performs-unsaid (rehearsals positions) old mid new last answer handed other h tells e = absurd handed
+performs-unsaid (starts start) old mid new last answer handed other h tells e = start-unsaid start old mid new last answer h tells e
 
 eight : (end : End) (last : End) (mid new : SiteView) (answer : ℕ) → last ≡ end → (status_of end ≡ 8 → ⊥) → Tells last mid new answer → answer ≡ 8 → ⊥
 eight end last mid new answer is other tells e = go (tells-status last mid new answer tells)
@@ -142,17 +164,18 @@ eight end last mid new answer is other tells e = go (tells-status last mid new a
     go (inr (inr (inl f))) = omega (arith, e, f)
     go (inr (inr (inr f))) = f
 
-performs-failed : (w : Work) (old mid new : SiteView) (last : End) (answer : ℕ) → NotUnsaid w → Performs w old mid last → Tells last mid new answer → answer ≡ 8 → Rose old.disk.faults new.disk.faults
-performs-failed (ends lines end) old mid new last answer other (inl h) tells e = absurd (eight end last mid new answer h.ends other.1 tells e)
-performs-failed (ends lines end) old mid new last answer other (inr (inl h)) tells e = absurd (eight unsaid last mid new answer h.ends (λ f. omega (arith, f)) tells e)
-performs-failed (ends lines end) old mid new last answer other (inr (inr h)) tells e = absurd (eight no_memory last mid new answer h.ends (λ f. omega (arith, f)) tells e)
-performs-failed (judges trees mode kept) old mid new last answer other (inl h) tells e = performs-failed kept old mid new last answer other h.1 tells e
-performs-failed (judges trees mode kept) old mid new last answer other (inr (inl h)) tells e = absurd (eight (refused h.broken) last mid new answer h.ends (λ f. omega (arith, f)) tells e)
-performs-failed (judges trees mode kept) old mid new last answer other (inr (inr h)) tells e = absurd (eight no_memory last mid new answer h.ends (λ f. omega (arith, f)) tells e)
-performs-failed (opens_filter agent look) old mid new last answer other h tells e = opens-failed agent look old mid new last answer h tells e
-performs-failed opens_run old mid new last answer other h tells e = run-failed old mid new last answer h tells e
-performs-failed (compares files) old mid new last answer other h tells e = absurd (compares-failed files old mid new last answer h tells e)
-performs-failed (starts start) old mid new last answer other h tells e = start-failed start old mid new last answer h tells e
+performs-failed : (w : Work) (old mid new : SiteView) (last : End) (answer : ℕ) → IsHanded w → NotUnsaid w → Performs w old mid last → Tells last mid new answer → answer ≡ 8 → Rose old.disk.faults new.disk.faults
+performs-failed (ends lines end) old mid new last answer handed other (inl h) tells e = absurd (eight end last mid new answer h.ends other.1 tells e)
+performs-failed (ends lines end) old mid new last answer handed other (inr (inl h)) tells e = absurd (eight unsaid last mid new answer h.ends (λ f. omega (arith, f)) tells e)
+performs-failed (ends lines end) old mid new last answer handed other (inr (inr h)) tells e = absurd (eight no_memory last mid new answer h.ends (λ f. omega (arith, f)) tells e)
+performs-failed (judges trees mode kept) old mid new last answer handed other (inl h) tells e = performs-failed kept old mid new last answer handed other h.1 tells e
+performs-failed (judges trees mode kept) old mid new last answer handed other (inr (inl h)) tells e = absurd (eight (refused h.broken) last mid new answer h.ends (λ f. omega (arith, f)) tells e)
+performs-failed (judges trees mode kept) old mid new last answer handed other (inr (inr h)) tells e = absurd (eight no_memory last mid new answer h.ends (λ f. omega (arith, f)) tells e)
+performs-failed (opens_filter agent look) old mid new last answer handed other h tells e = opens-failed agent look old mid new last answer h tells e
+performs-failed opens_run old mid new last answer handed other h tells e = run-failed old mid new last answer h tells e
+performs-failed (compares files) old mid new last answer handed other h tells e = absurd (compares-failed files old mid new last answer h tells e)
+performs-failed (rehearsals positions) old mid new last answer handed other h tells e = absurd handed
+performs-failed (starts start) old mid new last answer handed other h tells e = start-failed start old mid new last answer h tells e
 
 -- ---- the statuses of the work
 
@@ -188,6 +211,7 @@ texts-other (runs wanted) texts = trees-other (trees_wanted wanted texts) (λ ro
 texts-other shows texts = tt
 texts-other (lists_rules agent) texts = tt
 texts-other (shadows agent) texts = tt
+texts-other (rehearses positions) texts = tt
 texts-other (audits engine filters) texts = tt
 texts-other (decides agent packets) [] = tt
 texts-other (decides agent packets) (text ∷ texts) = go (packets_of text.bytes)
@@ -265,9 +289,63 @@ not_understood-ended None shelf old new answer h e = go (performs-comes (work No
     go (inr c) = inr c
 not_understood-ended (Some asked) shelf old new answer h e = absurd (cc)
 
-pub unsaid-ended : (asked : Option Asked) (shelf : ShelfCall) (old new : SiteView) (answer : ℕ) → Ended asked shelf old new answer → answer ≡ 9 → Rose old.clock.unsaid new.clock.unsaid
-unsaid-ended asked shelf old new answer h e = performs-unsaid (work asked h.performed.read) old h.between new h.last answer
+-- all commands but `rehearse` do their work with that site
+abbrev WithSite : Option Asked → Type 0
+WithSite None = Unit {0}
+WithSite (Some (canonises book)) = Unit {0}
+WithSite (Some (checks books)) = Unit {0}
+WithSite (Some (runs wanted)) = Unit {0}
+WithSite (Some shows) = Unit {0}
+WithSite (Some (lists_rules agent)) = Unit {0}
+WithSite (Some (decides agent packets)) = Unit {0}
+WithSite (Some (shadows agent)) = Unit {0}
+WithSite (Some (rehearses positions)) = ⊥
+WithSite (Some (audits engine filters)) = Unit {0}
+
+handed-trees : (r : Result (List Data) End) (does : List Data → Work) → ((roots : List Data) → IsHanded (does roots)) → IsHanded (or_end r does)
+handed-trees (Err end) does each = tt
+handed-trees (Ok roots) does each = each roots
+
+handed-texts : (asked : Asked) (texts : List NamedText) → WithSite (Some asked) → IsHanded (work_on asked texts)
+handed-texts (canonises book) texts h = handed-trees (trees_of texts) (λ roots. ends (map canon_line roots) done) (λ roots. tt)
+handed-texts (checks books) texts h = handed-trees (trees_of texts) (λ roots. judges roots Reading (ends [] accepted)) (λ roots. tt)
+handed-texts (runs wanted) texts h = handed-trees (trees_of (trees_wanted wanted texts)) (λ roots. starts (start_of wanted texts)) (λ roots. tt)
+handed-texts shows texts h = tt
+handed-texts (lists_rules agent) texts h = tt
+handed-texts (shadows agent) texts h = tt
+handed-texts (rehearses positions) texts h = absurd h
+handed-texts (audits engine filters) texts h = tt
+handed-texts (decides agent packets) [] h = tt
+handed-texts (decides agent packets) (text ∷ texts) h = go (packets_of text.bytes)
+  where
+    go : (r : Result (List (ℕ × Packet)) ℕ) → IsHanded (or_end (packets_or_end text.name r) (λ found. opens_filter agent (at_decisions found)))
+    go (Ok found) = tt
+    go (Err number) = tt
+
+handed-work : (asked : Option Asked) (read : Read) → WithSite asked → IsHanded (work asked read)
+handed-work None read h = tt
+handed-work (Some asked) read h = go (has_too_many asked) read
+  where
+    go : (b : Bool) (r : Read) → IsHanded (if b then ends [] (past BookCount) else or_end r (work_on asked))
+    go true r = tt
+    go false (Err end) = tt
+    go false (Ok texts) = handed-texts asked texts h
+
+rose-unsaid : (asked : Option Asked) (shelf : ShelfCall) (old new : SiteView) (answer : ℕ) → WithSite asked → Ended asked shelf old new answer → answer ≡ 9 → Rose old.clock.unsaid new.clock.unsaid
+rose-unsaid asked shelf old new answer has h e = performs-unsaid (work asked h.performed.read) old h.between new h.last answer (handed-work asked h.performed.read has)
     (no-nine asked shelf.told h.performed.reads.count h.performed.read h.performed.reads.reads) h.performed.performs h.tells e
+
+pub unsaid-ended : (asked : Option Asked) (shelf : ShelfCall) (old new : SiteView) (answer : ℕ) → Ended asked shelf old new answer → answer ≡ 9 → CountsUnsaid asked old new
+unsaid-ended None shelf old new answer h e = rose-unsaid None shelf old new answer tt h e
+unsaid-ended (Some (canonises book)) shelf old new answer h e = rose-unsaid (Some (canonises book)) shelf old new answer tt h e
+unsaid-ended (Some (checks books)) shelf old new answer h e = rose-unsaid (Some (checks books)) shelf old new answer tt h e
+unsaid-ended (Some (runs wanted)) shelf old new answer h e = rose-unsaid (Some (runs wanted)) shelf old new answer tt h e
+unsaid-ended (Some shows) shelf old new answer h e = rose-unsaid (Some shows) shelf old new answer tt h e
+unsaid-ended (Some (lists_rules agent)) shelf old new answer h e = rose-unsaid (Some (lists_rules agent)) shelf old new answer tt h e
+unsaid-ended (Some (decides agent packets)) shelf old new answer h e = rose-unsaid (Some (decides agent packets)) shelf old new answer tt h e
+unsaid-ended (Some (shadows agent)) shelf old new answer h e = rose-unsaid (Some (shadows agent)) shelf old new answer tt h e
+unsaid-ended (Some (audits engine filters)) shelf old new answer h e = rose-unsaid (Some (audits engine filters)) shelf old new answer tt h e
+unsaid-ended (Some (rehearses positions)) shelf old new answer h e = rehearses-unsaid positions old h.between new h.last answer (rehearse-performed positions shelf old h.between h.last h.performed) h.tells e
 
 pub said-ended : (asked : Option Asked) (shelf : ShelfCall) (old new : SiteView) (answer : ℕ) → Ended asked shelf old new answer → (answer ≡ 9 → ⊥) → new.clock.unsaid ≡ old.clock.unsaid
 said-ended asked shelf old new answer h unlike = performs-said (work asked h.performed.read) old h.between new h.last answer h.performed.performs h.tells unlike
@@ -331,15 +409,28 @@ failed-ended asked shelf old new answer h three = by asked h.performed
                 ∙ ap (λ (b : Bool). if b then next_count shelf.before else shelf.before) (three-is (status_of end) (sym (has-end (work (Some asked) p.read) end old new answer s is) ∙ three))
             go (by_texts other) = absurd ((other-status (work (Some asked) p.read) old new answer other is).1 three)
 
-pub disk-ended : (asked : Option Asked) (shelf : ShelfCall) (old new : SiteView) (answer : ℕ) → Ended asked shelf old new answer → answer ≡ 8 → Rose old.disk.faults new.disk.faults
-disk-ended asked shelf old new answer h e = performs-failed (work asked h.performed.read) old h.between new h.last answer
+rose-disk : (asked : Option Asked) (shelf : ShelfCall) (old new : SiteView) (answer : ℕ) → WithSite asked → Ended asked shelf old new answer → answer ≡ 8 → Rose old.disk.faults new.disk.faults
+rose-disk asked shelf old new answer has h e = performs-failed (work asked h.performed.read) old h.between new h.last answer (handed-work asked h.performed.read has)
     (no-nine asked shelf.told h.performed.reads.count h.performed.read h.performed.reads.reads) h.performed.performs h.tells e
+
+pub disk-ended : (asked : Option Asked) (shelf : ShelfCall) (old new : SiteView) (answer : ℕ) → Ended asked shelf old new answer → answer ≡ 8 → CountsDisk asked old new
+disk-ended None shelf old new answer h e = rose-disk None shelf old new answer tt h e
+disk-ended (Some (canonises book)) shelf old new answer h e = rose-disk (Some (canonises book)) shelf old new answer tt h e
+disk-ended (Some (checks books)) shelf old new answer h e = rose-disk (Some (checks books)) shelf old new answer tt h e
+disk-ended (Some (runs wanted)) shelf old new answer h e = rose-disk (Some (runs wanted)) shelf old new answer tt h e
+disk-ended (Some shows) shelf old new answer h e = rose-disk (Some shows) shelf old new answer tt h e
+disk-ended (Some (lists_rules agent)) shelf old new answer h e = rose-disk (Some (lists_rules agent)) shelf old new answer tt h e
+disk-ended (Some (decides agent packets)) shelf old new answer h e = rose-disk (Some (decides agent packets)) shelf old new answer tt h e
+disk-ended (Some (shadows agent)) shelf old new answer h e = rose-disk (Some (shadows agent)) shelf old new answer tt h e
+disk-ended (Some (audits engine filters)) shelf old new answer h e = rose-disk (Some (audits engine filters)) shelf old new answer tt h e
+disk-ended (Some (rehearses positions)) shelf old new answer h e = rehearses-failed positions old h.between new h.last answer (rehearse-performed positions shelf old h.between h.last h.performed) h.tells e
 
 brief-plain : (w : Work) → IsBrief w → IsPlain w
 brief-plain w (silent end) = tt
 brief-plain w (one_line line) = tt
 brief-plain w (judged trees mode kept brief) = brief-plain kept brief
 brief-plain w (compared files) = tt
+brief-plain w (rehearsed positions) = tt
 
 no-disk-fault : (asked : Option Asked) (shelf : ShelfCall) (old new : SiteView) (answer : ℕ) → Ended asked shelf old new answer → NoDiskFault asked old new
 no-disk-fault asked shelf old new answer h = by asked h.performed
@@ -362,6 +453,7 @@ no-disk-fault asked shelf old new answer h = by asked h.performed
     by (Some (lists_rules agent)) p = grows (Some (lists_rules agent)) p
     by (Some (decides agent packets)) p = grows (Some (decides agent packets)) p
     by (Some (shadows agent)) p = grows (Some (shadows agent)) p
+    by (Some (rehearses positions)) p = plain (Some (rehearses positions)) p (brief-plain (work (Some (rehearses positions)) p.read) (brief-rehearse positions p.read))
     by (Some (audits engine filters)) p = plain (Some (audits engine filters)) p (brief-plain (work (Some (audits engine filters)) p.read) (brief-audit engine filters p.read))
 
 pub memory-ended : (asked : Option Asked) (shelf : ShelfCall) (old new : SiteView) (answer : ℕ) → Ended asked shelf old new answer → answer ≡ 10 → NoFault asked shelf.before shelf.after old new

@@ -5,7 +5,7 @@ use Rattle.std.specs.List.{list_any}
 use Rattle.std.proofs.lemmas.Bool.{true≢false}
 use Rattle.cacao_cli.specs.Exact.{IsOneOf}
 use Rattle.cacao_cli.specs.declared.limit.Limit.{Limit}
-use Rattle.cacao_cli.specs.Ends.{End, status_of, done, accepted, agrees, disagrees, refused, bind_refused, ended_ok, ended_failed, paused, waiting, flooded, asked_for, other_run, other_book, run_used, not_understood, past, shelf_failed, no_such_file, not_readable, damaged, disk_failed, unsaid, no_memory}
+use Rattle.cacao_cli.specs.Ends.{End, status_of, done, accepted, agrees, disagrees, refused, bind_refused, ended_ok, ended_failed, paused, waiting, flooded, asked_for, other_run, other_book, run_used, not_understood, past, shelf_failed, no_such_file, not_readable, rehearsed, damaged, disk_failed, unsaid, no_memory}
 
 pub nine-or-not : (end : End) → (end ≡ unsaid) ⊎ (status_of end ≡ 9 → ⊥)
 nine-or-not done = inr (λ e. omega (arith, e))
@@ -28,6 +28,7 @@ nine-or-not (past limit) = inr (λ e. omega (arith, e))
 nine-or-not (shelf_failed name) = inr (λ e. omega (arith, e))
 nine-or-not (no_such_file name) = inr (λ e. omega (arith, e))
 nine-or-not (not_readable name reason) = inr (λ e. omega (arith, e))
+nine-or-not (rehearsed positions records acts rules) = inr (λ e. omega (arith, e))
 nine-or-not (damaged file place) = inr (λ e. omega (arith, e))
 nine-or-not disk_failed = inr (λ e. omega (arith, e))
 nine-or-not unsaid = inl refl
@@ -54,6 +55,7 @@ eight-is (past limit) e = absurd (omega (arith, e))
 eight-is (shelf_failed name) e = absurd (omega (arith, e))
 eight-is (no_such_file name) e = absurd (omega (arith, e))
 eight-is (not_readable name reason) e = absurd (omega (arith, e))
+eight-is (rehearsed positions records acts rules) e = absurd (omega (arith, e))
 eight-is (damaged file place) e = absurd (omega (arith, e))
 eight-is disk_failed e = refl
 eight-is unsaid e = absurd (omega (arith, e))
@@ -93,6 +95,7 @@ session-end (past limit) = record { failed = λ e. absurd (omega (arith, e)); pa
 session-end (shelf_failed name) = record { failed = λ e. absurd (omega (arith, e)); pauses = λ e. absurd (omega (arith, e)); another = λ e. absurd (omega (arith, e)); waits = λ e. absurd (omega (arith, e)); floods = λ e. absurd (omega (arith, e)); asks = λ e. absurd (omega (arith, e)); passes = λ e. absurd (omega (arith, e)); damage = λ e. absurd (omega (arith, e)) }
 session-end (no_such_file name) = record { failed = λ e. absurd (omega (arith, e)); pauses = λ e. absurd (omega (arith, e)); another = λ e. absurd (omega (arith, e)); waits = λ e. absurd (omega (arith, e)); floods = λ e. absurd (omega (arith, e)); asks = λ e. absurd (omega (arith, e)); passes = λ e. absurd (omega (arith, e)); damage = λ e. absurd (omega (arith, e)) }
 session-end (not_readable name reason) = record { failed = λ e. absurd (omega (arith, e)); pauses = λ e. absurd (omega (arith, e)); another = λ e. absurd (omega (arith, e)); waits = λ e. absurd (omega (arith, e)); floods = λ e. absurd (omega (arith, e)); asks = λ e. absurd (omega (arith, e)); passes = λ e. absurd (omega (arith, e)); damage = λ e. absurd (omega (arith, e)) }
+session-end (rehearsed positions records acts rules) = record { failed = λ e. absurd (omega (arith, e)); pauses = λ e. absurd (omega (arith, e)); another = λ e. absurd (omega (arith, e)); waits = λ e. absurd (omega (arith, e)); floods = λ e. absurd (omega (arith, e)); asks = λ e. absurd (omega (arith, e)); passes = λ e. absurd (omega (arith, e)); damage = λ e. absurd (omega (arith, e)) }
 session-end (damaged file place) = record { failed = λ e. absurd (omega (arith, e)); pauses = λ e. absurd (omega (arith, e)); another = λ e. absurd (omega (arith, e)); waits = λ e. absurd (omega (arith, e)); floods = λ e. absurd (omega (arith, e)); asks = λ e. absurd (omega (arith, e)); passes = λ e. absurd (omega (arith, e)); damage = λ e. (file, place, refl) }
 session-end disk_failed = record { failed = λ e. absurd (omega (arith, e)); pauses = λ e. absurd (omega (arith, e)); another = λ e. absurd (omega (arith, e)); waits = λ e. absurd (omega (arith, e)); floods = λ e. absurd (omega (arith, e)); asks = λ e. absurd (omega (arith, e)); passes = λ e. absurd (omega (arith, e)); damage = λ e. absurd (omega (arith, e)) }
 session-end unsaid = record { failed = λ e. absurd (omega (arith, e)); pauses = λ e. absurd (omega (arith, e)); another = λ e. absurd (omega (arith, e)); waits = λ e. absurd (omega (arith, e)); floods = λ e. absurd (omega (arith, e)); asks = λ e. absurd (omega (arith, e)); passes = λ e. absurd (omega (arith, e)); damage = λ e. absurd (omega (arith, e)) }

@@ -2,7 +2,7 @@
 use Rattle.std.proofs.Common.{◌≡◌, ◌∙◌, refl, ap, arith, ℕ, List, [], ◌∷◌, ◌++◌, Option, Some, None}
 use Rattle.cacao_site.specs.View.{SiteView}
 use Rattle.cacao_words.specs.Words.{Text}
-use Rattle.cacao_cli.specs.Ends.{End, status_of, text_of, done, accepted, refused, not_understood, past, shelf_failed, no_such_file, not_readable, agrees, disagrees, damaged, disk_failed, unsaid, no_memory, bind_refused, ended_ok, ended_failed, paused, waiting, flooded, asked_for, other_run, other_book, run_used}
+use Rattle.cacao_cli.specs.Ends.{End, status_of, text_of, done, accepted, refused, not_understood, past, shelf_failed, no_such_file, not_readable, agrees, disagrees, rehearsed, damaged, disk_failed, unsaid, no_memory, bind_refused, ended_ok, ended_failed, paused, waiting, flooded, asked_for, other_run, other_book, run_used}
 use Rattle.cacao_cli.specs.Lines.{Tells, TellsText}
 
 -- ---- the status and the line of an end
@@ -28,6 +28,7 @@ end-unsaid (no_such_file name) e = absurd (omega (arith, e))
 end-unsaid (not_readable name reason) e = absurd (omega (arith, e))
 end-unsaid (agrees records acts) e = absurd (omega (arith, e))
 end-unsaid (disagrees file place) e = absurd (omega (arith, e))
+end-unsaid (rehearsed positions records acts rules) e = absurd (omega (arith, e))
 end-unsaid (damaged file place) e = absurd (omega (arith, e))
 end-unsaid disk_failed e = absurd (omega (arith, e))
 end-unsaid unsaid e = refl
@@ -54,6 +55,7 @@ end-memory (no_such_file name) e = absurd (omega (arith, e))
 end-memory (not_readable name reason) e = absurd (omega (arith, e))
 end-memory (agrees records acts) e = absurd (omega (arith, e))
 end-memory (disagrees file place) e = absurd (omega (arith, e))
+end-memory (rehearsed positions records acts rules) e = absurd (omega (arith, e))
 end-memory (damaged file place) e = absurd (omega (arith, e))
 end-memory disk_failed e = absurd (omega (arith, e))
 end-memory unsaid e = refl
@@ -80,6 +82,7 @@ end-failed (no_such_file name) e = absurd (omega (arith, e))
 end-failed (not_readable name reason) e = absurd (omega (arith, e))
 end-failed (agrees records acts) e = absurd (omega (arith, e))
 end-failed (disagrees file place) e = absurd (omega (arith, e))
+end-failed (rehearsed positions records acts rules) e = absurd (omega (arith, e))
 end-failed (damaged file place) e = absurd (omega (arith, e))
 end-failed disk_failed e = absurd (omega (arith, e))
 end-failed unsaid e = absurd (omega (arith, e))

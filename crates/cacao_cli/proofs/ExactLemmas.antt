@@ -7,15 +7,16 @@ use Rattle.cacao_check.specs.declared.breaks.Mode.TheVariants.{Read as Reading}
 use Rattle.cacao_site.specs.View.{SiteView}
 use Rattle.cacao_words.specs.Requests.{RunRequest}
 use Rattle.cacao_words.specs.Words.{Text}
-use Rattle.cacao_cli.specs.Asked.{Asked, canonises, checks, shows, lists_rules, decides, shadows, audits, runs}
+use Rattle.cacao_cli.specs.Asked.{Asked, canonises, checks, shows, lists_rules, decides, shadows, rehearses, audits, runs}
 use Rattle.cacao_cli.specs.Ends.{End, status_of, accepted, done, past, shelf_failed, no_memory}
 use Rattle.cacao_cli.specs.Files.{File, Files, NamedText, ShelfCall, Reads, files_of, named_by, has_too_many, reading}
 use Rattle.cacao_cli.specs.Lines.{Tells}
-use Rattle.cacao_cli.specs.Work.{Work, ends, judges, opens_filter, opens_run, compares, or_end, canon_line, trees_of, work, work_on, starts, start_of, trees_wanted}
+use Rattle.cacao_cli.specs.Work.{Work, ends, judges, opens_filter, opens_run, compares, rehearsals, or_end, canon_line, trees_of, work, work_on, starts, start_of, trees_wanted}
 use Rattle.cacao_cli.specs.Ended.{Performs, Performed, Ended}
-use Rattle.cacao_cli.specs.Exact.{IsBroken, IsOneOf, IfFilesTold, IfTold, HasStatus, HasVerdict, Answers, file_faults, faults_of}
+use Rattle.cacao_cli.specs.Exact.{IsBroken, IsOneOf, IfFilesTold, IfTold, HasStatus, HasVerdict, HasRehearsed, Answers, file_faults, faults_of}
 use Rattle.cacao_cli.specs.declared.limit.Limit.TheVariants.{BookCount}
 use Rattle.cacao_cli.proofs.AuditLemmas.{compares-comes}
+use Rattle.cacao_cli.proofs.RehearseLemmas.{rehearses-comes}
 use Rattle.cacao_cli.proofs.LineLemmas.{IsCutOff, cut-among, says-status, tells-status}
 use Rattle.cacao_cli.proofs.OpenLemmas.{ComesOpened, opens-comes}
 use Rattle.cacao_cli.proofs.RunLemmas.{ComesShown, run-comes}
@@ -29,6 +30,7 @@ Comes (judges trees mode kept) old new n = (IsAccepted trees mode × Comes kept 
 Comes (opens_filter agent look) old new n = ComesOpened agent old new n
 Comes opens_run old new n = ComesShown old new n
 Comes (compares files) old new n = HasVerdict files n
+Comes (rehearsals positions) old new n = HasRehearsed positions n
 Comes (starts start) old new n = HasStatus (starts start) old new n
 
 -- the work was done, so the status is that of the work, or a line could not be said or memory was wanted
@@ -37,6 +39,7 @@ performs-comes (ends lines end) old mid new last answer p tells = says-status li
 performs-comes (opens_filter agent look) old mid new last answer p tells = opens-comes agent look old mid new last answer p tells
 performs-comes opens_run old mid new last answer p tells = run-comes old mid new last answer p tells
 performs-comes (compares files) old mid new last answer p tells = compares-comes files old mid new last answer p tells
+performs-comes (rehearsals positions) old mid new last answer p tells = rehearses-comes positions old mid new last answer p tells
 performs-comes (starts start) old mid new last answer p tells = start-comes start old mid new last answer p tells
 performs-comes (judges trees mode kept) old mid new last answer (inl (is_kept, p)) tells = go (performs-comes kept old mid new last answer p tells)
   where
@@ -122,6 +125,7 @@ IsDiskTold (Some shows) old = IsTrue old.disk.told
 IsDiskTold (Some (lists_rules agent)) old = IsTrue old.disk.told
 IsDiskTold (Some (decides agent packets)) old = IsTrue old.disk.told
 IsDiskTold (Some (shadows agent)) old = IsTrue old.disk.told
+IsDiskTold (Some (rehearses positions)) old = Unit {0}
 IsDiskTold (Some (audits engine filters)) old = Unit {0}
 
 -- the work opens no file of the disk
@@ -131,6 +135,7 @@ IsPlain (judges trees mode kept) = IsPlain kept
 IsPlain (opens_filter agent look) = ⊥
 IsPlain opens_run = ⊥
 IsPlain (compares files) = Unit {0}
+IsPlain (rehearsals positions) = Unit {0}
 IsPlain (starts start) = ⊥
 
 trees-plain : (r : Result (List Data) End) (does : List Data → Work) → ((roots : List Data) → IsPlain (does roots)) → IsPlain (or_end r does)
@@ -158,6 +163,9 @@ audit-plain engine filters files = go (reading files (files_of (Some (audits eng
     go (Err end) = tt
     go (Ok texts) = tt
 
+rehearse-plain : (positions : ℕ) (files : Files) → IsPlain (work (Some (rehearses positions)) (reading files (files_of (Some (rehearses positions)))))
+rehearse-plain positions files = tt
+
 pub if-asked : (asked : Option Asked) (told : Option Files) (old : SiteView) (P : Files → Type 0) → (IsDiskTold asked old → (files : Files) → IsSeen told (files_of asked) files → P files) → IfTold asked told old P
 if-asked None told old P h = if-told [] told P (h tt)
 if-asked (Some (canonises book)) told old P h = if-told (files_of (Some (canonises book))) told P (h tt)
@@ -166,6 +174,7 @@ if-asked (Some (runs wanted)) told old P h = if-told (files_of (Some (runs wante
 if-asked (Some shows) told old P h = λ disk files. h disk files (by_none refl)
 if-asked (Some (lists_rules agent)) told old P h = λ disk files. h disk files (by_none refl)
 if-asked (Some (shadows agent)) told old P h = λ disk files. h disk files (by_none refl)
+if-asked (Some (rehearses positions)) told old P h = if-told [] told P (h tt)
 if-asked (Some (audits engine filters)) told old P h = if-told (files_of (Some (audits engine filters))) told P (h tt)
 if-asked (Some (decides agent packets)) told old P h = λ disk. if-told (files_of (Some (decides agent packets))) told P (h disk)
 
@@ -178,6 +187,7 @@ faults-with (Some (runs wanted)) answer h = h
 faults-with (Some shows) answer h = inr h
 faults-with (Some (lists_rules agent)) answer h = inr h
 faults-with (Some (shadows agent)) answer h = inr h
+faults-with (Some (rehearses positions)) answer h = h
 faults-with (Some (audits engine filters)) answer h = h
 faults-with (Some (decides agent packets)) answer (inl e) = inl e
 faults-with (Some (decides agent packets)) answer (inr h) = inr (inr h)
@@ -190,6 +200,7 @@ plain-status (judges trees mode kept) old new n plain (inr h) = inr h
 plain-status (opens_filter agent look) old new n plain h = absurd plain
 plain-status opens_run old new n plain h = absurd plain
 plain-status (compares files) old new n plain h = h
+plain-status (rehearsals positions) old new n plain h = h
 plain-status (starts start) old new n plain h = absurd plain
 
 -- so it is of `run`, whose session settles its status
@@ -223,6 +234,7 @@ told-status opens_run old new n told (inr (inl h)) = inl (inr (inl (h.0 told, h.
 told-status opens_run old new n told (inr (inr (inl h))) = inl (inr (inr (h.0 told, h.1)))
 told-status opens_run old new n told (inr (inr (inr e))) = inr e
 told-status (compares files) old new n told h = inl h
+told-status (rehearsals positions) old new n told h = inl h
 
 -- the status of a call over files and a disk that are told
 abbrev pub Answered : Option Asked → Files → SiteView → SiteView → ℕ → Type 0
@@ -252,6 +264,7 @@ status-told asked files shelf old new answer disk seen ended = go asked disk (st
     go (Some shows) told h = opened (Some shows) told (λ e. inl e) h
     go (Some (lists_rules agent)) told h = opened (Some (lists_rules agent)) told (λ e. inl e) h
     go (Some (shadows agent)) told h = opened (Some (shadows agent)) told (λ e. inl e) h
+    go (Some (rehearses positions)) told h = plain (Some (rehearses positions)) (rehearse-plain positions files) h
     go (Some (audits engine filters)) told h = plain (Some (audits engine filters)) (audit-plain engine filters files) h
     go (Some (decides agent packets)) told h = opened (Some (decides agent packets)) told (λ e. inr (inl e)) h
 

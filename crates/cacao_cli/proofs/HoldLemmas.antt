@@ -1,10 +1,7 @@
 -- What a session raises, and with which status it ends.
-use Rattle.std.proofs.Common.{◌≡◌, ◌⊎◌, inl, inr, ◌∙◌, refl, sym, ap, subst, arith, ℕ, ◌≤◌, Bool, true, false, List, []}
-use Rattle.std.specs.Prelude.{min}
-use Rattle.cacao_site.specs.Counts.{Rose, next_count}
+use Rattle.std.proofs.Common.{◌≡◌, ◌⊎◌, inl, inr, ◌∙◌, refl, sym, ap, subst, arith, ℕ, ◌≤◌, Bool, true, false, List}
+use Rattle.cacao_site.specs.Counts.{Rose}
 use Rattle.cacao_site.specs.View.{ClockView, SiteView}
-use Rattle.flow_core.specs.declared.flow_errors.LimitKind.{LimitKind}
-use Rattle.flow_core.specs.declared.flow_errors.LimitKind.TheVariants as kind
 use Rattle.flow_engine.specs.declared.answers.OperatorAnswer.{OperatorAnswer}
 use Rattle.flow_engine.specs.declared.error.EngineError.{EngineError}
 use Rattle.flow_engine.specs.declared.error.EngineError.TheVariants as engine_error
@@ -12,9 +9,9 @@ use Rattle.flow_engine.specs.Openings.{IsRefusedOpening}
 use Rattle.flow_rules.specs.Givens.{Given}
 use Rattle.flow_steps.specs.Causes.{Shows}
 use Rattle.flow_steps.specs.Worlds.{Cause, Phase, World, disk_failed as failed_disk, not_said, past as past_limit, refused as refused_by, run_used as used, wants_memory}
-use Rattle.flow_world.specs.Closes.{IsRefusal, refusal_of}
+use Rattle.flow_world.specs.Closes.{refusal_of}
 use Rattle.flow_world.specs.Errors.{opening_refusal}
-use Rattle.flow_world.specs.Openings.{AreOpen, IsFileCause, RefusesFile, RefusesFilters, RefusesJournal, RefusesOpening, RefusesSecond}
+use Rattle.flow_world.specs.Openings.{AreOpen, RefusesOpening}
 use Rattle.flow_world.specs.Sessions.{HasRefused, RefusesLater, Went}
 use Rattle.flow_world.specs.declared.close.Close.{Close}
 use Rattle.flow_world.specs.declared.close.Close.TheVariants as close
@@ -23,7 +20,7 @@ use Rattle.flow_world.specs.declared.error.WorldError.TheVariants as error
 use Rattle.flow_world.proofs.CloseLemmas.{closes_are_no_refusals}
 use Rattle.cacao_cli.specs.Ends.{End, status_of, disk_failed, ended_ok, unsaid}
 use Rattle.cacao_cli.specs.Exact.{IsOneOf, session_statuses}
-use Rattle.cacao_cli.specs.Holding.{ClosesSo, HoldsSo, RefusesSo, close_end, error_end, limit_of}
+use Rattle.cacao_cli.specs.Holding.{ClosesSo, HoldsSo, RefusesSo, close_end, error_end}
 use Rattle.cacao_cli.proofs.StepLemmas.{Unsaid, none_unsaid, one_unsaid, steps_unsaid}
 
 -- ---- the statuses
@@ -55,7 +52,7 @@ close-done (close.Waiting moment) e = absurd (omega (arith, e))
 close-done close.Flooded e = absurd (omega (arith, e))
 close-done (close.Asked issue) e = absurd (omega (arith, e))
 
-error-done : (why : WorldError) → status_of (error_end why) ≡ 0 → ⊥
+pub error-done : (why : WorldError) → status_of (error_end why) ≡ 0 → ⊥
 error-done error.Disk e = omega (arith, e)
 error-done error.Say e = omega (arith, e)
 error-done error.Memory e = omega (arith, e)

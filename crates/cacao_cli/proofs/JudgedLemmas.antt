@@ -1,12 +1,10 @@
 -- What settles the status of a start.
-use Rattle.std.proofs.Common.{◌≡◌, ◌⊎◌, inl, inr, ◌∙◌, refl, sym, ap, subst, arith, ℕ, List, [], ◌∷◌, Bool, true, false, Option, Some, None}
+use Rattle.std.proofs.Common.{◌≡◌, inl, inr, ◌∙◌, refl, sym, ap, subst, arith, ℕ, List, [], ◌∷◌, false}
 use Rattle.std.specs.Prelude.{nat_eq}
 use Rattle.std.specs.List.{list_any}
 use Rattle.std.proofs.lemmas.Option.{none-some}
 use Rattle.serde_json.specs.Data.{Data}
-use Rattle.cacao_json.specs.Reading.{tree}
 use Rattle.cacao_site.specs.View.{SiteView}
-use Rattle.flow_core.specs.SetupReading.{RefusesTexts}
 use Rattle.flow_core.specs.declared.setup_errors.SetupError.TheVariants as setup_error
 use Rattle.flow_engine.specs.Answers as told
 use Rattle.flow_engine.proofs.AnswerLawLemmas.{bad_lines_tell_nothing}

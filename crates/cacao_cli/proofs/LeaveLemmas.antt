@@ -10,11 +10,12 @@ use Rattle.oc2_nets.specs.declared.packets.Packet.{Packet}
 use Rattle.filter_reports.specs.PacketFiles.{packets_of}
 use Rattle.cacao_words.specs.Requests.{RunRequest}
 use Rattle.cacao_words.specs.Words.{Text}
-use Rattle.cacao_cli.specs.Asked.{Asked, canonises, checks, shows, lists_rules, decides, shadows, audits, runs}
+use Rattle.cacao_cli.specs.Asked.{Asked, canonises, checks, shows, lists_rules, decides, shadows, rehearses, audits, runs}
 use Rattle.cacao_cli.specs.Ends.{End, text_of, done, accepted, not_understood, past, not_readable, unsaid, status_of}
 use Rattle.cacao_cli.specs.Files.{File, Files, ShelfCall, NamedText, Reads, all_read, wants_memory, stops, goes_on, item_then, files_of, has_too_many}
 use Rattle.cacao_cli.specs.Lines.{SaysAll, Tells, TellsText, SaysWork}
-use Rattle.cacao_cli.specs.Work.{Work, ends, judges, opens_filter, opens_run, compares, at_rules, at_shadows, at_decisions, or_end, packets_or_end, tree_of, trees_of, canon_line, run_files, work, work_on, Start, starts, start_of, trees_wanted}
+use Rattle.cacao_cli.specs.Rehearsing.{Rehearses}
+use Rattle.cacao_cli.specs.Work.{Work, ends, judges, opens_filter, opens_run, compares, rehearsals, at_rules, at_shadows, at_decisions, or_end, packets_or_end, tree_of, trees_of, canon_line, run_files, work, work_on, Start, starts, start_of, trees_wanted}
 use Rattle.cacao_cli.specs.Ended.{Performs, Performed, Ended}
 use Rattle.cacao_cli.specs.Exact.{IsOneOf, session_statuses}
 use Rattle.cacao_cli.specs.Holding.{HoldsSession}
@@ -37,6 +38,7 @@ pub data IsBrief : Work → Type 0 where
   one_line : (line : Text) → IsBrief (ends (line ∷ []) done)
   judged : (trees : List Data) (mode : Mode) (kept : Work) → IsBrief kept → IsBrief (judges trees mode kept)
   compared : (files : List Text) → IsBrief (compares files)
+  rehearsed : (positions : ℕ) → IsBrief (rehearsals positions)
 
 last-once : (last : End) (text : Option Text) (mid new : SiteView) (answer : ℕ) → text ≡ text_of last → TellsText last text mid new answer → SaysAtMostOnce mid new answer
 last-once last None mid new answer is h = record { once = inl h.same; unsaid = λ e. ap (λ (s : SiteView). s.link.said) h.same; no_memory = λ e. h.same }
@@ -91,6 +93,7 @@ brief-once w old mid new last answer (judged trees mode kept brief) (inl h) tell
 brief-once w old mid new last answer (judged trees mode kept brief) (inr (inl h)) tells = subst (λ (s : SiteView). SaysAtMostOnce s new answer) h.same (tells-once last mid new answer tells)
 brief-once w old mid new last answer (judged trees mode kept brief) (inr (inr h)) tells = subst (λ (s : SiteView). SaysAtMostOnce s new answer) h.same (tells-once last mid new answer tells)
 brief-once w old mid new last answer (compared files) h tells = subst (λ (s : SiteView). SaysAtMostOnce s new answer) h.same (tells-once last mid new answer tells)
+brief-once w old mid new last answer (rehearsed positions) h tells = subst (λ (s : SiteView). SaysAtMostOnce s new answer) h.same (tells-once last mid new answer tells)
 
 -- ---- how many lines `canon` and `check` say
 
@@ -132,6 +135,13 @@ brief-check books read = go (has_too_many (checks books))
 pub brief-audit : (engine : Text) (filters : List (ℕ × Text)) (read : Read) → IsBrief (work (Some (audits engine filters)) read)
 brief-audit engine filters (Err end) = silent end
 brief-audit engine filters (Ok texts) = compared (run_files filters texts)
+
+pub brief-rehearse : (positions : ℕ) (read : Read) → IsBrief (work (Some (rehearses positions)) read)
+brief-rehearse positions (Err end) = silent end
+brief-rehearse positions (Ok texts) = rehearsed positions
+
+pub rehearse-performed : (positions : ℕ) (shelf : ShelfCall) (old mid : SiteView) (last : End) → Performed (Some (rehearses positions)) shelf old mid last → Rehearses positions old mid last
+rehearse-performed positions shelf old mid last p = subst (λ (r : Read). Performs (or_end r (work_on (rehearses positions))) old mid last) (empty-read shelf.told p.reads.count p.read p.reads.reads).1 p.performs
 
 -- ---- the commands that open a filter
 
@@ -215,6 +225,7 @@ leaves-ended (Some shows) shelf old new answer h = run-leaves old h.between new 
 leaves-ended (Some (lists_rules agent)) shelf old new answer h = writes-nothing agent at_rules old h.between new h.last answer (rules-performed agent shelf old h.between h.last h.performed) h.tells
 leaves-ended (Some (decides agent packets)) shelf old new answer h = decide-leaves agent packets old h.between new h.last answer h.performed.read h.performed.performs h.tells
 leaves-ended (Some (shadows agent)) shelf old new answer h = writes-nothing agent at_shadows old h.between new h.last answer (shadows-performed agent shelf old h.between h.last h.performed) h.tells
+leaves-ended (Some (rehearses positions)) shelf old new answer h = brief-once (work (Some (rehearses positions)) h.performed.read) old h.between new h.last answer (brief-rehearse positions h.performed.read) h.performed.performs h.tells
 leaves-ended (Some (audits engine filters)) shelf old new answer h = brief-once (work (Some (audits engine filters)) h.performed.read) old h.between new h.last answer (brief-audit engine filters h.performed.read) h.performed.performs h.tells
 
 pub few-ended : (asked : Option Asked) (shelf : ShelfCall) (old new : SiteView) (answer : ℕ) → Ended asked shelf old new answer → ReadsAtMost (length (files_of asked)) shelf.reads_before shelf.reads_after

@@ -19,6 +19,7 @@ pub mod PacketLemmas
 pub mod PartLemmas
 pub mod PerformLemmas
 pub mod ReadLemmas
+pub mod RehearseLemmas
 pub mod ReportLines
 pub mod ReportWords
 pub mod ReturnLemmas

@@ -1,19 +1,19 @@
 -- The lines of the program that are no record's.
-use Rattle.std.proofs.Common.{◌≡◌, ◌⊎◌, inl, inr, ◌∙◌, refl, sym, ap, subst, arith, ℕ, zero, suc, ◌+◌, ◌/◌, ◌%◌, ◌<◌, ◌==◌, nat_lt, ◌&&◌, Bool, true, false, List, [], ◌∷◌, ◌++◌, append_assoc, map, Option, Some, None}
-use Rattle.std.specs.Prelude.{codes, if◌then◌else◌, pos, negsuc}
+use Rattle.std.proofs.Common.{◌≡◌, refl, sym, subst, arith, ℕ, zero, suc, ◌/◌, ◌%◌, ◌==◌, Bool, true, false, List, [], ◌∷◌, ◌++◌, append_assoc, map, Option, Some, None}
+use Rattle.std.specs.Prelude.{if◌then◌else◌, pos, negsuc}
 use Rattle.std.specs.Fmt.{decimal, digits, digits_onto, digit_glyph}
 use Rattle.std.specs.List.{list_all}
 use Rattle.serde_json.specs.Data.{Data, Num, null, boolean, number, string, array, object, unsigned, negative, float}
 use Rattle.cacao_text.specs.Canon.{canon, unsigned_of, whole_text}
-use Rattle.flow_rules.specs.Laws.{is_digit, IsRecordLine}
+use Rattle.flow_rules.specs.Laws.{is_digit}
 use Rattle.flow_rules.proofs.LineLemmas.{others_are_no_records}
 use Rattle.oc2_nets.specs.declared.packets.Packet.{Packet}
 use Rattle.slpf_rules.specs.Verdicts.{verdict}
 use Rattle.slpf_rules.specs.declared.rules.Rule.{Rule}
 use Rattle.slpf_shadow.specs.declared.shadow_lists.Shadow.{Shadow}
-use Rattle.filter_reports.specs.Lines.{AreShadowLines, decision_line, decision_lines, rule_line, rule_lines, shadow_line, verdict_word}
+use Rattle.filter_reports.specs.Lines.{decision_lines, rule_line, rule_lines, shadow_line, verdict_word}
 use Rattle.cacao_words.specs.Words.{Text}
-use Rattle.cacao_cli.specs.Ends.{End, text_of, done, accepted, agrees, disagrees, refused, bind_refused, ended_ok, ended_failed, paused, waiting, flooded, asked_for, other_run, other_book, run_used, not_understood, past, shelf_failed, no_such_file, not_readable, damaged, disk_failed, unsaid, no_memory}
+use Rattle.cacao_cli.specs.Ends.{End, text_of, done, accepted, agrees, disagrees, refused, bind_refused, ended_ok, ended_failed, paused, waiting, flooded, asked_for, other_run, other_book, run_used, not_understood, past, shelf_failed, no_such_file, not_readable, rehearsed, damaged, disk_failed, unsaid, no_memory}
 use Rattle.cacao_cli.specs.Openings.{AreLines}
 use Rattle.cacao_cli.specs.Work.{Look, at_decisions, at_rules, at_shadows, canon_line}
 use Rattle.cacao_cli.proofs.AgreeLemmas.{AreOtherLines, IsOtherLine}
@@ -141,6 +141,7 @@ last-other (no_such_file name) text is = begins (text_of (no_such_file name)) te
 last-other (not_readable name reason) text is = begins (text_of (not_readable name reason)) text is refl
 last-other (agrees records acts) text is = begins (text_of (agrees records acts)) text is refl
 last-other (disagrees file place) text is = begins (text_of (disagrees file place)) text is refl
+last-other (rehearsed positions records acts rules) text is = begins (text_of (rehearsed positions records acts rules)) text is refl
 last-other (damaged file place) text is = begins (text_of (damaged file place)) text is refl
 last-other disk_failed text is = begins (text_of disk_failed) text is refl
 last-other unsaid text is = absurd (cc)

@@ -1,6 +1,6 @@
 -- The texts of a run, and what they come to.
 use Rattle.std.proofs.Common.{zero, suc, ◌≡◌, ◌≢◌, ◌⊎◌, inl, inr, ◌∙◌, refl, sym, ap, ap₂, subst, arith, ℕ, ◌<◌, ◌≤◌, Bool, true, false, List, [], ◌∷◌, ◌++◌, length, map, take, drop, Option, Some, None, Result, Ok, Err, append-nil}
-use Rattle.std.specs.Prelude.{IfSome, IsSome, is_some, option_map, option_to_list, slice_get, nat_lt, if◌then◌else◌}
+use Rattle.std.specs.Prelude.{IfSome, IsSome, is_some, option_to_list, slice_get, if◌then◌else◌}
 use Rattle.std.proofs.lemmas.List.{map-append}
 use Rattle.std.proofs.lemmas.Option.{none-some}
 use Rattle.serde_json.specs.Data.{Data}
@@ -23,11 +23,9 @@ use Rattle.cacao_cli.specs.Asked.{runs}
 use Rattle.cacao_cli.specs.Ends.{End, no_memory, not_readable, past}
 use Rattle.cacao_cli.specs.Ended.{Performed, Performs}
 use Rattle.cacao_cli.specs.Files.{NamedText, ReadsTo, ShelfCall, book_file, has_too_many, item_then, listed, run_names}
-use Rattle.cacao_cli.specs.Holding.{WantsToStart}
-use Rattle.cacao_cli.specs.Starting.{BeginsSo, IsBegun, IsStartFrom, IsUnbound, IsUnread, IsUnreadableEnd, given_by}
+use Rattle.cacao_cli.specs.Starting.{BeginsSo, IsBegun, IsStartFrom, IsUnbound, IsUnread, IsUnreadableEnd}
 use Rattle.cacao_cli.specs.Work.{Start, Work, behind_books, bind_text, book_texts, bytes_of, ends, first_if, or_end, rest_if, start_of, starts, tree_of, tree_or_end, trees_of, trees_wanted, work_on}
 use Rattle.cacao_cli.specs.declared.limit.Limit.TheVariants.{BookCount}
-use Rattle.cacao_cli.specs.declared.reason.Reason.{Reason}
 use Rattle.cacao_cli.specs.declared.run_texts.RunTexts.{RunTexts}
 use Rattle.cacao_cli.proofs.CauseLemmas.{Treeless, TreesCase, all_trees, one_treeless, trees_case}
 use Rattle.cacao_cli.proofs.PerformLemmas.{nat_lt-no, nat_lt-yes, says-end}

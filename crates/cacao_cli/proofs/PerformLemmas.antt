@@ -8,13 +8,14 @@ use Rattle.cacao_site.specs.View.{SiteView}
 use Rattle.oc2_nets.specs.declared.packets.Packet.{Packet}
 use Rattle.filter_reports.specs.PacketFiles.{packets_of}
 use Rattle.cacao_words.specs.Words.{Text}
-use Rattle.cacao_cli.specs.Asked.{Asked, canonises, checks, shows, lists_rules, decides, shadows, audits, runs}
+use Rattle.cacao_cli.specs.Asked.{Asked, canonises, checks, shows, lists_rules, decides, shadows, rehearses, audits, runs}
 use Rattle.cacao_cli.specs.Audited.{TellsFiles}
 use Rattle.cacao_cli.specs.Command.{IsJudgement}
 use Rattle.cacao_cli.specs.Ends.{End, accepted, past, not_understood, not_readable, no_memory, done}
 use Rattle.cacao_cli.specs.Files.{File, ShelfCall, NamedText, ReadsTo, book_file, files_of, journal_file, packet_file, has_too_many, item_then, run_names}
 use Rattle.cacao_cli.specs.Lines.{SaysWork}
-use Rattle.cacao_cli.specs.Work.{ends, judges, opens_filter, opens_run, compares, at_rules, at_shadows, at_decisions, or_end, packets_or_end, run_files, trees_of, work_on, starts, canon_line, start_of, tree_of, trees_wanted}
+use Rattle.cacao_cli.specs.Rehearsing.{Rehearses}
+use Rattle.cacao_cli.specs.Work.{ends, judges, opens_filter, opens_run, at_rules, at_shadows, at_decisions, or_end, packets_or_end, run_files, trees_of, work_on, starts, canon_line, start_of, tree_of, trees_wanted}
 use Rattle.cacao_cli.specs.Ended.{Performs, Performed}
 use Rattle.cacao_cli.specs.declared.limit.Limit.TheVariants.{BookCount}
 use Rattle.cacao_cli.proofs.CauseLemmas.{TreesCase, all_trees, one_treeless, trees_case}
@@ -86,6 +87,7 @@ performed-memory (Some (decides agent packets)) shelf site same steady = record 
   reads = wanted-before shelf (packet_file packets) [] same steady;
   performs = says-end no_memory site;
 }
+performed-memory (Some (rehearses positions)) shelf site same steady = record { read = Ok []; reads = none-read shelf same steady; performs = record { same = refl; tells = inr (inr (inr refl)) } }
 performed-memory (Some (audits engine filters)) shelf site same steady = record {
   read = Err no_memory;
   reads = wanted-before shelf (journal_file engine) (map (λ (filter : ℕ × Text). journal_file filter.1) filters) same steady;
@@ -107,6 +109,12 @@ audit-read engine filters shelf site end files texts reads is tells = record {
   reads = reads;
   performs = record { same = refl; tells = subst (λ (files : List Text). TellsFiles files end) is tells };
 }
+
+-- ---- rehearse
+
+pub rehearse-perform : (positions : ℕ) (shelf : ShelfCall) (old new : SiteView) (last : End) → shelf.reads_after ≡ shelf.reads_before → shelf.after ≡ shelf.before → Rehearses positions old new last
+    → Performed (Some (rehearses positions)) shelf old new last
+rehearse-perform positions shelf old new last same steady h = record { read = Ok []; reads = none-read shelf same steady; performs = h }
 
 -- ---- show, rules, shadow and decide
 

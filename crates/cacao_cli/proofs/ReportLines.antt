@@ -1,23 +1,21 @@
 -- The lines of a report are no record's.
-use Rattle.std.proofs.Common.{◌≡◌, ◌⊎◌, inl, inr, ◌∙◌, refl, sym, ap, subst, arith, ℕ, zero, suc, ◌<◌, ◌≤◌, ◌==◌, ◌&&◌, Bool, true, false, List, [], ◌∷◌, ◌++◌, append_assoc, append-nil, length, map, All, IsTrue, Option, Some, None}
-use Rattle.std.specs.Prelude.{Contains, IfSome, IsSomeAnd, codes, if◌then◌else◌, not, option_and_then, option_map, slice_get, unwrap_or}
+use Rattle.std.proofs.Common.{◌≡◌, inl, inr, ◌∙◌, refl, sym, ap, subst, arith, ℕ, zero, suc, ◌≤◌, ◌==◌, ◌&&◌, Bool, true, false, List, [], ◌∷◌, ◌++◌, append_assoc, append-nil, length, map, All, Option, Some, None}
+use Rattle.std.specs.Prelude.{IfSome, IsSomeAnd, codes, if◌then◌else◌, not, option_and_then, option_map, slice_get, unwrap_or}
 use Rattle.std.specs.Fmt.{decimal}
-use Rattle.std.specs.List.{flat_map, list_all}
+use Rattle.std.specs.List.{list_all}
 use Rattle.std.proofs.lemmas.Bool.{true≢false}
-use Rattle.std.proofs.lemmas.List.Elements.{All-head, All-tail}
-use Rattle.std.proofs.lemmas.List.Splits.{slice_split_at, slice_split_none}
+use Rattle.std.proofs.lemmas.List.Splits.{slice_split_at}
 use Rattle.serde_json.specs.Data.{Data}
 use Rattle.serde_json.specs.Find.{get}
 use Rattle.cacao_book.specs.Books.{book}
 use Rattle.cacao_book.specs.declared.books.Book.{Book}
 use Rattle.cacao_book.specs.declared.steps.Step.{Step}
-use Rattle.cacao_text.specs.Canon.{string_text}
 use Rattle.cacao_vars.specs.declared.declarations.Var.{Var}
 use Rattle.cacao_vars.specs.declared.scoping.Scope.{Scope}
 use Rattle.cacao_vars.specs.declared.scoping.Write.{Write}
 use Rattle.flow_rules.specs.Changes.{outcome}
 use Rattle.flow_rules.specs.Givens.{Given, step_at}
-use Rattle.flow_rules.specs.Laws.{IsRecordLine, is_digit}
+use Rattle.flow_rules.specs.Laws.{is_digit}
 use Rattle.flow_rules.specs.Lines.{agent_word, issue_lines, issue_words, key_of, line, line_from, maybe_number, maybe_text, outcome_words, phase_words, report, task_lines, variable_lines, well_words}
 use Rattle.flow_rules.specs.State.{Shown, State, Texts, shown, texts_from, texts_now}
 use Rattle.flow_rules.specs.declared.issues.Issue.{Issue}
@@ -49,7 +47,7 @@ use Rattle.flow_rules.specs.Accepted.{Accepted}
 use Rattle.flow_rules.specs.Changes.{moment_of}
 use Rattle.flow_rules.specs.Edits.{Edit, all_edited, closes, edited, issues, makes, moves, opens, upgrades, writes}
 use Rattle.flow_rules.specs.Runs.{GoesOn, Leads, after, begun, blank, first_task}
-use Rattle.cacao_cli.proofs.AgreeLemmas.{AreOtherLines, IsOtherLine}
+use Rattle.cacao_cli.proofs.AgreeLemmas.{AreOtherLines}
 use Rattle.cacao_cli.proofs.ReportWords.{IsWord, both-words, first-true, id-word, is_other_than_feed, name-word, number-word, second-true, string-word}
 
 -- ---- lines that begin with no digit

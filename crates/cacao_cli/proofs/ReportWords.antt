@@ -1,14 +1,11 @@
 -- The words of a report, none of which has a line feed.
-use Rattle.std.proofs.Common.{◌≡◌, ◌≢◌, ◌⊎◌, inl, inr, ◌∙◌, refl, sym, ap, subst, arith, ℕ, zero, suc, ◌<◌, ◌/◌, ◌%◌, ◌==◌, ◌&&◌, nat_lt, Bool, true, false, List, [], ◌∷◌, ◌++◌, length, get_or, map, All, IsTrue, Option, Some, None}
-use Rattle.std.specs.Prelude.{Contains, IfSome, if◌then◌else◌, not, option_and_then, option_map, slice_get, unwrap_or}
+use Rattle.std.proofs.Common.{◌≡◌, ◌∙◌, refl, sym, ap, subst, arith, ℕ, suc, ◌<◌, ◌/◌, ◌%◌, ◌==◌, ◌&&◌, nat_lt, Bool, true, false, List, [], ◌∷◌, ◌++◌, length, get_or}
+use Rattle.std.specs.Prelude.{if◌then◌else◌, not}
 use Rattle.std.specs.Fmt.{decimal}
 use Rattle.std.specs.List.{flat_map, list_all, join_with_byte, AllByRecursion}
 use Rattle.std.proofs.lemmas.Bool.{true≢false}
 use Rattle.std.proofs.lemmas.List.Folds.{list_all-append}
-use Rattle.std.proofs.lemmas.List.Elements.{All-contains, All-head, All-tail}
-use Rattle.serde_json.specs.Data.{Data}
-use Rattle.serde_json.specs.Find.{get}
-use Rattle.cacao_ids.specs.Ids.{HasObjectType, IsId, IsObjectType, IsPart, is_part_character}
+use Rattle.cacao_ids.specs.Ids.{IsId, IsPart, is_part_character}
 use Rattle.cacao_ids.specs.Uuids.{IsUuid, is_hyphen_at, is_lower_hex, may_stand}
 use Rattle.cacao_text.specs.Canon.{escaped, hex_digit, string_text}
 use Rattle.cacao_vars.specs.Names.{IsName, is_name_character, underscores}

@@ -21,7 +21,7 @@ use Rattle.session_laws.specs.Returned.{ClosesOnRun, ReadsAsRun, TellsClose}
 use Rattle.session_laws.proofs.Returning.{closes_on_run}
 use Rattle.cacao_words.specs.Requests.{RunRequest}
 use Rattle.cacao_words.specs.Words.{Text}
-use Rattle.cacao_cli.specs.Asked.{Asked, canonises, checks, runs, shows, lists_rules, decides, shadows, audits}
+use Rattle.cacao_cli.specs.Asked.{Asked, canonises, checks, runs, shows, lists_rules, decides, shadows, rehearses, audits}
 use Rattle.cacao_cli.specs.Causes.{HasTexts}
 use Rattle.cacao_cli.specs.Ended.{Performed, Performs}
 use Rattle.cacao_cli.specs.Ends.{End, status_of, no_such_file, not_readable, past}
@@ -199,4 +199,5 @@ returns-ended (Some shows) shelf old mid new last answer sound p tells = tt
 returns-ended (Some (lists_rules agent)) shelf old mid new last answer sound p tells = tt
 returns-ended (Some (decides agent packets)) shelf old mid new last answer sound p tells = tt
 returns-ended (Some (shadows agent)) shelf old mid new last answer sound p tells = tt
+returns-ended (Some (rehearses positions)) shelf old mid new last answer sound p tells = tt
 returns-ended (Some (audits engine filters)) shelf old mid new last answer sound p tells = tt

@@ -1,12 +1,11 @@
 -- The files of a run: how many, their names, and what reading them comes to.
-use Rattle.std.proofs.Common.{◌≡◌, ◌∙◌, refl, sym, ap, subst, arith, ℕ, ◌+◌, ◌<◌, ◌≤◌, Bool, true, false, List, [], ◌∷◌, ◌++◌, length, length-append, length-take-le, map, Bor, Option, Some, Result, Ok, Err}
+use Rattle.std.proofs.Common.{◌≡◌, ◌∙◌, refl, sym, ap, arith, ℕ, ◌≤◌, Bool, List, [], ◌∷◌, ◌++◌, length, length-append, length-take-le, map, Bor, Option, Some, Ok, Err}
 use Rattle.std.specs.Prelude.{if◌then◌else◌}
 use Rattle.std.proofs.lemmas.List.{length-map}
 use Rattle.cacao_words.specs.Requests.{RunRequest}
 use Rattle.cacao_words.specs.Words.{Text}
 use Rattle.cacao_cli.specs.Asked.{runs}
-use Rattle.cacao_cli.specs.Ends.{End}
-use Rattle.cacao_cli.specs.Files.{File, Files, NamedText, Reads, all_read, wants_memory, stops, goes_on, book_file, files_of, has_too_many, item_then, listed, run_names}
+use Rattle.cacao_cli.specs.Files.{File, Files, NamedText, Reads, all_read, wants_memory, stops, goes_on, book_file, files_of, item_then, listed, run_names}
 use Rattle.cacao_cli.specs.Starting.{IsStartFrom}
 use Rattle.cacao_cli.specs.Work.{Start, book_texts}
 use Rattle.cacao_cli.specs.declared.run_texts.RunTexts.{RunTexts}

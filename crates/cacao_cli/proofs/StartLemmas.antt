@@ -1,15 +1,14 @@
 -- A session, from the texts that were read.
-use Rattle.std.proofs.Common.{◌≡◌, ◌⊎◌, inl, inr, ◌∙◌, refl, sym, ap, subst, arith, ℕ, ◌≤◌, List, [], Option, Some, None}
+use Rattle.std.proofs.Common.{◌≡◌, ◌⊎◌, inl, inr, ◌∙◌, refl, sym, ap, subst, arith, ℕ, ◌≤◌, Option, Some, None}
 use Rattle.cacao_site.specs.Counts.{Rose, next_count}
 use Rattle.cacao_site.specs.View.{SiteView}
 use Rattle.flow_laws.specs.Held.{plain}
 use Rattle.flow_laws.proofs.Calls.{since_start}
 use Rattle.flow_world.specs.Sessions.{IsStart, KeepsAgreement}
-use Rattle.cacao_cli.specs.Ends.{End, status_of, text_of, disk_failed, unsaid}
+use Rattle.cacao_cli.specs.Ends.{End, status_of, text_of, unsaid}
 use Rattle.cacao_cli.specs.Ended.{Performs}
 use Rattle.cacao_cli.specs.Exact.{HasStatus}
 use Rattle.cacao_words.specs.Words.{Text}
-use Rattle.cacao_cli.specs.Holding.{HoldsSession, TellsBadLine, TellsBindBreak, TellsBookBreak, WantsToStart}
 use Rattle.cacao_cli.specs.Lines.{SaysAtMostALine, Tells, TellsText}
 use Rattle.cacao_cli.specs.Work.{Start, starts}
 use Rattle.cacao_cli.proofs.EndCases.{eight-is, nine-or-not}

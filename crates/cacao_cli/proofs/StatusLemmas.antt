@@ -10,14 +10,15 @@ use Rattle.cacao_check.specs.FirstBreak.{IsAccepted}
 use Rattle.cacao_check.specs.declared.breaks.Mode.TheVariants.{Read as Reading}
 use Rattle.cacao_site.specs.View.{SiteView}
 use Rattle.cacao_words.specs.Words.{Text}
-use Rattle.cacao_cli.specs.Asked.{Asked, canonises, checks, shows, lists_rules, decides, shadows, audits, runs}
-use Rattle.cacao_cli.specs.Ends.{End, done, accepted, most, no_such_file, not_readable, past, status_of, asked_for, damaged, ended_failed, ended_ok, flooded, other_book, other_run, paused, run_used, waiting}
+use Rattle.cacao_cli.specs.Asked.{Asked, canonises, checks, shows, lists_rules, decides, shadows, rehearses, audits, runs}
+use Rattle.cacao_cli.specs.Ends.{End, done, accepted, most, no_such_file, not_readable, past, status_of, asked_for, damaged, ended_failed, ended_ok, flooded, other_book, other_run, paused, rehearsed, run_used, waiting}
 use Rattle.cacao_cli.specs.Files.{File, Files, NamedText, ShelfCall, files_of, book_file, packet_file, has_too_many, reading, run_names}
-use Rattle.cacao_cli.specs.Work.{Work, ends, judges, opens_filter, opens_run, compares, at_decisions, or_end, canon_line, run_files, work, work_on, starts, packets_in, packets_or_end, start_of, trees_of, trees_wanted}
+use Rattle.cacao_cli.specs.Work.{Work, ends, judges, opens_filter, opens_run, compares, rehearsals, at_decisions, or_end, canon_line, run_files, work, work_on, starts, packets_in, packets_or_end, start_of, trees_of, trees_wanted}
 use Rattle.cacao_cli.specs.Ended.{Ended}
 use Rattle.cacao_cli.specs.Audited.{Agree, Disagree, PassTasks}
-use Rattle.cacao_cli.specs.Exact.{HasVerdict, IsOneOf, ComesExactly, IfFilesTold, IfTold, IsBroken, HasStatus, file_faults, faults_of, IsSettled, session_statuses, stands_for}
+use Rattle.cacao_cli.specs.Exact.{HasVerdict, IsOneOf, ComesExactly, IfFilesTold, IfTold, IsBroken, HasStatus, file_faults, faults_of, IsSettled, session_statuses, stands_for, HasRehearsed, IsRehearsed}
 use Rattle.cacao_cli.specs.Causes.{AllWithin, FindsDisagreement, IsAuditOf, SomeTreeless, Trees, IsMissing, IsTooLong, IsUnreadable, IsPastLimit, NamesTooMuch, IsRefused, BreaksRule, KeepsRules, CanBeDone, FindsItDamaged, EndsAs, EndsAsAnother, EndsAsAsked, EndsAsWaiting, HasTexts, HasTrees, LacksTree, SessionTo}
+use Rattle.cacao_cli.specs.Rehearsing.{RehearsalTo}
 use Rattle.cacao_cli.specs.Openings.{HoldsFilter, IsDamagedFilter}
 use Rattle.cacao_cli.specs.declared.limit.Limit.TheVariants.{BookCount}
 use Rattle.cacao_cli.specs.declared.reason.Reason.TheVariants.{Line}
@@ -31,6 +32,7 @@ use Rattle.cacao_cli.proofs.CountLemmas.{understood-ended, not_understood-ended}
 use Rattle.cacao_cli.proofs.ExactLemmas.{Comes, status-seen, status-told, if-told, if-asked}
 use Rattle.cacao_cli.proofs.OpenLemmas.{ComesOpened}
 use Rattle.cacao_cli.proofs.ReadLemmas.{Read}
+use Rattle.cacao_cli.proofs.RehearseLemmas.{broken-rehearsed, came-counted, long-listed, rehearsal-listed, rehearsed-broken, rehearsed-other, rehearsed-ran}
 use Rattle.cacao_cli.proofs.RunLemmas.{damaged-run, done-run, large-run, run-damaged, run-done, run-large, shown-other}
 use Rattle.cacao_cli.proofs.JudgedLemmas.{bad-start, came-accepted, came-done, lacks-tree, refused-start, roots-lack, start-among, start-bad, start-listed, start-other, start-refused, start-settled}
 use Rattle.cacao_cli.proofs.EndCases.{IsPlainEnd, not-among, session-end, session_only}
@@ -431,6 +433,57 @@ module _ (engine : Text) (filters : List (ℕ × Text)) (files : Files) (old new
         };
       }
 
+-- ---- rehearse
+
+module _ (positions : ℕ) (files : Files) (old new : SiteView) (n : ℕ) where
+  rehearse-other : (m : ℕ) → HasRehearsed positions n → n ≡ m → (11 ≡ m → ⊥) → (1 ≡ m → ⊥) → list_any (nat_eq m) session_statuses ≡ false → ⊥
+  rehearse-other m h e a b none = rehearsed-other positions n m h e a b none
+
+  ran-at : (m : ℕ) → HasRehearsed positions n → n ≡ m → (11 ≡ m → ⊥) → (1 ≡ m → ⊥) → IsRehearsed positions n
+  ran-at m h e a b = rehearsed-ran positions n h (λ f. a (sym f ∙ e)) (λ f. b (sym f ∙ e))
+
+  rehearse-past : HasRehearsed positions n → n ≡ 11 → IsPastLimit (Some (rehearses positions)) files old new
+  rehearse-past (inl h) e = inl h.0
+  rehearse-past (inr (inl h)) e = absurd (omega (arith, e, h.1))
+  rehearse-past (inr (inr h)) e = let p = (session-end h.last).passes (sym h.is ∙ e) in inr (p.0, subst (RehearsalTo positions) p.1 h.came)
+
+  past-listed : HasRehearsed positions n → IsPastLimit (Some (rehearses positions)) files old new → IsOneOf n session_statuses
+  past-listed h (inl long) = long-listed positions n h long
+  past-listed h (inr (limit, r)) = rehearsal-listed positions n h (past limit) r
+
+  rehearse-files : HasRehearsed positions n → FileStatuses (Some (rehearses positions)) files n
+  rehearse-files h = record {
+    is_refused = rehearsed-broken positions n h;
+    refused_is = broken-rehearsed positions n h;
+    is_missing = λ e. absurd (rehearse-other 4 h e (λ f. omega (arith, f)) (λ f. omega (arith, f)) refl);
+    missing_is = λ m. absurd m;
+    is_unreadable = λ e. absurd (rehearse-other 5 h e (λ f. omega (arith, f)) (λ f. omega (arith, f)) refl);
+    unreadable_is = λ u. absurd u;
+    is_disagreed = λ e. absurd (rehearse-other 18 h e (λ f. omega (arith, f)) (λ f. omega (arith, f)) refl);
+    disagreed_is = λ d. absurd d;
+  }
+
+  rehearse-told : HasRehearsed positions n → ToldStatuses (Some (rehearses positions)) files old new n
+  rehearse-told h = record {
+    is_done = λ e. let t = ran-at 0 h e (λ f. omega (arith, f)) (λ f. omega (arith, f)) in came-counted positions t.last t.came (sym t.is ∙ e);
+    done_is = λ c. inr (rehearsal-listed positions n h (rehearsed positions c.0 c.1 c.2) c.3);
+    is_past = rehearse-past h;
+    past_is = λ p. inr (past-listed h p);
+    is_damaged = λ e. let t = ran-at 13 h e (λ f. omega (arith, f)) (λ f. omega (arith, f)) in let d = (session-end t.last).damage (sym t.is ∙ e) in (d.0, d.1, subst (RehearsalTo positions) d.2 t.came);
+    damaged_is = λ d. inr (rehearsal-listed positions n h (damaged d.0 d.1) d.2);
+  }
+
+  rehearse-session : HasRehearsed positions n → SessionStatuses (Some (rehearses positions)) files old new n
+  rehearse-session h = record { ends = by h; among = λ last r. rehearsal-listed positions n h last r }
+    where
+      unlike : (m : ℕ) → n ≡ m → list_any (nat_eq m) session_only ≡ false → IsOneOf n session_only → ⊥
+      unlike m e none one = not-among m session_only none (subst (λ (k : ℕ). IsOneOf k session_only) e one)
+
+      by : HasRehearsed positions n → IsOneOf n session_only → SessionEnds (Some (rehearses positions)) files old new n
+      by (inl h) one = absurd (unlike 11 h.1 refl one)
+      by (inr (inl h)) one = absurd (unlike 1 h.1 refl one)
+      by (inr (inr h)) one = record { last = h.last; held = h.came; is = h.is }
+
 -- ---- run
 
 -- what the files of `run` come to
@@ -705,6 +758,7 @@ file-statuses (Some shows) files old new n called = record {
 file-statuses (Some (lists_rules agent)) files old new n called = filter-files (Some (lists_rules agent)) agent files old new n called (λ h. h) (λ h. h) (λ h. h) (λ h. h)
 file-statuses (Some (shadows agent)) files old new n called = filter-files (Some (shadows agent)) agent files old new n called (λ h. h) (λ h. h) (λ h. h) (λ h. h)
 file-statuses (Some (decides agent packets)) files old new n called = decide-files agent packets files old new n called
+file-statuses (Some (rehearses positions)) files old new n called = rehearse-files positions files old new n called
 file-statuses (Some (audits engine filters)) files old new n called = (audit-statuses engine filters files old new n called).of_files
 
 -- too many playbooks, and files that are too long, are told before all work
@@ -751,6 +805,8 @@ too-much (Some (shadows agent)) files old new n called (inl many) = absurd (true
 too-much (Some (shadows agent)) files old new n called (inr long) = absurd long
 too-much (Some (decides agent packets)) files old new n called (inl many) = absurd (true≢false (sym many))
 too-much (Some (decides agent packets)) files old new n called (inr long) = inl (decides-much agent packets files old new n called long)
+too-much (Some (rehearses positions)) files old new n called (inl many) = absurd (true≢false (sym many))
+too-much (Some (rehearses positions)) files old new n called (inr long) = absurd long
 too-much (Some (audits engine filters)) files old new n called (inl many) = absurd (true≢false (sym many))
 too-much (Some (audits engine filters)) files old new n called (inr long) = (audit-statuses engine filters files old new n called).told.past_is (inl long)
 
@@ -766,6 +822,7 @@ has-comes opens_run old new n (inl h) = inl ((λ told. h.0), h.1)
 has-comes opens_run old new n (inr (inl h)) = inr (inl ((λ told. h.0), h.1))
 has-comes opens_run old new n (inr (inr h)) = inr (inr (inl ((λ told. h.0), h.1)))
 has-comes (compares files) old new n h = h
+has-comes (rehearsals positions) old new n h = h
 
 abbrev Held : Option Asked → Files → SiteView → SiteView → ℕ → Type 0
 Held asked files old new n = HasStatus (work asked (reading files (files_of asked))) old new n
@@ -809,6 +866,7 @@ told-statuses (Some (shadows agent)) files old new n held = record {
   damaged_is = λ h. inl (damaged-filter agent new n held h);
 }
 told-statuses (Some (decides agent packets)) files old new n held = decide-told agent packets files old new n held
+told-statuses (Some (rehearses positions)) files old new n held = rehearse-told positions files old new n held
 told-statuses (Some (audits engine filters)) files old new n held =
     (audit-statuses engine filters files old new n (has-comes (work (Some (audits engine filters)) (reading files (files_of (Some (audits engine filters))))) old new n held)).told
 
@@ -821,6 +879,7 @@ Sessionless (judges trees mode kept) = Sessionless kept
 Sessionless (opens_filter agent look) = Unit {0}
 Sessionless opens_run = Unit {0}
 Sessionless (compares files) = Unit {0}
+Sessionless (rehearsals positions) = ⊥
 Sessionless (starts start) = ⊥
 
 no-session : (w : Work) (old new : SiteView) (n : ℕ) → Sessionless w → HasStatus w old new n → IsOneOf n session_only → ⊥
@@ -838,6 +897,7 @@ no-session w old new n plain h one = go w plain h
     go opens_run plain (inl h) = other 0 h.1 refl
     go opens_run plain (inr (inl h)) = other 13 h.1 refl
     go opens_run plain (inr (inr h)) = other 11 h.1 refl
+    go (rehearsals positions) plain h = absurd plain
     go (compares files) plain (inl h) = other 0 h.1 refl
     go (compares files) plain (inr (inl h)) = other 18 h.1 refl
     go (compares files) plain (inr (inr h)) = other 11 h.1 refl
@@ -899,6 +959,7 @@ session-statuses-of (Some (lists_rules agent)) files old new n held = sessionles
 session-statuses-of (Some (decides agent packets)) files old new n held = sessionless (Some (decides agent packets)) files old new n
     (plain-asked (decides agent packets) files (λ texts. plain-packets texts (λ found. opens_filter agent (at_decisions found)) (λ found. tt))) (λ last h. h) held
 session-statuses-of (Some (shadows agent)) files old new n held = sessionless (Some (shadows agent)) files old new n tt (λ last h. h) held
+session-statuses-of (Some (rehearses positions)) files old new n held = rehearse-session positions files old new n held
 session-statuses-of (Some (audits engine filters)) files old new n held = sessionless (Some (audits engine filters)) files old new n
     (plain-asked (audits engine filters) files (λ texts. tt)) (λ last h. h) held
 
@@ -925,6 +986,7 @@ apart-asked n (Some (lists_rules agent)) a f b c (inl e) = f e
 apart-asked n (Some (lists_rules agent)) a f b c (inr h) = apart n a b c (inr h)
 apart-asked n (Some (shadows agent)) a f b c (inl e) = f e
 apart-asked n (Some (shadows agent)) a f b c (inr h) = apart n a b c (inr h)
+apart-asked n (Some (rehearses positions)) a f b c h = apart n a b c (inr h)
 apart-asked n (Some (audits engine filters)) a f b c h = apart n a b c h
 apart-asked n (Some (decides agent packets)) a f b c (inl e) = a e
 apart-asked n (Some (decides agent packets)) a f b c (inr (inl e)) = f e
@@ -949,6 +1011,9 @@ stands-with (Some shows) n h = h
 stands-with (Some (lists_rules agent)) n h = h
 stands-with (Some (decides agent packets)) n h = h
 stands-with (Some (shadows agent)) n h = h
+stands-with (Some (rehearses positions)) n (inl e) = inr (inr (inr (inr (inl e))))
+stands-with (Some (rehearses positions)) n (inr (inl e)) = inr (inr (inr (inr (inr (inl e)))))
+stands-with (Some (rehearses positions)) n (inr (inr h)) = absurd h
 stands-with (Some (audits engine filters)) n h = h
 
 widen : (Has : Type 0) (answer : ℕ) (list : List File) → Has ⊎ IsOneOf answer (file_faults list) → Has ⊎ IsOneOf answer (3 ∷ 9 ∷ 10 ∷ [])

@@ -1,20 +1,19 @@
 -- What a call leaves that is refused before it opens a file of the disk.
-use Rattle.std.proofs.Common.{◌≡◌, ◌⊎◌, inl, inr, sym, subst, ap, arith, ℕ, Bool, true, false, List, [], ◌∷◌, Option, Some, None, Result, Ok, Err, refl}
-use Rattle.std.specs.Prelude.{if◌then◌else◌, nat_eq}
+use Rattle.std.proofs.Common.{◌≡◌, ◌⊎◌, inl, inr, subst, ℕ, false, List, [], ◌∷◌, Option, Some, None, Result, Ok, Err, refl}
+use Rattle.std.specs.Prelude.{nat_eq}
 use Rattle.std.specs.List.{list_any}
 use Rattle.oc2_nets.specs.declared.packets.Packet.{Packet}
 use Rattle.cacao_site.specs.View.{SiteView}
 use Rattle.filter_reports.specs.PacketFiles.{packets_of}
 use Rattle.cacao_words.specs.Words.{Text}
-use Rattle.cacao_cli.specs.Asked.{Asked, canonises, checks, runs, shows, lists_rules, decides, shadows, audits}
+use Rattle.cacao_cli.specs.Asked.{Asked, canonises, checks, runs, shows, lists_rules, decides, shadows, rehearses, audits}
 use Rattle.cacao_cli.specs.Ended.{Ended, Performs}
-use Rattle.cacao_cli.specs.Ends.{End, past}
+use Rattle.cacao_cli.specs.Ends.{End}
 use Rattle.cacao_cli.specs.Exact.{IsOneOf, session_statuses}
-use Rattle.cacao_cli.specs.Files.{NamedText, ShelfCall, has_too_many}
-use Rattle.cacao_cli.specs.Leaves.{LeavesAll, LeavesSession, SaysAtMostOnce}
+use Rattle.cacao_cli.specs.Files.{ShelfCall, has_too_many}
+use Rattle.cacao_cli.specs.Leaves.{LeavesAll, SaysAtMostOnce}
 use Rattle.cacao_cli.specs.Lines.{Tells}
-use Rattle.cacao_cli.specs.Work.{Look, Work, ends, opens_filter, opens_run, at_decisions, at_rules, at_shadows, or_end, packets_or_end, work_on}
-use Rattle.cacao_cli.specs.declared.limit.Limit.TheVariants.{BookCount}
+use Rattle.cacao_cli.specs.Work.{Look, opens_filter, opens_run, at_decisions, at_rules, at_shadows, or_end, packets_or_end, work_on}
 use Rattle.cacao_cli.proofs.EndCases.{not-among}
 use Rattle.cacao_cli.proofs.ExactLemmas.{Comes, performs-comes}
 use Rattle.cacao_cli.proofs.LeaveLemmas.{RunLeft, leaves-ended, rules-performed, run-left, shadows-performed, show-performed, silent-once}
@@ -90,4 +89,5 @@ stays-ended (Some shows) shelf old new answer h one =
 stays-ended (Some (lists_rules agent)) shelf old new answer h one = opened-early answer one agent at_rules old h.between new h.last (rules-performed agent shelf old h.between h.last h.performed) h.tells
 stays-ended (Some (decides agent packets)) shelf old new answer h one = decide-early answer one agent packets old h.between new h.last h.performed.read h.performed.performs h.tells
 stays-ended (Some (shadows agent)) shelf old new answer h one = opened-early answer one agent at_shadows old h.between new h.last (shadows-performed agent shelf old h.between h.last h.performed) h.tells
+stays-ended (Some (rehearses positions)) shelf old new answer h one = leaves-ended (Some (rehearses positions)) shelf old new answer h
 stays-ended (Some (audits engine filters)) shelf old new answer h one = leaves-ended (Some (audits engine filters)) shelf old new answer h

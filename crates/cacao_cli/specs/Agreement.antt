@@ -4,7 +4,7 @@ use Rattle.cacao_site.specs.View.{SiteView}
 use Rattle.flow_laws.specs.Held.{plain}
 use Rattle.flow_laws.specs.Sessions.{IsStart as IsStartAs}
 use Rattle.flow_world.specs.Sessions.{IsStart}
-use Rattle.cacao_cli.specs.Asked.{Asked, canonises, checks, runs, shows, lists_rules, decides, shadows, audits}
+use Rattle.cacao_cli.specs.Asked.{Asked, canonises, checks, runs, shows, lists_rules, decides, shadows, rehearses, audits}
 
 -- the site tells its files, and all that a crash may leave now is good and held
 pub record Agrees (site : SiteView) : Type 0 where
@@ -21,4 +21,5 @@ MayBegin (Some shows) site = Agrees site
 MayBegin (Some (lists_rules agent)) site = Agrees site
 MayBegin (Some (decides agent packets)) site = Agrees site
 MayBegin (Some (shadows agent)) site = Agrees site
+MayBegin (Some (rehearses positions)) site = Agrees site
 MayBegin (Some (audits engine filters)) site = Agrees site

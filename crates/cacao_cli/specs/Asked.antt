@@ -1,5 +1,5 @@
 -- What the program is asked to do: one case and one row a command that is built.
-use Rattle.std.specs.Prelude.{ℕ, List, Option, Some, None, option_and_then}
+use Rattle.std.specs.Prelude.{ℕ, List, Option, Some, option_and_then}
 use Rattle.cacao_words.specs.Words.{Text}
 use Rattle.cacao_words.specs.Requests.{Request, RunRequest, request}
 use Rattle.cacao_words.specs.Requests as words
@@ -13,9 +13,10 @@ pub data Asked : Type 0 where
   lists_rules : (agent : ℕ) → Asked
   decides : (agent : ℕ) (packets : Text) → Asked
   shadows : (agent : ℕ) → Asked
+  rehearses : (positions : ℕ) → Asked
   audits : (engine : Text) (filters : List (ℕ × Text)) → Asked
 
--- words that ask for a command that is not built have no reading
+-- a request that the program does; each is built
 abbrev pub built : Request → Option Asked
 built (words.canonises book) = Some (canonises book)
 built (words.checks books) = Some (checks books)
@@ -23,7 +24,7 @@ built (words.runs wanted) = Some (runs wanted)
 built words.shows = Some shows
 built (words.lists_rules agent) = Some (lists_rules agent)
 built (words.decides agent packets) = Some (decides agent packets)
-built (words.rehearses positions) = None
+built (words.rehearses positions) = Some (rehearses positions)
 built (words.shadows agent) = Some (shadows agent)
 built (words.audits engine filters) = Some (audits engine filters)
 

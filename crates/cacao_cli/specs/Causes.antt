@@ -8,15 +8,16 @@ use Rattle.cacao_check.specs.declared.breaks.Mode.TheVariants.{Read}
 use Rattle.oc2_nets.specs.declared.packets.Packet.{Packet}
 use Rattle.filter_reports.specs.PacketFiles.{packets_of}
 use Rattle.cacao_site.specs.View.{SiteView}
-use Rattle.cacao_cli.specs.Asked.{Asked, canonises, checks, shows, lists_rules, decides, shadows, audits, runs}
+use Rattle.cacao_cli.specs.Asked.{Asked, canonises, checks, shows, lists_rules, decides, shadows, rehearses, audits, runs}
 use Rattle.cacao_cli.specs.Audited.{Agree, Disagree, PassTasks}
-use Rattle.cacao_cli.specs.Ends.{most, End, asked_for, damaged, ended_ok, other_book, other_run, past, run_used, waiting}
+use Rattle.cacao_cli.specs.Ends.{most, End, asked_for, damaged, ended_ok, other_book, other_run, past, rehearsed, run_used, waiting}
 use Rattle.cacao_words.specs.Requests.{RunRequest}
 use Rattle.cacao_cli.specs.Exact.{IsBroken}
 use Rattle.cacao_cli.specs.Holding.{CameTo, HasBadAnswer, IsRefusedStart}
 use Rattle.cacao_cli.specs.declared.limit.Limit.{Limit}
 use Rattle.cacao_cli.specs.Openings.{HoldsFilter, HoldsRun, IsDamagedFilter, IsDamagedRun, IsTooLargeRun}
 use Rattle.cacao_cli.specs.Files.{File, Files, files_of, has_too_many, packet_file, reading, NamedText, book_file, run_names}
+use Rattle.cacao_cli.specs.Rehearsing.{IsBrokenRehearsal, IsLongRehearsal, RehearsalTo}
 use Rattle.cacao_cli.specs.Work.{run_files, start_of, trees_wanted}
 use Rattle.cacao_words.specs.Words.{Text}
 
@@ -91,7 +92,7 @@ pub record SessionTo (wanted : RunRequest) (files : Files) (last : End) (old new
   pub trees : HasTrees wanted texts
   pub came : CameTo (start_of wanted texts) last old new
 
--- so it was with a command that holds a session
+-- so it was with a command that holds a session; that of a rehearsal is held on a site of its own
 abbrev pub EndsAs : Option Asked → Files → End → SiteView → SiteView → Type 0
 EndsAs None files last old new = ⊥
 EndsAs (Some (canonises book)) files last old new = ⊥
@@ -101,6 +102,7 @@ EndsAs (Some shows) files last old new = ⊥
 EndsAs (Some (lists_rules agent)) files last old new = ⊥
 EndsAs (Some (decides agent packets)) files last old new = ⊥
 EndsAs (Some (shadows agent)) files last old new = ⊥
+EndsAs (Some (rehearses positions)) files last old new = RehearsalTo positions last
 EndsAs (Some (audits engine filters)) files last old new = ⊥
 
 -- it found the engine's file taken by another run, or by one of other texts, or the number used
@@ -127,6 +129,7 @@ IsUnreadable (Some shows) files = ⊥
 IsUnreadable (Some (lists_rules agent)) files = ⊥
 IsUnreadable (Some (decides agent packets)) files = IsWithin files (packet_file packets) × HasBadLine files (packet_file packets)
 IsUnreadable (Some (shadows agent)) files = ⊥
+IsUnreadable (Some (rehearses positions)) files = ⊥
 IsUnreadable (Some (audits engine filters)) files = ⊥
 
 -- a rule is broken, by playbooks each of which is there within its limit and has a tree
@@ -145,6 +148,7 @@ IsRefused (Some shows) files = ⊥
 IsRefused (Some (lists_rules agent)) files = ⊥
 IsRefused (Some (decides agent packets)) files = ⊥
 IsRefused (Some (shadows agent)) files = ⊥
+IsRefused (Some (rehearses positions)) files = IsBrokenRehearsal positions
 IsRefused (Some (audits engine filters)) files = ⊥
 
 -- the words name too many playbooks, or the first file that is not there within its limit is longer than that
@@ -163,6 +167,7 @@ IsPastLimit (Some shows) files old new = IsTooLargeRun new
 IsPastLimit (Some (lists_rules agent)) files old new = ⊥
 IsPastLimit (Some (decides agent packets)) files old new = IsTooLong files (files_of (Some (decides agent packets)))
 IsPastLimit (Some (shadows agent)) files old new = ⊥
+IsPastLimit (Some (rehearses positions)) files old new = IsLongRehearsal positions ⊎ ((limit : Limit) × RehearsalTo positions (past limit))
 IsPastLimit (Some (audits engine filters)) files old new = IsTooLong files (files_of (Some (audits engine filters))) ⊎ IsAuditOf files engine filters PassTasks
 
 -- no rule is broken, by playbooks each of which is there within its limit and has a tree
@@ -181,6 +186,7 @@ CanBeDone (Some shows) files old new = HoldsRun new
 CanBeDone (Some (lists_rules agent)) files old new = HoldsFilter agent new
 CanBeDone (Some (decides agent packets)) files old new = IsPacketFile files (packet_file packets) × HoldsFilter agent new
 CanBeDone (Some (shadows agent)) files old new = HoldsFilter agent new
+CanBeDone (Some (rehearses positions)) files old new = (records : ℕ) × (acts : ℕ) × (rules : ℕ) × RehearsalTo positions (rehearsed positions records acts rules)
 CanBeDone (Some (audits engine filters)) files old new = IsAuditOf files engine filters Agree
 
 -- the file of the disk that the command opens holds nothing that the program wrote, and nothing else stops the command before
@@ -193,6 +199,7 @@ FindsItDamaged (Some shows) files old new = IsDamagedRun new
 FindsItDamaged (Some (lists_rules agent)) files old new = IsDamagedFilter agent new
 FindsItDamaged (Some (decides agent packets)) files old new = IsPacketFile files (packet_file packets) × IsDamagedFilter agent new
 FindsItDamaged (Some (shadows agent)) files old new = IsDamagedFilter agent new
+FindsItDamaged (Some (rehearses positions)) files old new = (file : ℕ) × (place : ℕ) × RehearsalTo positions (damaged file place)
 FindsItDamaged (Some (audits engine filters)) files old new = ⊥
 
 -- the files of a run do not agree
@@ -205,4 +212,5 @@ FindsDisagreement (Some shows) files = ⊥
 FindsDisagreement (Some (lists_rules agent)) files = ⊥
 FindsDisagreement (Some (decides agent packets)) files = ⊥
 FindsDisagreement (Some (shadows agent)) files = ⊥
+FindsDisagreement (Some (rehearses positions)) files = ⊥
 FindsDisagreement (Some (audits engine filters)) files = IsAuditOf files engine filters Disagree

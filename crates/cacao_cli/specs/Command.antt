@@ -55,6 +55,7 @@ end_of (how.NoSuchFile name) = as_said.no_such_file name.now
 end_of (how.NotReadable name reason) = as_said.not_readable name.now reason
 end_of (how.Agrees records acts) = as_said.agrees records acts
 end_of (how.Disagrees file place) = as_said.disagrees file place
+end_of (how.Rehearsed positions summary) = as_said.rehearsed positions summary.records summary.acts summary.rules
 end_of (how.Damaged file place) = as_said.damaged file place
 end_of how.DiskFailed = as_said.disk_failed
 end_of how.Unsaid = as_said.unsaid

@@ -12,7 +12,8 @@ use Rattle.cacao_cli.specs.Files.{ShelfCall, NamedText, ReadsTo, files_of}
 use Rattle.cacao_cli.specs.Holding.{HoldsSession, TellsBadLine, TellsBindBreak, TellsBookBreak, WantsToStart}
 use Rattle.cacao_cli.specs.Lines.{SaysWork, Tells}
 use Rattle.cacao_cli.specs.Openings.{FailsToOpen, FindsDamage, FindsNoRun, FindsTooMany, SaysFilter, SaysRun, WantsToOpen}
-use Rattle.cacao_cli.specs.Work.{Work, ends, judges, opens_filter, opens_run, compares, work, starts}
+use Rattle.cacao_cli.specs.Rehearsing.{Rehearses}
+use Rattle.cacao_cli.specs.Work.{Work, ends, judges, opens_filter, opens_run, compares, rehearsals, work, starts}
 
 -- a rule of the playbooks is broken, and the end tells the first break
 pub record TellsBreak (trees : List Data) (mode : Mode) (old new : SiteView) (last : End) : Type 0 where
@@ -32,6 +33,7 @@ Performs (ends lines end) old new last = SaysWork lines end old new last
 Performs (opens_filter agent look) old new last = SaysFilter agent look old new last ⊎ (FindsDamage agent old new last ⊎ (FailsToOpen agent old new last ⊎ WantsToOpen agent old new last))
 Performs opens_run old new last = SaysRun old new last ⊎ (FindsNoRun old new last ⊎ (FindsTooMany old new last ⊎ (FailsToOpen 0 old new last ⊎ WantsToOpen 0 old new last)))
 Performs (compares files) old new last = Compares files old new last
+Performs (rehearsals positions) old new last = Rehearses positions old new last
 Performs (starts start) old new last = TellsBadLine start old new last ⊎ (TellsBookBreak start old new last ⊎ (TellsBindBreak start old new last ⊎ (HoldsSession start old new last ⊎ WantsToStart old new last)))
 Performs (judges trees mode accepted) old new last = (IsAccepted trees mode × Performs accepted old new last) ⊎ (TellsBreak trees mode old new last ⊎ IsNotJudged old new last)
 

@@ -64,6 +64,7 @@ pub data End : Type 0 where
   not_readable : (name : Text) (reason : Reason) → End
   agrees : (records acts : ℕ) → End  -- the files of a run agree
   disagrees : (file place : ℕ) → End  -- they do not
+  rehearsed : (positions records acts rules : ℕ) → End  -- a rehearsal ended well, and this was counted
   damaged : (file place : ℕ) → End  -- a file of the disk holds nothing that the program wrote
   disk_failed : End
   unsaid : End  -- a line could not be said
@@ -90,6 +91,7 @@ status_of (no_such_file name) = 4
 status_of (not_readable name reason) = 5
 status_of (agrees records acts) = 0
 status_of (disagrees file place) = 18
+status_of (rehearsed positions records acts rules) = 0
 status_of (damaged file place) = 13
 status_of disk_failed = 8
 status_of unsaid = 9
@@ -117,6 +119,8 @@ text_of (no_such_file name) = Some (codes "no such file: " ++ name)
 text_of (not_readable name reason) = Some (codes "not readable: " ++ (name ++ (codes " " ++ reason_text reason)))
 text_of (agrees records acts) = Some (codes "audit ok " ++ (decimal records ++ (codes " " ++ decimal acts)))
 text_of (disagrees file place) = Some (codes "audit no file " ++ (decimal file ++ (codes " place " ++ decimal place)))
+text_of (rehearsed positions records acts rules) = Some (codes "rehearsed " ++ (decimal positions ++ (codes ": " ++ (decimal records ++ (codes " records, "
+    ++ (decimal acts ++ (codes " acts, " ++ (decimal rules ++ codes " rules, ended ok"))))))))
 text_of (damaged file place) = Some (codes "damaged: file " ++ (decimal file ++ (codes " place " ++ decimal place)))
 text_of disk_failed = Some (codes "disk failed")
 text_of unsaid = None
@@ -144,6 +148,7 @@ is_fault (no_such_file name) = false
 is_fault (not_readable name reason) = false
 is_fault (agrees records acts) = false
 is_fault (disagrees file place) = false
+is_fault (rehearsed positions records acts rules) = false
 is_fault (damaged file place) = false
 is_fault disk_failed = true
 is_fault unsaid = true

@@ -5,13 +5,14 @@ use Rattle.cacao_check.specs.FirstBreak.{Demand, IsAccepted, Keeps}
 use Rattle.cacao_check.specs.declared.breaks.Mode.{Mode}
 use Rattle.cacao_site.specs.View.{SiteView}
 use Rattle.flow_audit.specs.declared.verdict.Verdict17.TheVariants as verdict
-use Rattle.cacao_cli.specs.Asked.{Asked, canonises, checks, shows, lists_rules, decides, shadows, audits, runs}
+use Rattle.cacao_cli.specs.Asked.{Asked, canonises, checks, shows, lists_rules, decides, shadows, rehearses, audits, runs}
 use Rattle.cacao_cli.specs.Audited.{IsOnlyVerdict, PassTasks}
 use Rattle.cacao_cli.specs.Ends.{status_of, End}
 use Rattle.cacao_cli.specs.Files.{File, Files, files_of, reading}
 use Rattle.cacao_words.specs.Words.{Text}
 use Rattle.cacao_cli.specs.Openings.{HoldsFilter, HoldsRun, IsDamagedFilter, IsDamagedRun, IsTooLargeRun}
-use Rattle.cacao_cli.specs.Work.{Work, ends, judges, opens_filter, opens_run, compares, work, Start, starts}
+use Rattle.cacao_cli.specs.Rehearsing.{IsBrokenRehearsal, IsLongRehearsal, RehearsalTo}
+use Rattle.cacao_cli.specs.Work.{Work, ends, judges, opens_filter, opens_run, compares, rehearsals, work, Start, starts}
 use Rattle.cacao_cli.specs.Holding.{CameTo, HasBadAnswer, IsRefusedStart}
 
 abbrev pub IsOneOf : ℕ → List ℕ → Type 0
@@ -42,6 +43,7 @@ IfTold (Some shows) told old P = IfDiskTold old P
 IfTold (Some (lists_rules agent)) told old P = IfDiskTold old P
 IfTold (Some (decides agent packets)) told old P = IsTrue old.disk.told → IfFilesTold (files_of (Some (decides agent packets))) told P
 IfTold (Some (shadows agent)) told old P = IfDiskTold old P
+IfTold (Some (rehearses positions)) told old P = IfFilesTold [] told P
 IfTold (Some (audits engine filters)) told old P = IfFilesTold (files_of (Some (audits engine filters))) told P
 
 -- the faults that may stand in the place of a status that rests on the files alone
@@ -63,6 +65,7 @@ faults_of (Some shows) = 8 ∷ 9 ∷ 10 ∷ []
 faults_of (Some (lists_rules agent)) = 8 ∷ 9 ∷ 10 ∷ []
 faults_of (Some (decides agent packets)) = 3 ∷ 8 ∷ 9 ∷ 10 ∷ []
 faults_of (Some (shadows agent)) = 8 ∷ 9 ∷ 10 ∷ []
+faults_of (Some (rehearses positions)) = file_faults []
 faults_of (Some (audits engine filters)) = file_faults (files_of (Some (audits engine filters)))
 
 -- the statuses that may stand in the place of one that a session settles: where several causes hold, the earlier in the order of a session decides
@@ -75,6 +78,7 @@ stands_for (Some shows) = faults_of (Some shows)
 stands_for (Some (lists_rules agent)) = faults_of (Some (lists_rules agent))
 stands_for (Some (decides agent packets)) = faults_of (Some (decides agent packets))
 stands_for (Some (shadows agent)) = faults_of (Some (shadows agent))
+stands_for (Some (rehearses positions)) = session_statuses
 stands_for (Some (audits engine filters)) = faults_of (Some (audits engine filters))
 
 -- a rule of the playbooks with these trees is broken
@@ -92,6 +96,17 @@ pub record IsSettled (start : Start) (old new : SiteView) (answer : ℕ) : Type 
   pub came : CameTo start last old new
   pub is : answer ≡ status_of last
 
+-- a rehearsal ran, and the status is that of the end to which it came
+pub record IsRehearsed (positions : ℕ) (answer : ℕ) : Type 0 where
+  pub last : End
+  pub came : RehearsalTo positions last
+  pub is : answer ≡ status_of last
+
+-- the status is that of what is told of a rehearsal
+abbrev pub HasRehearsed : ℕ → ℕ → Type 0
+HasRehearsed positions answer =
+    (IsLongRehearsal positions × (answer ≡ 11)) ⊎ ((IsBrokenRehearsal positions × (answer ≡ 1)) ⊎ IsRehearsed positions answer)
+
 -- the status is that of the work; a file of the disk is as it reads on return
 abbrev pub HasStatus : Work → SiteView → SiteView → ℕ → Type 0
 HasStatus (ends lines end) old new answer = answer ≡ status_of end
@@ -101,6 +116,7 @@ HasStatus (starts start) old new answer =
     (HasBadAnswer start × (answer ≡ 5)) ⊎ ((IsRefusedStart start × (answer ≡ 1)) ⊎ IsSettled start old new answer)
 HasStatus opens_run old new answer = (HoldsRun new × (answer ≡ 0)) ⊎ ((IsDamagedRun new × (answer ≡ 13)) ⊎ (IsTooLargeRun new × (answer ≡ 11)))
 HasStatus (compares files) old new answer = HasVerdict files answer
+HasStatus (rehearsals positions) old new answer = HasRehearsed positions answer
 
 -- the status is that of the work that the files call for, or one of the faults that may stand in its place
 

@@ -5,7 +5,7 @@ use Rattle.std.specs.Prelude.{IfSome, IsSomeAnd, ⊤, if◌then◌else◌}
 use Rattle.cacao_site.specs.Counts.{next_count}
 use Rattle.cacao_words.specs.Requests.{RunRequest}
 use Rattle.cacao_words.specs.Words.{Text}
-use Rattle.cacao_cli.specs.Asked.{Asked, canonises, checks, shows, lists_rules, decides, shadows, audits, runs}
+use Rattle.cacao_cli.specs.Asked.{Asked, canonises, checks, shows, lists_rules, decides, shadows, rehearses, audits, runs}
 use Rattle.cacao_cli.specs.Ends.{End, most, status_of, past, shelf_failed, no_such_file, no_memory}
 use Rattle.cacao_cli.specs.declared.limit.Limit.{Limit}
 use Rattle.cacao_cli.specs.declared.limit.Limit.TheVariants.{FileBytes, JournalBytes}
@@ -36,6 +36,7 @@ books_of shows = []
 books_of (lists_rules agent) = []
 books_of (decides agent packets) = []
 books_of (shadows agent) = []
+books_of (rehearses positions) = []
 books_of (audits engine filters) = []
 
 -- more playbooks than the limit: then no file is read
@@ -59,6 +60,7 @@ named_by shows = []
 named_by (lists_rules agent) = []
 named_by (decides agent packets) = packet_file packets ∷ []
 named_by (shadows agent) = []
+named_by (rehearses positions) = []
 named_by (audits engine filters) = journal_file engine ∷ map (λ filter. journal_file filter.1) filters
 
 -- the files to be read, in order

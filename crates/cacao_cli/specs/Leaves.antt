@@ -1,14 +1,16 @@
 -- What a call of the program leaves as it was.
-use Rattle.std.specs.Prelude.{◌≡◌, ◌⊎◌, ℕ, ◌+◌, ◌/◌, ◌≤◌, IsTrue, List, [], ◌∷◌, length, Option, Some, None, IfSome}
+use Rattle.std.specs.Prelude.{◌≡◌, ◌⊎◌, ℕ, ◌+◌, ◌/◌, ◌≤◌, IsTrue, [], ◌∷◌, length, Option, Some, None, IfSome}
+use Rattle.cacao_site.specs.Counts.{Rose}
 use Rattle.cacao_site.specs.DiskCalls.{EachBeat, IsLeft}
 use Rattle.cacao_site.specs.SayCalls.{KeepsTime}
 use Rattle.cacao_site.specs.View.{LinkView, SiteView}
-use Rattle.cacao_cli.specs.Asked.{Asked, canonises, checks, shows, lists_rules, decides, shadows, audits, runs}
+use Rattle.cacao_cli.specs.Asked.{Asked, canonises, checks, shows, lists_rules, decides, shadows, rehearses, audits, runs}
 use Rattle.cacao_cli.specs.Files.{Counts}
-use Rattle.cacao_cli.specs.Ends.{End}
+use Rattle.cacao_cli.specs.Ends.{End, disk_failed, unsaid}
 use Rattle.cacao_cli.specs.Exact.{IsOneOf}
 use Rattle.cacao_cli.specs.Holding.{CameTo}
 use Rattle.cacao_cli.specs.Lines.{SaysAtMostALine}
+use Rattle.cacao_cli.specs.Rehearsing.{RehearsalTo}
 use Rattle.cacao_cli.specs.Work.{Start}
 use Rattle.cacao_words.specs.Requests.{RunRequest}
 
@@ -57,6 +59,7 @@ Leaves (Some shows) old new answer = WritesNothing 0 old new
 Leaves (Some (lists_rules agent)) old new answer = WritesNothing agent old new
 Leaves (Some (decides agent packets)) old new answer = WritesNothing agent old new
 Leaves (Some (shadows agent)) old new answer = WritesNothing agent old new
+Leaves (Some (rehearses positions)) old new answer = SaysAtMostOnce old new answer
 Leaves (Some (audits engine filters)) old new answer = SaysAtMostOnce old new answer
 
 -- a call that is refused before it opens a file of the disk says its line, and leaves all else
@@ -77,6 +80,7 @@ NoDiskFault (Some shows) old new = old.disk.faults ≤ new.disk.faults
 NoDiskFault (Some (lists_rules agent)) old new = old.disk.faults ≤ new.disk.faults
 NoDiskFault (Some (decides agent packets)) old new = old.disk.faults ≤ new.disk.faults
 NoDiskFault (Some (shadows agent)) old new = old.disk.faults ≤ new.disk.faults
+NoDiskFault (Some (rehearses positions)) old new = new.disk.faults ≡ old.disk.faults
 NoDiskFault (Some (audits engine filters)) old new = new.disk.faults ≡ old.disk.faults
 
 -- no fault was counted
@@ -84,3 +88,29 @@ pub record NoFault (asked : Option Asked) (faults_before faults_after : ℕ) (ol
   pub shelf : faults_after ≡ faults_before
   pub disk : NoDiskFault asked old new
   pub say : new.clock.unsaid ≡ old.clock.unsaid
+
+-- A fault of the disk was counted; for `rehearse` it is one of the site of its own.
+abbrev pub CountsDisk : Option Asked → SiteView → SiteView → Type 0
+CountsDisk None old new = Rose old.disk.faults new.disk.faults
+CountsDisk (Some (canonises book)) old new = Rose old.disk.faults new.disk.faults
+CountsDisk (Some (checks books)) old new = Rose old.disk.faults new.disk.faults
+CountsDisk (Some (runs wanted)) old new = Rose old.disk.faults new.disk.faults
+CountsDisk (Some shows) old new = Rose old.disk.faults new.disk.faults
+CountsDisk (Some (lists_rules agent)) old new = Rose old.disk.faults new.disk.faults
+CountsDisk (Some (decides agent packets)) old new = Rose old.disk.faults new.disk.faults
+CountsDisk (Some (shadows agent)) old new = Rose old.disk.faults new.disk.faults
+CountsDisk (Some (rehearses positions)) old new = RehearsalTo positions disk_failed
+CountsDisk (Some (audits engine filters)) old new = Rose old.disk.faults new.disk.faults
+
+-- a line was counted that could not be said; or `rehearse` could not say one on the site of its own
+abbrev pub CountsUnsaid : Option Asked → SiteView → SiteView → Type 0
+CountsUnsaid None old new = Rose old.clock.unsaid new.clock.unsaid
+CountsUnsaid (Some (canonises book)) old new = Rose old.clock.unsaid new.clock.unsaid
+CountsUnsaid (Some (checks books)) old new = Rose old.clock.unsaid new.clock.unsaid
+CountsUnsaid (Some (runs wanted)) old new = Rose old.clock.unsaid new.clock.unsaid
+CountsUnsaid (Some shows) old new = Rose old.clock.unsaid new.clock.unsaid
+CountsUnsaid (Some (lists_rules agent)) old new = Rose old.clock.unsaid new.clock.unsaid
+CountsUnsaid (Some (decides agent packets)) old new = Rose old.clock.unsaid new.clock.unsaid
+CountsUnsaid (Some (shadows agent)) old new = Rose old.clock.unsaid new.clock.unsaid
+CountsUnsaid (Some (rehearses positions)) old new = Rose old.clock.unsaid new.clock.unsaid ⊎ RehearsalTo positions unsaid
+CountsUnsaid (Some (audits engine filters)) old new = Rose old.clock.unsaid new.clock.unsaid

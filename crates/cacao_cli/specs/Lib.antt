@@ -11,6 +11,7 @@ pub mod Holding
 pub mod Leaves
 pub mod Lines
 pub mod Openings
+pub mod Rehearsing
 pub mod Returning
 pub mod Starting
 pub mod Work

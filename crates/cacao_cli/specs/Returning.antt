@@ -9,7 +9,7 @@ use Rattle.flow_rules.specs.Givens.{Given}
 use Rattle.flow_rules.specs.State.{Shown}
 use Rattle.session_laws.specs.Returned.{ReadsAsRun}
 use Rattle.cacao_words.specs.Requests.{RunRequest}
-use Rattle.cacao_cli.specs.Asked.{Asked, canonises, checks, runs, shows, lists_rules, decides, shadows, audits}
+use Rattle.cacao_cli.specs.Asked.{Asked, canonises, checks, runs, shows, lists_rules, decides, shadows, rehearses, audits}
 use Rattle.cacao_cli.specs.Causes.{HasTexts}
 use Rattle.cacao_cli.specs.Exact.{IfFilesTold}
 use Rattle.cacao_cli.specs.Files.{Files, NamedText, files_of}
@@ -42,4 +42,5 @@ TellsOnReturn (Some shows) told site answer = ⊤
 TellsOnReturn (Some (lists_rules agent)) told site answer = ⊤
 TellsOnReturn (Some (decides agent packets)) told site answer = ⊤
 TellsOnReturn (Some (shadows agent)) told site answer = ⊤
+TellsOnReturn (Some (rehearses positions)) told site answer = ⊤
 TellsOnReturn (Some (audits engine filters)) told site answer = ⊤

@@ -1,5 +1,5 @@
 -- How the code of `run` has the texts of a run, and what its parts come to.
-use Rattle.std.specs.Prelude.{◌≡◌, ◌≢◌, ◌⊎◌, ℕ, ◌≤◌, List, length, [], Option, Some, Err, IsSome, option_map, slice_get}
+use Rattle.std.specs.Prelude.{◌≡◌, ◌≢◌, ◌⊎◌, ℕ, ◌≤◌, List, length, [], Some, Err, IsSome, option_map, slice_get}
 use Rattle.serde_json.specs.Data.{Data}
 use Rattle.cacao_json.specs.declared.error.JsonError.{JsonError}
 use Rattle.cacao_site.specs.View.{SiteView}

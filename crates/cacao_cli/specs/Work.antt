@@ -11,7 +11,7 @@ use Rattle.cacao_check.specs.declared.breaks.Mode.{Mode}
 use Rattle.cacao_check.specs.declared.breaks.Mode.TheVariants.{Read}
 use Rattle.cacao_words.specs.Requests.{RunRequest}
 use Rattle.cacao_words.specs.Words.{Text}
-use Rattle.cacao_cli.specs.Asked.{Asked, canonises, checks, shows, lists_rules, decides, shadows, audits, runs}
+use Rattle.cacao_cli.specs.Asked.{Asked, canonises, checks, shows, lists_rules, decides, shadows, rehearses, audits, runs}
 use Rattle.cacao_cli.specs.Ends.{End, done, accepted, not_understood, past, not_readable, no_memory}
 use Rattle.cacao_cli.specs.Files.{NamedText, item_then, has_too_many}
 use Rattle.cacao_cli.specs.declared.limit.Limit.TheVariants.{BookCount}
@@ -34,13 +34,15 @@ pub record Start : Type 0 where
 
 -- What is left to be done where nothing was refused before: to say these lines and end so; to tell the first break of the playbooks with
 -- these trees, and where there is none to do this work; to open the filter of an agent and say this of it; to open the engine's file and say
--- how its run stands; to tell whether these files of a run agree; to hold a session.
+-- how its run stands; to tell whether these files of a run agree; to tell of a
+-- rehearsal with so many positions; to hold a session.
 pub data Work : Type 0 where
   ends : (lines : List Text) (end : End) → Work
   judges : (trees : List Data) (mode : Mode) (accepted : Work) → Work
   opens_filter : (agent : ℕ) (look : Look) → Work
   opens_run : Work
   compares : (files : List Text) → Work
+  rehearsals : (positions : ℕ) → Work
   starts : (start : Start) → Work
 
 -- the tree, or the end that says why there is none
@@ -141,6 +143,7 @@ work_on shows texts = opens_run
 work_on (lists_rules agent) texts = opens_filter agent at_rules
 work_on (decides agent packets) texts = or_end (packets_in texts) (λ found. opens_filter agent (at_decisions found))
 work_on (shadows agent) texts = opens_filter agent at_shadows
+work_on (rehearses positions) texts = rehearsals positions
 work_on (audits engine filters) texts = compares (run_files filters texts)
 
 -- the work that the words and what was read come to

@@ -7,6 +7,7 @@ use crate::fault_line::FaultLine;
 use crate::limit::Limit;
 use crate::reason::Reason;
 use cacao_check::Break;
+use rehearsal::Summary;
 use std::fmt;
 
 /// How a call of the program ends. Each end has an exit status, and each but three a last line.
@@ -51,6 +52,8 @@ pub enum End<'w> {
     Agrees { records: u32, acts: u32 },
     /// They do not: the file of this number is the first that breaks the agreement, at this place.
     Disagrees { file: u8, place: u64 },
+    /// A rehearsal with so many positions has ended well, and this was counted.
+    Rehearsed { positions: u32, summary: Summary },
     /// The file of this number on the disk holds nothing that the program wrote, from this place on.
     Damaged { file: u8, place: u64 },
     /// The disk failed.
@@ -67,7 +70,8 @@ impl<'w> End<'w> {
         ensures { result ≡ status_of (end_of self.now) }
     {
         match self {
-            End::Done | End::Accepted | End::EndedOk | End::Agrees { .. } => 0,
+            End::Done | End::Accepted | End::EndedOk => 0,
+            End::Agrees { .. } | End::Rehearsed { .. } => 0,
             End::Refused { .. } | End::BindRefused { .. } => 1,
             End::NotUnderstood => 2,
             End::ShelfFailed { .. } => 3,
@@ -135,6 +139,11 @@ impl<'w> fmt::Display for End<'w> {
             End::NotReadable { name, reason } => write!(f, "not readable: {name} {reason}"),
             End::Agrees { records, acts } => write!(f, "audit ok {records} {acts}"),
             End::Disagrees { file, place } => write!(f, "audit no file {file} place {place}"),
+            End::Rehearsed { positions, summary } => write!(
+                f,
+                "rehearsed {positions}: {} records, {} acts, {} rules, ended ok",
+                summary.records, summary.acts, summary.rules
+            ),
             End::Damaged { file, place } => write!(f, "damaged: file {file} place {place}"),
             End::DiskFailed => f.write_str("disk failed"),
         }

@@ -35,7 +35,7 @@ fn limit_of(what: LimitKind) -> Limit
 }
 
 /// How a call ends whose session closed so.
-fn close_end<'w>(close: Close) -> End<'w>
+pub(crate) fn close_end<'w>(close: Close) -> End<'w>
     ensures { end_of result ≡ close_end close }
 {
     match close {
@@ -49,7 +49,7 @@ fn close_end<'w>(close: Close) -> End<'w>
 }
 
 /// How a call ends whose session refused.
-fn error_end<'w>(error: WorldError) -> End<'w>
+pub(crate) fn error_end<'w>(error: WorldError) -> End<'w>
     ensures { end_of result ≡ error_end error }
 {
     match error {

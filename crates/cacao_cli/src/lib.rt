@@ -15,6 +15,7 @@ mod limit;
 mod packets;
 mod program;
 mod reason;
+mod rehearse;
 mod run;
 mod run_parts;
 mod run_texts;

@@ -1,6 +1,6 @@
 // The program as one call.
 ghost use Rattle.std.specs.Prelude.{◌≡◌, ◌≢◌, ◌≤◌, ◌∷◌, [], length, map, string_bytes, Some, None};
-ghost use Rattle.cacao_site.specs.Counts.{Rose, next_count};
+ghost use Rattle.cacao_site.specs.Counts.{next_count};
 ghost use Rattle.flow_world.specs.Sessions.{KeepsAgreement};
 ghost use Rattle.cacao_cli.specs.Agreement.{MayBegin};
 ghost use Rattle.cacao_cli.specs.Asked.{asked};
@@ -10,7 +10,7 @@ ghost use Rattle.cacao_cli.specs.Ended.{Ended, Performed};
 ghost use Rattle.cacao_cli.specs.Ends.{ended_failed, flooded, paused};
 ghost use Rattle.cacao_cli.specs.Exact.{IsOneOf, Answers, ComesExactly, IfFilesTold, IfTold, stands_for};
 ghost use Rattle.cacao_cli.specs.Files.{files_of, shelf_call};
-ghost use Rattle.cacao_cli.specs.Leaves.{Leaves, LeavesAll, NoFault, ReadsAtMost};
+ghost use Rattle.cacao_cli.specs.Leaves.{Leaves, LeavesAll, NoFault, ReadsAtMost, CountsDisk, CountsUnsaid};
 ghost use Rattle.cacao_cli.specs.Returning.{TellsOnReturn};
 
 use crate::audit::audit;
@@ -18,6 +18,7 @@ use crate::canon::canon;
 use crate::check::check;
 use crate::end::End;
 use crate::filters::{decide, say_rules, say_shadows};
+use crate::rehearse::rehearse;
 use crate::run::run;
 use crate::say::finish;
 use crate::show::show;
@@ -25,7 +26,7 @@ use cacao_site::{Shelf, Site};
 use cacao_words::{Command, read_words};
 use std::alloc::Global;
 
-/// Does what a command asks, all but the last line. A command that is not built is not understood.
+/// Does what a command asks, all but the last line.
 fn carry_out<'w, L: Shelf, S: Site>(
     alloc: Global,
     command: &Command<'w>,
@@ -46,11 +47,11 @@ fn carry_out<'w, L: Shelf, S: Site>(
         Command::Show => show(alloc, site),
         Command::Rules { agent } => say_rules(alloc, *agent, site),
         Command::Decide { agent, packets } => decide(alloc, *agent, packets, shelf, site),
+        Command::Rehearse { positions } => rehearse(alloc, positions.count, site),
         Command::Shadow { agent } => say_shadows(alloc, *agent, site),
         Command::Audit { engine, filters } => {
             audit(alloc, engine, filters.as_slice(), shelf, site)
         }
-        Command::Rehearse { .. } => End::NotUnderstood,
     }
 }
 
@@ -105,8 +106,8 @@ pub fn top<L: Shelf, S: Site>(alloc: Global, words: &[String], shelf: &mut L, si
         ComesExactly 4 (3 ∷ 9 ∷ 10 ∷ []) (IsMissing files (files_of (asked (map string_bytes words.now)))) result) }
     ensures unreadable { IfFilesTold (files_of (asked (map string_bytes words.now))) (L.told shelf.old) (λ files.
         ComesExactly 5 (3 ∷ 9 ∷ 10 ∷ []) (IsUnreadable (asked (map string_bytes words.now)) files) result) }
-    ensures disk_failed { result ≡ 8 → Rose (S.view site.old).disk.faults (S.view site.new).disk.faults }
-    ensures unsaid { result ≡ 9 → Rose (S.view site.old).clock.unsaid (S.view site.new).clock.unsaid }
+    ensures disk_failed { result ≡ 8 → CountsDisk (asked (map string_bytes words.now)) (S.view site.old) (S.view site.new) }
+    ensures unsaid { result ≡ 9 → CountsUnsaid (asked (map string_bytes words.now)) (S.view site.old) (S.view site.new) }
     ensures said { result ≢ 9 → (S.view site.new).clock.unsaid ≡ (S.view site.old).clock.unsaid }
     ensures no_memory { result ≡ 10 → NoFault (asked (map string_bytes words.now)) (L.faults shelf.old) (L.faults shelf.new) (S.view site.old) (S.view site.new) }
     ensures past_limit { IfTold (asked (map string_bytes words.now)) (L.told shelf.old) (S.view site.old) (λ files.

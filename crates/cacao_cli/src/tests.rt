@@ -1,6 +1,7 @@
 //! What the program says and answers, through `top`, on texts whose canonical form is known from outside.
 mod audits;
 mod filters;
+mod rehearsals;
 mod runs;
 mod sessions;
 

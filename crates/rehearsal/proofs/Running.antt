@@ -1,5 +1,5 @@
 -- What a session that ended well leaves, and what is counted of it.
-use Rattle.std.proofs.Common.{◌≡◌, ◌⊎◌, inl, inr, ℕ, Bool, true, false, List, [], ◌∷◌, refl, sym, subst, ◌∙◌}
+use Rattle.std.proofs.Common.{◌≡◌, ◌≤◌, ◌⊎◌, inl, inr, ℕ, Bool, true, false, List, [], ◌∷◌, length, refl, sym, subst, ◌∙◌}
 use Rattle.cacao_site.specs.Counts.{Rose}
 use Rattle.cacao_site.specs.DiskCalls.{AllLeft}
 use Rattle.cacao_site.specs.View.{SiteView}
@@ -118,11 +118,11 @@ runs_then positions text given old new (Ok summary) same accepted runs =
     record { given = given; accepted = subst (λ (t : List ℕ). IsAccepted t given) same accepted; runs = runs }
 runs_then positions text given old new (Err why) same accepted runs = tt
 
-pub not_read : (positions : ℕ) (text : List ℕ) (site : SiteView) (why : RehearsalError) → text ≡ rehearsal_text positions → RefusesText text why → FailsToRehearse positions site site why
-not_read positions text site error.TooLong same told = absurd told
-not_read positions text site (error.Broken told) same breaks =
-    record { breaks = subst (λ (t : List ℕ). BreaksRule (t ∷ []) [] told) same breaks; same = refl }
-not_read positions text site (error.Closed how) same told = absurd told
-not_read positions text site (error.Refused cause) same told = absurd told
-not_read positions text site error.Disk same told = absurd told
-not_read positions text site error.Memory same told = tt
+pub not_read : (positions : ℕ) (text : List ℕ) (site : SiteView) (why : RehearsalError) → text ≡ rehearsal_text positions → length text ≤ 1048576 → RefusesText text why → FailsToRehearse positions site site why
+not_read positions text site error.TooLong same short told = absurd told
+not_read positions text site (error.Broken told) same short breaks =
+    record { short = subst (λ (t : List ℕ). length t ≤ 1048576) same short; breaks = subst (λ (t : List ℕ). BreaksRule (t ∷ []) [] told) same breaks; same = refl }
+not_read positions text site (error.Closed how) same short told = absurd told
+not_read positions text site (error.Refused cause) same short told = absurd told
+not_read positions text site error.Disk same short told = absurd told
+not_read positions text site error.Memory same short told = tt

@@ -1,5 +1,5 @@
 -- What comes of a rehearsal.
-use Rattle.std.specs.Prelude.{◌≡◌, ◌<◌, ℕ, Bool, true, false, List, [], ◌∷◌, length, ⊤}
+use Rattle.std.specs.Prelude.{◌≡◌, ◌<◌, ◌≤◌, ℕ, Bool, true, false, List, [], ◌∷◌, length, ⊤}
 use Rattle.cacao_site.specs.Counts.{Rose}
 use Rattle.cacao_site.specs.View.{SiteView}
 use Rattle.cacao_check.specs.declared.breaks.Break.{Break}
@@ -82,12 +82,13 @@ pub record RunsBadly (positions : ℕ) (old new : SiteView) (why : RehearsalErro
   pub accepted : IsAccepted (rehearsal_text positions) given
   pub fails : FailsToRun given old new why
 
--- the site was not touched, since the text is too long, or breaks a rule
+-- the site was not touched, since the text is too long, or is not and breaks a rule
 pub record IsTooLong (text : List ℕ) (old new : SiteView) : Type 0 where
   pub long : 1048576 < length text
   pub same : new ≡ old
 
 pub record IsBroken (text : List ℕ) (told : Break) (old new : SiteView) : Type 0 where
+  pub short : length text ≤ 1048576
   pub breaks : BreaksRule (text ∷ []) [] told
   pub same : new ≡ old
 

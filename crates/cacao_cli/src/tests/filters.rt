@@ -68,7 +68,7 @@ fn answer(
 #[test]
 fn says_what_a_filter_holds(rt: HostRuntime) -> Result<(), Fail> {
     let alloc = rt.alloc();
-    let rows: [(&[&str], &str, u8); 11] = [
+    let rows: [(&[&str], &str, u8); 10] = [
         (
             &["rules", "1"],
             "1 deny both conn4 - - - 198.51.100.7/32 - 0 - none\n",
@@ -87,7 +87,6 @@ fn says_what_a_filter_holds(rt: HostRuntime) -> Result<(), Fail> {
         (&["rules", "0"], "words not understood\n", 2),
         (&["rules", "17"], "words not understood\n", 2),
         (&["decide", "1"], "words not understood\n", 2),
-        (&["rehearse", "3"], "words not understood\n", 2),
     ];
     for (words, lines, wanted) in rows {
         let (status, said) = answer(alloc, words, ONE_ACT, &[])?;

@@ -1,5 +1,4 @@
 -- The text has no tree.
-use Rattle.cacao_site.specs.View.{SiteView}
 use Rattle.cacao_cli.specs.Command.{end_of, text_of}
 use Rattle.cacao_cli.specs.Files.{ShelfCall}
 use Rattle.cacao_cli.proofs.PerformLemmas.{canon-untold}

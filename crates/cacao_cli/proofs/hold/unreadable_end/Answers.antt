@@ -1,8 +1,7 @@
 -- The file of bindings.
-use Rattle.std.proofs.Common.{inl, inr, ap, ◌∙◌, sym, subst, refl, ℕ, ◌≤◌, List, length, arith, map, Bor}
+use Rattle.std.proofs.Common.{inl, inr, ap, sym, subst, ℕ, ◌≤◌, List, length, Bor}
 use Rattle.std.proofs.lemmas.List.{length-map}
 use Rattle.std.specs.Prelude.{option_map}
-use Rattle.cacao_words.specs.Requests.{RunRequest}
 use Rattle.cacao_words.specs.Words.{Text}
 use Rattle.cacao_cli.proofs.hold.unreadable_end.Goals as goal
 

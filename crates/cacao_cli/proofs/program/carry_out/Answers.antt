@@ -1,11 +1,11 @@
--- The commands that open a filter, and those that are not built.
-use Rattle.std.proofs.Common.{◌≡◌, refl, sym, ap, subst, Option, None, ⊎_elim}
+-- The commands that read no file.
+use Rattle.std.proofs.Common.{refl, sym, ap, subst, Option}
 use Rattle.cacao_site.specs.View.{SiteView}
 use Rattle.cacao_cli.specs.Asked.{Asked}
 use Rattle.cacao_cli.specs.Command.{asked_by, end_of}
 use Rattle.cacao_cli.specs.Ended.{Performed}
 use Rattle.cacao_cli.specs.Files.{ShelfCall}
-use Rattle.cacao_cli.proofs.PerformLemmas.{performed-none, rules-perform, shadows-perform, show-perform}
+use Rattle.cacao_cli.proofs.PerformLemmas.{rehearse-perform, rules-perform, shadows-perform, show-perform}
 use Rattle.cacao_cli.proofs.program.carry_out.Goals as goal
 
 pub returns-in-Show-clause-performed : goal.returns-in-Show-clause-performed
@@ -35,4 +35,7 @@ returns-in-Shadow-clause-performed g c =
 pub returns-in-Rehearse-clause-performed : goal.returns-in-Rehearse-clause-performed
 returns-in-Rehearse-clause-performed g c =
     let shelf : ShelfCall = record { told = g.L.Shelf.told c.args.shelf.now; before = g.L.Shelf.faults c.args.shelf.now; after = g.L.Shelf.faults c.args.shelf.now; reads_before = g.L.Shelf.reads c.args.shelf.now; reads_after = g.L.Shelf.reads c.args.shelf.now } in
-    performed-none (asked_by c.args.command.now) shelf (g.S.Disk.view c.args.site.now) (ap asked_by c.in-Rehearse.is) refl refl
+    let old : SiteView = g.S.Disk.view c.args.site.now in
+    let new : SiteView = g.S.Disk.view c.rehearse.new._site in
+    subst (λ (a : Option Asked). Performed a shelf old new (end_of c.rehearse.result)) (sym (ap asked_by c.in-Rehearse.is))
+    (rehearse-perform c.in-Rehearse.positions.count shelf old new (end_of c.rehearse.result) refl refl c.rehearse.ensures)

@@ -1,9 +1,10 @@
+use Rattle.std.proofs.Common.{arith}
 use Rattle.cacao_site.specs.MemorySite.{view_of}
 use Rattle.rehearsal.proofs.Running.{fails_then, not_read, runs_then}
 use Rattle.rehearsal.proofs.rehearsing.rehearse.Goals as goal
 
 pub returns-in-Err-clause-err : goal.returns-in-Err-clause-err
-returns-in-Err-clause-err c = not_read c.args.positions c.in_ok-text.text (view_of c.args.site.now) c.in-Err.error c.in_ok-text.ensures.text c.in-Err.ensures.err
+returns-in-Err-clause-err c = not_read c.args.positions c.in_ok-text.text (view_of c.args.site.now) c.in-Err.error c.in_ok-text.ensures.text (omega (arith, c.len.ensures, c.if-len-gt-MOST_BYTES.false)) c.in-Err.ensures.err
 
 pub returns-clause-ok : goal.returns-clause-ok
 returns-clause-ok c =

@@ -1,0 +1,197 @@
+-- A rehearsal is held on a site of its own, and what came of it is told.
+use Rattle.std.proofs.Common.{◌≡◌, ◌⊎◌, inl, inr, ◌∙◌, refl, sym, ap, subst, arith, ℕ, true, false, [], ◌∷◌}
+use Rattle.std.specs.Prelude.{nat_eq}
+use Rattle.std.specs.List.{list_any}
+use Rattle.std.proofs.lemmas.Bool.{true≢false}
+use Rattle.cacao_site.specs.Counts.{Rose, next_count}
+use Rattle.cacao_site.specs.MemorySite.{view_of}
+use Rattle.cacao_site.specs.View.{SiteView}
+use Rattle.cacao_site.specs.declared.memory_site.MemorySite.{MemorySite}
+use Rattle.flow_core.specs.declared.setup_errors.SetupError.TheVariants as setup_error
+use Rattle.flow_rules.specs.Givens.{Given}
+use Rattle.flow_world.specs.declared.close.Close.{Close}
+use Rattle.flow_world.specs.declared.close.Close.TheVariants as close
+use Rattle.rehearsal.specs.Books.{rehearsal_text}
+use Rattle.rehearsal.specs.Rehearsals.{FailsToRehearse, Rehearsed, is_well}
+use Rattle.rehearsal.specs.Settings.{IsAccepted, IsNewSite}
+use Rattle.rehearsal.specs.declared.error.RehearsalError.{RehearsalError}
+use Rattle.rehearsal.specs.declared.error.RehearsalError.TheVariants as rehearsal_error
+use Rattle.rehearsal.specs.declared.summary.Summary.{Summary}
+use Rattle.run_reports.proofs.AcceptLemmas.{not-accepted}
+use Rattle.cacao_cli.specs.Ends.{End, disk_failed, rehearsed, status_of, text_of, unsaid}
+use Rattle.cacao_cli.specs.Exact.{HasRehearsed, IsOneOf, IsRehearsed, session_statuses}
+use Rattle.cacao_cli.specs.Holding.{close_end}
+use Rattle.cacao_cli.specs.Lines.{Tells}
+use Rattle.cacao_cli.specs.Rehearsing.{EndsRun, IsBrokenRehearsal, IsLongRehearsal, RehearsalTo, Rehearses, TellsRehearsal, failed_end}
+use Rattle.cacao_cli.proofs.EndCases.{eight-is, nine-or-not, not-among}
+use Rattle.cacao_cli.proofs.HoldLemmas.{close-status, error-done, error-status}
+use Rattle.cacao_cli.proofs.LineLemmas.{IsCutOff, tells-status}
+use Rattle.cacao_cli.proofs.UnsaidLemmas.{last-said, last-unsaid}
+
+-- ---- what came of it
+
+pub has-summary : (positions : ℕ) (site : MemorySite) (after : SiteView) (summary : Summary) → IsNewSite site → Rehearsed positions (view_of site) after summary
+    → TellsRehearsal positions (rehearsed positions summary.records summary.acts summary.rules)
+has-summary positions site after summary new h = inr (inr (inl (record {
+  site = site;
+  is_new = new;
+  after = after;
+  given = h.given;
+  accepted = h.accepted;
+  runs = inl (record { summary = summary; well = h.runs; ends = refl });
+})))
+
+pub has-failed : (positions : ℕ) (site : MemorySite) (after : SiteView) (why : RehearsalError) → IsNewSite site → FailsToRehearse positions (view_of site) after why → TellsRehearsal positions (failed_end why)
+has-failed positions site after rehearsal_error.TooLong new h = inl (h.long, refl)
+has-failed positions site after (rehearsal_error.Broken broken) new h = inr (inl (broken, (h.short, h.breaks), refl))
+has-failed positions site after (rehearsal_error.Closed how) new h = inr (inr (inl (record {
+  site = site;
+  is_new = new;
+  after = after;
+  given = h.given;
+  accepted = h.accepted;
+  runs = inr (inl (record { how = how; closes = h.fails; ends = refl }));
+})))
+has-failed positions site after (rehearsal_error.Refused why) new h = inr (inr (inl (record {
+  site = site;
+  is_new = new;
+  after = after;
+  given = h.given;
+  accepted = h.accepted;
+  runs = inr (inr (inl (record { why = why; refuses = h.fails; ends = refl })));
+})))
+has-failed positions site after rehearsal_error.Disk new h = inr (inr (inl (record {
+  site = site;
+  is_new = new;
+  after = after;
+  given = h.given;
+  accepted = h.accepted;
+  runs = inr (inr (inr (record { fails = h.fails; ends = refl })));
+})))
+has-failed positions site after rehearsal_error.Memory new h = inr (inr (inr refl))
+
+-- ---- which status comes
+
+tells-rehearsed : (positions : ℕ) (last : End) (n : ℕ) → TellsRehearsal positions last → n ≡ status_of last → HasRehearsed positions n ⊎ IsCutOff n
+tells-rehearsed positions last n (inl h) e = inl (inl (h.0, e ∙ ap status_of h.1))
+tells-rehearsed positions last n (inr (inl h)) e = inl (inr (inl ((h.0, h.1), e ∙ ap status_of h.2)))
+tells-rehearsed positions last n (inr (inr (inl h))) e = inl (inr (inr (record { last = last; came = h; is = e })))
+tells-rehearsed positions last n (inr (inr (inr is))) e = inr (inr (inl (e ∙ ap status_of is)))
+
+pub rehearses-comes : (positions : ℕ) (old mid new : SiteView) (last : End) (answer : ℕ) → Rehearses positions old mid last → Tells last mid new answer → HasRehearsed positions answer ⊎ IsCutOff answer
+rehearses-comes positions old mid new last answer h tells = go (tells-status last mid new answer tells)
+  where
+    go : (answer ≡ status_of last) ⊎ IsCutOff answer → HasRehearsed positions answer ⊎ IsCutOff answer
+    go (inl e) = tells-rehearsed positions last answer h.tells e
+    go (inr c) = inr c
+
+-- a run has the status of a session
+run-listed : (positions : ℕ) (given : Given) (old new : SiteView) (last : End) → EndsRun positions given old new last → IsOneOf (status_of last) session_statuses
+run-listed positions given old new last (inl h) = subst (λ (e : End). IsOneOf (status_of e) session_statuses) (sym h.ends) (inl refl)
+run-listed positions given old new last (inr (inl h)) = subst (λ (e : End). IsOneOf (status_of e) session_statuses) (sym h.ends) (close-status h.how)
+run-listed positions given old new last (inr (inr (inl h))) = subst (λ (e : End). IsOneOf (status_of e) session_statuses) (sym h.ends) (error-status h.why)
+run-listed positions given old new last (inr (inr (inr h))) = subst (λ (e : End). IsOneOf (status_of e) session_statuses) (sym h.ends) (inr (inr (inr (inl refl))))
+
+pub rehearsed-listed : (positions : ℕ) (n : ℕ) → IsRehearsed positions n → IsOneOf n session_statuses
+rehearsed-listed positions n h = subst (λ (m : ℕ). IsOneOf m session_statuses) (sym h.is) (run-listed positions h.came.given (view_of h.came.site) h.came.after h.last h.came.runs)
+
+pub rehearsed-other : (positions n m : ℕ) → HasRehearsed positions n → n ≡ m → (11 ≡ m → ⊥) → (1 ≡ m → ⊥) → list_any (nat_eq m) session_statuses ≡ false → ⊥
+rehearsed-other positions n m (inl h) e a b none = a (sym h.1 ∙ e)
+rehearsed-other positions n m (inr (inl h)) e a b none = b (sym h.1 ∙ e)
+rehearsed-other positions n m (inr (inr h)) e a b none = not-among m session_statuses none (subst (λ (k : ℕ). IsOneOf k session_statuses) e (rehearsed-listed positions n h))
+
+not-done : (how : Close) → is_well how ≡ false → status_of (close_end how) ≡ 0 → ⊥
+not-done (close.Ended true) other e = true≢false other
+not-done (close.Ended false) other e = omega (arith, e)
+not-done close.Paused other e = omega (arith, e)
+not-done (close.Waiting moment) other e = omega (arith, e)
+not-done close.Flooded other e = omega (arith, e)
+not-done (close.Asked issue) other e = omega (arith, e)
+
+-- what was counted of a rehearsal
+abbrev pub Counted : ℕ → Type 0
+Counted positions = (records : ℕ) × (acts : ℕ) × (rules : ℕ) × RehearsalTo positions (rehearsed positions records acts rules)
+
+pub came-counted : (positions : ℕ) (last : End) → RehearsalTo positions last → status_of last ≡ 0 → Counted positions
+came-counted positions last h zero = go h.runs
+  where
+    go : EndsRun positions h.given (view_of h.site) h.after last → Counted positions
+    go (inl r) = (r.summary.records, r.summary.acts, r.summary.rules, subst (RehearsalTo positions) r.ends h)
+    go (inr (inl r)) = absurd (not-done r.how r.closes.other (sym (ap status_of r.ends) ∙ zero))
+    go (inr (inr (inl r))) = absurd (error-done r.why (sym (ap status_of r.ends) ∙ zero))
+    go (inr (inr (inr r))) = absurd (let k : status_of last ≡ 8 = ap status_of r.ends in omega (arith, k, zero))
+
+-- ---- no two of the causes hold
+
+broken-accepted : (positions : ℕ) → IsBrokenRehearsal positions → (given : Given) → IsAccepted (rehearsal_text positions) given → ⊥
+broken-accepted positions h given a = not-accepted (rehearsal_text positions ∷ []) [] (setup_error.Broken h.0) h.1.1 (λ e. no-broken e) given a
+  where
+    no-broken : setup_error.Broken h.0 ≡ setup_error.Memory → ⊥
+    no-broken e = cc
+
+pub long-broken : (positions : ℕ) → IsLongRehearsal positions → IsBrokenRehearsal positions → ⊥
+long-broken positions long h = omega (arith, long, h.1.0)
+
+module _ (positions n : ℕ) where
+  pub rehearsed-broken : HasRehearsed positions n → n ≡ 1 → IsBrokenRehearsal positions
+  rehearsed-broken (inl h) e = absurd (omega (arith, e, h.1))
+  rehearsed-broken (inr (inl h)) e = h.0
+  rehearsed-broken (inr (inr h)) e = absurd (not-among 1 session_statuses refl (subst (λ (k : ℕ). IsOneOf k session_statuses) e (rehearsed-listed positions n h)))
+
+  pub broken-rehearsed : HasRehearsed positions n → IsBrokenRehearsal positions → n ≡ 1
+  broken-rehearsed (inl h) b = absurd (long-broken positions h.0 b)
+  broken-rehearsed (inr (inl h)) b = h.1
+  broken-rehearsed (inr (inr h)) b = absurd (broken-accepted positions b h.came.given h.came.accepted)
+
+  -- the status of a playbook that ran, wherever else it may run
+  pub rehearsal-listed : HasRehearsed positions n → (last : End) → RehearsalTo positions last → IsOneOf n session_statuses
+  rehearsal-listed (inl h) last r = inr (inr (inr (inr (inr (inr (inl h.1))))))
+  rehearsal-listed (inr (inl h)) last r = absurd (broken-accepted positions h.0 r.given r.accepted)
+  rehearsal-listed (inr (inr h)) last r = rehearsed-listed positions n h
+
+  pub long-listed : HasRehearsed positions n → IsLongRehearsal positions → IsOneOf n session_statuses
+  long-listed (inl h) long = inr (inr (inr (inr (inr (inr (inl h.1))))))
+  long-listed (inr (inl h)) long = absurd (long-broken positions long h.0)
+  long-listed (inr (inr h)) long = rehearsed-listed positions n h
+
+  pub rehearsed-ran : HasRehearsed positions n → (n ≡ 11 → ⊥) → (n ≡ 1 → ⊥) → IsRehearsed positions n
+  rehearsed-ran (inl h) a b = absurd (a h.1)
+  rehearsed-ran (inr (inl h)) a b = absurd (b h.1)
+  rehearsed-ran (inr (inr h)) a b = h
+
+-- ---- the counts
+
+pub rehearses-disk : (positions : ℕ) (old mid : SiteView) (last : End) → Rehearses positions old mid last → mid.disk.faults ≡ old.disk.faults
+rehearses-disk positions old mid last h = ap (λ (s : SiteView). s.disk.faults) h.same
+
+pub rehearses-said : (positions : ℕ) (old mid new : SiteView) (last : End) (answer : ℕ) → Rehearses positions old mid last → Tells last mid new answer → (answer ≡ 9 → ⊥) → new.clock.unsaid ≡ old.clock.unsaid
+rehearses-said positions old mid new last answer h tells unlike = last-said last (text_of last) mid new answer tells unlike ∙ ap (λ (s : SiteView). s.clock.unsaid) h.same
+
+-- what has this status is told of a run
+ran : (positions : ℕ) (last : End) → TellsRehearsal positions last → (status_of last ≡ 11 → ⊥) → (status_of last ≡ 1 → ⊥) → (status_of last ≡ 10 → ⊥) → RehearsalTo positions last
+ran positions last (inl h) a b c = absurd (a (ap status_of h.1))
+ran positions last (inr (inl h)) a b c = absurd (b (ap status_of h.2))
+ran positions last (inr (inr (inl h))) a b c = h
+ran positions last (inr (inr (inr is))) a b c = absurd (c (ap status_of is))
+
+rose-next : (n m : ℕ) → m ≡ next_count n → Rose n m
+rose-next n m e = omega (arith, e)
+
+pub rehearses-unsaid : (positions : ℕ) (old mid new : SiteView) (last : End) (answer : ℕ) → Rehearses positions old mid last → Tells last mid new answer → answer ≡ 9
+    → Rose old.clock.unsaid new.clock.unsaid ⊎ RehearsalTo positions unsaid
+rehearses-unsaid positions old mid new last answer h tells e = go (nine-or-not last)
+  where
+    go : (last ≡ unsaid) ⊎ (status_of last ≡ 9 → ⊥) → Rose old.clock.unsaid new.clock.unsaid ⊎ RehearsalTo positions unsaid
+    go (inl is) = let k : status_of last ≡ 9 = ap status_of is in
+        inr (subst (RehearsalTo positions) is (ran positions last h.tells (λ f. omega (arith, k, f)) (λ f. omega (arith, k, f)) (λ f. omega (arith, k, f))))
+    go (inr other) = inl (rose-next old.clock.unsaid new.clock.unsaid (last-unsaid last (text_of last) mid new answer other tells e ∙ ap (λ (s : SiteView). next_count s.clock.unsaid) h.same))
+
+pub rehearses-failed : (positions : ℕ) (old mid new : SiteView) (last : End) (answer : ℕ) → Rehearses positions old mid last → Tells last mid new answer → answer ≡ 8 → RehearsalTo positions disk_failed
+rehearses-failed positions old mid new last answer h tells e = go (tells-status last mid new answer tells)
+  where
+    go : (answer ≡ status_of last) ⊎ IsCutOff answer → RehearsalTo positions disk_failed
+    go (inl is) = let k : status_of last ≡ 8 = sym is ∙ e in
+        subst (RehearsalTo positions) (eight-is last k) (ran positions last h.tells (λ f. omega (arith, k, f)) (λ f. omega (arith, k, f)) (λ f. omega (arith, k, f)))
+    go (inr (inl f)) = absurd (omega (arith, e, f))
+    go (inr (inr (inl f))) = absurd (omega (arith, e, f))
+    go (inr (inr (inr f))) = absurd f

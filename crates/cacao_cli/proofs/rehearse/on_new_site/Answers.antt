@@ -1,0 +1,14 @@
+-- The rehearsal has a summary, or the end says why it has none.
+use Rattle.std.proofs.Common.{sym, subst}
+use Rattle.cacao_site.specs.MemorySite.{view_of}
+use Rattle.cacao_cli.specs.Ends.{End}
+use Rattle.cacao_cli.specs.Rehearsing.{TellsRehearsal}
+use Rattle.cacao_cli.proofs.RehearseLemmas.{has-failed, has-summary}
+use Rattle.cacao_cli.proofs.rehearse.on_new_site.Goals as goal
+
+pub returns-in-Ok-rehearse : goal.returns-in-Ok-rehearse
+returns-in-Ok-rehearse c = has-summary c.args.positions c.in-Ok.site (view_of c.rehearse.new.site) c.in-Ok-rehearse.summary c.in-Ok.ensures c.in-Ok-rehearse.ensures.ok
+
+pub returns : goal.returns
+returns c = subst (λ (e : End). TellsRehearsal c.args.positions e) (sym c.failed_end.ensures)
+    (has-failed c.args.positions c.in-Ok.site (view_of c.rehearse.new.site) c.in-Err-rehearse.error c.in-Ok.ensures c.in-Err-rehearse.ensures.err)

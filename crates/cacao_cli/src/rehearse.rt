@@ -1,0 +1,48 @@
+// The command `rehearse`.
+ghost use Rattle.std.specs.Prelude.{◌≡◌};
+ghost use Rattle.cacao_cli.specs.Command.{end_of};
+ghost use Rattle.cacao_cli.specs.Rehearsing.{Rehearses, TellsRehearsal, failed_end};
+
+use crate::end::End;
+use crate::hold::{close_end, error_end};
+use crate::limit::Limit;
+use cacao_site::Site;
+use rehearsal::{RehearsalError, new_site};
+use std::alloc::Global;
+
+/// `rehearse`: runs the playbook with so many positions on a site of its own, and says what was counted.
+pub fn rehearse<'w, S: Site>(alloc: Global, positions: u32, _site: &mut S) -> End<'w>
+    ensures { Rehearses positions (S.view _site.old) (S.view _site.new) (end_of result) }
+{
+    on_new_site(alloc, positions)
+}
+
+/// How a call ends that holds this rehearsal.
+fn on_new_site<'w>(alloc: Global, positions: u32) -> End<'w>
+    ensures { TellsRehearsal positions (end_of result) }
+{
+    let mut site = match new_site(alloc) {
+        Ok(site) => site,
+        Err(_) => return End::NoMemory,
+    };
+    match rehearsal::rehearse(alloc, &mut site, positions) {
+        Ok(summary) => End::Rehearsed { positions, summary },
+        Err(error) => failed_end(error),
+    }
+}
+
+/// How a call ends whose rehearsal has no summary.
+fn failed_end<'w>(error: RehearsalError) -> End<'w>
+    ensures { end_of result ≡ failed_end error }
+{
+    match error {
+        RehearsalError::TooLong => End::Past {
+            limit: Limit::FileBytes,
+        },
+        RehearsalError::Broken(broken) => End::Refused { broken },
+        RehearsalError::Closed(close) => close_end(close),
+        RehearsalError::Refused(error) => error_end(error),
+        RehearsalError::Disk => End::DiskFailed,
+        RehearsalError::Memory => End::NoMemory,
+    }
+}
