@@ -29,7 +29,10 @@ pub mod RunLemmas
 pub mod SayingLemmas
 pub mod SplitLemmas
 pub mod StartLemmas
+pub mod StatusKinds
 pub mod StatusLemmas
+pub mod StatusPlain
+pub mod StatusRuns
 pub mod StayLemmas
 pub mod StepLemmas
 pub mod TreeLemmas

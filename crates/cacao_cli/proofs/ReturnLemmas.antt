@@ -20,25 +20,23 @@ use Rattle.flow_world.specs.declared.error.WorldError.TheVariants as error
 use Rattle.session_laws.specs.Returned.{ClosesOnRun, ReadsAsRun, TellsClose}
 use Rattle.session_laws.proofs.Returning.{closes_on_run}
 use Rattle.cacao_words.specs.Requests.{RunRequest}
-use Rattle.cacao_words.specs.Words.{Text}
 use Rattle.cacao_cli.specs.Asked.{Asked, canonises, checks, runs, shows, lists_rules, decides, shadows, rehearses, audits}
 use Rattle.cacao_cli.specs.Causes.{HasTexts}
 use Rattle.cacao_cli.specs.Ended.{Performed, Performs}
 use Rattle.cacao_cli.specs.Ends.{End, status_of, no_such_file, not_readable, past}
 use Rattle.cacao_cli.specs.Exact.{IsOneOf, file_faults}
 use Rattle.cacao_cli.specs.Files.{File, Files, NamedText, ShelfCall, files_of, has_too_many, reading}
-use Rattle.cacao_cli.specs.Holding.{ClosesSo, HoldsSession, RefusesSo, close_end, error_end}
+use Rattle.cacao_cli.specs.Holding.{ClosesSo, RefusesSo, close_end, error_end}
 use Rattle.cacao_cli.specs.Lines.{SaysAtMostALine, Tells}
 use Rattle.cacao_cli.specs.Returning.{ReadsSo, ReturnsSo, TellsOnReturn}
 use Rattle.cacao_cli.specs.Work.{Start, Work, ends, starts, start_of, work}
-use Rattle.cacao_cli.specs.declared.limit.Limit.{Limit}
 use Rattle.cacao_cli.specs.declared.limit.Limit.TheVariants.{BookCount}
 use Rattle.cacao_cli.proofs.EndCases.{not-among}
-use Rattle.cacao_cli.proofs.ExactLemmas.{IsSeen, failed-status, if-told, performs-comes, seen-read}
+use Rattle.cacao_cli.proofs.ExactLemmas.{failed-status, if-told, performs-comes, seen-read}
 use Rattle.cacao_cli.proofs.LineLemmas.{IsCutOff, tells-status}
 use Rattle.cacao_cli.proofs.ReadLemmas.{Fails}
 use Rattle.cacao_cli.proofs.StartLemmas.{tells-line}
-use Rattle.cacao_cli.proofs.StatusLemmas.{RunCase, run_case, run_long, run_many, run_missing, run_starts, run_treeless, same-texts}
+use Rattle.cacao_cli.proofs.StatusRuns.{RunCase, run_case, run_long, run_many, run_missing, run_starts, run_treeless, same-texts}
 
 -- another status tells nothing
 apart : (start : Start) (new : SiteView) (answer m : ℕ) → list_any (nat_eq m) (0 ∷ 6 ∷ 7 ∷ 15 ∷ 16 ∷ []) ≡ false → answer ≡ m → ReturnsSo start new answer

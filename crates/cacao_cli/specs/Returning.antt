@@ -8,7 +8,6 @@ use Rattle.flow_rules.specs.Changes.{outcome}
 use Rattle.flow_rules.specs.Givens.{Given}
 use Rattle.flow_rules.specs.State.{Shown}
 use Rattle.session_laws.specs.Returned.{ReadsAsRun}
-use Rattle.cacao_words.specs.Requests.{RunRequest}
 use Rattle.cacao_cli.specs.Asked.{Asked, canonises, checks, runs, shows, lists_rules, decides, shadows, rehearses, audits}
 use Rattle.cacao_cli.specs.Causes.{HasTexts}
 use Rattle.cacao_cli.specs.Exact.{IfFilesTold}

@@ -1,0 +1,270 @@
+-- The statuses of `run`.
+use Rattle.std.proofs.Common.{◌≡◌, ◌∙◌, inl, inr, refl, sym, subst, arith, ℕ, Bool, true, false, List, [], map, Some, Ok, Err, Result, ap}
+use Rattle.std.specs.Prelude.{if◌then◌else◌, nat_eq}
+use Rattle.std.specs.List.{list_any}
+use Rattle.std.proofs.lemmas.Bool.{true≢false}
+use Rattle.serde_json.specs.Data.{Data}
+use Rattle.cacao_site.specs.View.{SiteView}
+use Rattle.cacao_words.specs.Words.{Text}
+use Rattle.cacao_cli.specs.Asked.{runs}
+use Rattle.cacao_cli.specs.Ends.{End, no_such_file, not_readable, past, damaged, ended_ok}
+use Rattle.cacao_cli.specs.Files.{File, Files, NamedText, files_of, book_file, has_too_many, reading, run_names}
+use Rattle.cacao_cli.specs.Work.{Work, ends, or_end, work, work_on, starts, start_of, trees_wanted}
+use Rattle.cacao_cli.specs.Exact.{IsOneOf, HasStatus, IsSettled, session_statuses}
+use Rattle.cacao_cli.specs.Causes.{AllWithin, IsMissing, IsTooLong, IsUnreadable, IsPastLimit, FindsItDamaged, HasTexts, HasTrees, LacksTree, SessionTo}
+use Rattle.cacao_cli.specs.declared.limit.Limit.TheVariants.{BookCount}
+use Rattle.cacao_cli.proofs.CauseLemmas.{missing-long, texts-within, ReadingCase, all_within, one_missing, one_long, reading_case, Roots, Treeless, TreesCase, all_trees, one_treeless, trees_case, first-missing, first-long}
+use Rattle.cacao_cli.specs.Holding.{HasBadAnswer, IsAcceptedStart, IsRefusedStart}
+use Rattle.cacao_cli.specs.declared.limit.Limit.{Limit}
+use Rattle.cacao_cli.specs.declared.reason.Reason.{Reason}
+use Rattle.cacao_words.specs.Requests.{RunRequest}
+use Rattle.cacao_cli.proofs.ExactLemmas.{Comes}
+use Rattle.cacao_cli.proofs.JudgedLemmas.{bad-start, came-accepted, came-done, lacks-tree, refused-start, roots-lack, start-among, start-bad, start-listed, start-other, start-refused, start-settled}
+use Rattle.cacao_cli.proofs.EndCases.{not-among, session-end, session_only}
+use Rattle.cacao_cli.proofs.ReadLemmas.{Read as WasRead}
+use Rattle.cacao_cli.proofs.StatusKinds.{Called, FileStatuses, ToldStatuses, SessionEnds, SessionStatuses}
+
+-- ---- run
+
+-- what the files of `run` come to
+pub data RunCase (wanted : RunRequest) (files : Files) : Type 0 where
+  run_many : has_too_many (runs wanted) ≡ true → work (Some (runs wanted)) (reading files (files_of (Some (runs wanted)))) ≡ ends [] (past BookCount) → RunCase wanted files
+  run_missing : (name : Text) → IsMissing files (files_of (Some (runs wanted))) → work (Some (runs wanted)) (reading files (files_of (Some (runs wanted)))) ≡ ends [] (no_such_file name) → RunCase wanted files
+  run_long : (limit : Limit) → IsTooLong files (files_of (Some (runs wanted))) → work (Some (runs wanted)) (reading files (files_of (Some (runs wanted)))) ≡ ends [] (past limit) → RunCase wanted files
+  run_treeless : (texts : List NamedText) (name : Text) (reason : Reason) → HasTexts files wanted texts → AllWithin files (files_of (Some (runs wanted))) → Treeless (trees_wanted wanted texts)
+      → work (Some (runs wanted)) (reading files (files_of (Some (runs wanted)))) ≡ ends [] (not_readable name reason) → RunCase wanted files
+  run_starts : (texts : List NamedText) (roots : List Data) → HasTexts files wanted texts → AllWithin files (files_of (Some (runs wanted))) → Roots (trees_wanted wanted texts) roots
+      → work (Some (runs wanted)) (reading files (files_of (Some (runs wanted)))) ≡ starts (start_of wanted texts) → RunCase wanted files
+
+abbrev pub RunList : RunRequest → Bool → List File
+RunList wanted b = if b then [] else map book_file (run_names wanted)
+
+abbrev pub RunWork : RunRequest → Bool → WasRead → Work
+RunWork wanted b r = if b then ends [] (past BookCount) else or_end r (work_on (runs wanted))
+
+pub run_case : (wanted : RunRequest) (files : Files) → RunCase wanted files
+run_case wanted files = go (has_too_many (runs wanted)) refl
+  where
+    go : (b : Bool) → b ≡ has_too_many (runs wanted) → RunCase wanted files
+    go true many = run_many (sym many) (ap (λ (b : Bool). RunWork wanted b (reading files (RunList wanted b))) (sym many))
+    go false few = by (reading_case files (map book_file (run_names wanted)))
+      where
+        list : files_of (Some (runs wanted)) ≡ map book_file (run_names wanted)
+        list = ap (RunList wanted) (sym few)
+
+        at : (r : WasRead) → reading files (map book_file (run_names wanted)) ≡ r → work (Some (runs wanted)) (reading files (files_of (Some (runs wanted)))) ≡ or_end r (work_on (runs wanted))
+        at r e = ap (λ (b : Bool). RunWork wanted b (reading files (RunList wanted b))) (sym few) ∙ ap (λ (r : WasRead). or_end r (work_on (runs wanted))) e
+
+        by : ReadingCase files (map book_file (run_names wanted)) → RunCase wanted files
+        by (one_missing name m e) = run_missing name (subst (IsMissing files) (sym list) m) (at (Err (no_such_file name)) e)
+        by (one_long limit m e) = run_long limit (subst (IsTooLong files) (sym list) m) (at (Err (past limit)) e)
+        by (all_within texts t e) = in_trees (trees_case (trees_wanted wanted texts))
+          where
+            has : HasTexts files wanted texts
+            has = record { few = sym few; are = e }
+
+            within : AllWithin files (files_of (Some (runs wanted)))
+            within = subst (AllWithin files) (sym list) (texts-within files (map book_file (run_names wanted)) texts t)
+
+            in_trees : TreesCase (trees_wanted wanted texts) → RunCase wanted files
+            in_trees (one_treeless name reason t f) = run_treeless texts name reason has within t (at (Ok texts) e ∙ ap (λ (r : Result (List Data) End). or_end r (λ roots. starts (start_of wanted texts))) f)
+            in_trees (all_trees roots r f) = run_starts texts roots has within r (at (Ok texts) e ∙ ap (λ (r : Result (List Data) End). or_end r (λ roots. starts (start_of wanted texts))) f)
+
+-- the texts are one list
+pub same-texts : (files : Files) (wanted : RunRequest) (xs ys : List NamedText) → HasTexts files wanted xs → HasTexts files wanted ys → xs ≡ ys
+same-texts files wanted xs ys a b = one (reading files (map book_file (run_names wanted))) xs ys a.are b.are
+  where
+    one : (r : WasRead) (xs ys : List NamedText) → r ≡ Ok xs → r ≡ Ok ys → xs ≡ ys
+    one r xs ys e f = cc
+
+pub no-texts : (files : Files) (wanted : RunRequest) (texts : List NamedText) → HasTexts files wanted texts → has_too_many (runs wanted) ≡ true → ⊥
+no-texts files wanted texts h many = true≢false (sym many ∙ h.few)
+
+pub texts-all-within : (files : Files) (wanted : RunRequest) (texts : List NamedText) → HasTexts files wanted texts → AllWithin files (files_of (Some (runs wanted)))
+texts-all-within files wanted texts h = subst (λ (b : Bool). AllWithin files (RunList wanted b)) (sym h.few) (go (reading_case files (map book_file (run_names wanted))))
+  where
+    go : ReadingCase files (map book_file (run_names wanted)) → AllWithin files (map book_file (run_names wanted))
+    go (one_missing name m e) = absurd (differ (reading files (map book_file (run_names wanted))) texts (no_such_file name) h.are e)
+      where
+        differ : (r : WasRead) (xs : List NamedText) (end : End) → r ≡ Ok xs → r ≡ Err end → ⊥
+        differ r xs end e f = cc
+    go (one_long limit m e) = absurd (differ (reading files (map book_file (run_names wanted))) texts (past limit) h.are e)
+      where
+        differ : (r : WasRead) (xs : List NamedText) (end : End) → r ≡ Ok xs → r ≡ Err end → ⊥
+        differ r xs end e f = cc
+    go (all_within xs t e) = texts-within files (map book_file (run_names wanted)) xs t
+
+module _ (wanted : RunRequest) (files : Files) (old new : SiteView) (n : ℕ) where
+  abbrev pub RunStatus : Work → Type 0
+  RunStatus w = Comes w old new n
+
+  pub missing-texts : (texts : List NamedText) → HasTexts files wanted texts → IsMissing files (files_of (Some (runs wanted))) → ⊥
+  missing-texts texts h m = first-missing files (files_of (Some (runs wanted))) m (texts-all-within files wanted texts h)
+
+  pub long-texts : (texts : List NamedText) → HasTexts files wanted texts → IsTooLong files (files_of (Some (runs wanted))) → ⊥
+  long-texts texts h m = first-long files (files_of (Some (runs wanted))) m (texts-all-within files wanted texts h)
+
+  pub run-files : Called (Some (runs wanted)) files old new n → FileStatuses (Some (runs wanted)) files n
+  run-files called = go (run_case wanted files)
+    where
+      at : (w : Work) → work (Some (runs wanted)) (reading files (files_of (Some (runs wanted)))) ≡ w → Comes w old new n
+      at w is = subst (λ (w : Work). Comes w old new n) is called
+
+      go : RunCase wanted files → FileStatuses (Some (runs wanted)) files n
+      go (run_many many is) = let k : n ≡ 11 = at (ends [] (past BookCount)) is in record {
+        is_refused = λ e. absurd (omega (arith, e, k));
+        refused_is = λ h. absurd (no-texts files wanted h.0 h.1 many);
+        is_missing = λ e. absurd (omega (arith, e, k));
+        missing_is = λ h. absurd (subst (λ (b : Bool). IsMissing files (RunList wanted b)) many h);
+        is_unreadable = λ e. absurd (omega (arith, e, k));
+        unreadable_is = λ h. absurd (no-texts files wanted h.0 h.1 many);
+        is_disagreed = λ e. absurd (omega (arith, e, k));
+        disagreed_is = λ h. absurd h;
+      }
+      go (run_missing name m is) = let k : n ≡ 4 = at (ends [] (no_such_file name)) is in record {
+        is_refused = λ e. absurd (omega (arith, e, k));
+        refused_is = λ h. absurd (missing-texts h.0 h.1 m);
+        is_missing = λ e. m;
+        missing_is = λ h. k;
+        is_unreadable = λ e. absurd (omega (arith, e, k));
+        unreadable_is = λ h. absurd (missing-texts h.0 h.1 m);
+        is_disagreed = λ e. absurd (omega (arith, e, k));
+        disagreed_is = λ h. absurd h;
+      }
+      go (run_long limit l is) = let k : n ≡ 11 = at (ends [] (past limit)) is in record {
+        is_refused = λ e. absurd (omega (arith, e, k));
+        refused_is = λ h. absurd (long-texts h.0 h.1 l);
+        is_missing = λ e. absurd (omega (arith, e, k));
+        missing_is = λ h. absurd (missing-long files (files_of (Some (runs wanted))) h l);
+        is_unreadable = λ e. absurd (omega (arith, e, k));
+        unreadable_is = λ h. absurd (long-texts h.0 h.1 l);
+        is_disagreed = λ e. absurd (omega (arith, e, k));
+        disagreed_is = λ h. absurd h;
+      }
+      go (run_treeless texts name reason has within t is) = let k : n ≡ 5 = at (ends [] (not_readable name reason)) is in record {
+        is_refused = λ e. absurd (omega (arith, e, k));
+        refused_is = λ h. absurd (h.2 (lacks-there h.0 h.1 (lacks-tree (trees_wanted wanted texts) t)));
+        is_missing = λ e. absurd (omega (arith, e, k));
+        missing_is = λ h. absurd (missing-texts texts has h);
+        is_unreadable = λ e. (texts, has, inl (lacks-tree (trees_wanted wanted texts) t));
+        unreadable_is = λ h. k;
+        is_disagreed = λ e. absurd (omega (arith, e, k));
+        disagreed_is = λ h. absurd h;
+      }
+        where
+          lacks-there : (other : List NamedText) → HasTexts files wanted other → LacksTree (trees_wanted wanted texts) → LacksTree (trees_wanted wanted other)
+          lacks-there other has_other lacks = subst (λ (l : List NamedText). LacksTree (trees_wanted wanted l)) (same-texts files wanted texts other has has_other) lacks
+      go (run_starts texts roots has within r is) = let s : HasStatus (starts (start_of wanted texts)) old new n = at (starts (start_of wanted texts)) is in record {
+        is_refused = λ e. (texts, has, roots-lack (trees_wanted wanted texts) roots r, start-refused (start_of wanted texts) s e);
+        refused_is = λ h. refused-start (start_of wanted texts) (subst (λ (l : List NamedText). IsRefusedStart (start_of wanted l)) (same-texts files wanted h.0 texts h.1 has) h.3) s;
+        is_missing = λ e. absurd (start-other (start_of wanted texts) 4 s e (λ f. omega (arith, f)) (λ f. omega (arith, f)) refl);
+        missing_is = λ h. absurd (missing-texts texts has h);
+        is_unreadable = λ e. (texts, has, inr (start-bad (start_of wanted texts) s e));
+        unreadable_is = λ h. bad-start (start_of wanted texts) (unreadable-by h) s;
+        is_disagreed = λ e. absurd (start-other (start_of wanted texts) 18 s e (λ f. omega (arith, f)) (λ f. omega (arith, f)) refl);
+        disagreed_is = λ h. absurd h;
+      }
+        where
+          unreadable-by : IsUnreadable (Some (runs wanted)) files → HasBadAnswer (start_of wanted texts)
+          unreadable-by (other, has_other, inl lacks) = absurd (roots-lack (trees_wanted wanted texts) roots r (subst (λ (l : List NamedText). LacksTree (trees_wanted wanted l)) (same-texts files wanted other texts has_other has) lacks))
+          unreadable-by (other, has_other, inr bad) = subst (λ (l : List NamedText). HasBadAnswer (start_of wanted l)) (same-texts files wanted other texts has_other has) bad
+
+  -- the session that is told is held with these texts
+  pub session-texts : (texts : List NamedText) → HasTexts files wanted texts → (last : End) → SessionTo wanted files last old new → IsAcceptedStart (start_of wanted texts) × HasTrees wanted texts
+  session-texts texts has last h = (
+    subst (λ (l : List NamedText). IsAcceptedStart (start_of wanted l)) (same-texts files wanted h.texts texts h.has has) (came-accepted (start_of wanted h.texts) old new last h.came),
+    subst (λ (l : List NamedText). HasTrees wanted l) (same-texts files wanted h.texts texts h.has has) h.trees,
+  )
+
+  pub no-session-of-many : (last : End) → has_too_many (runs wanted) ≡ true → SessionTo wanted files last old new → ⊥
+  no-session-of-many last many h = no-texts files wanted h.texts h.has many
+
+  -- no session is held where the files stop the call before
+  pub record NoSession : Type 0 where
+    none : (last : End) → SessionTo wanted files last old new → ⊥
+
+  pub no-past : NoSession → (has_too_many (runs wanted) ≡ true → ⊥) → (IsTooLong files (files_of (Some (runs wanted))) → ⊥) → IsPastLimit (Some (runs wanted)) files old new → ⊥
+  no-past absent many long (inl (inl e)) = many e
+  no-past absent many long (inl (inr l)) = long l
+  no-past absent many long (inr (limit, h)) = absent.none (past limit) h
+
+  pub stopped-told : NoSession → (m : ℕ) → n ≡ m → (m ≡ 0 → ⊥) → (m ≡ 13 → ⊥) → (n ≡ 11 → IsPastLimit (Some (runs wanted)) files old new) → (IsPastLimit (Some (runs wanted)) files old new → n ≡ 11) → ToldStatuses (Some (runs wanted)) files old new n
+  stopped-told absent m is a b past_to to_past = record {
+    is_done = λ e. absurd (a (sym is ∙ e));
+    done_is = λ h. absurd (absent.none ended_ok h);
+    is_past = past_to;
+    past_is = λ h. inl (to_past h);
+    is_damaged = λ e. absurd (b (sym is ∙ e));
+    damaged_is = λ h. absurd (absent.none (damaged h.0 h.1) h.2);
+  }
+
+  pub run-told : HasStatus (work (Some (runs wanted)) (reading files (files_of (Some (runs wanted))))) old new n → ToldStatuses (Some (runs wanted)) files old new n
+  run-told held = go (run_case wanted files)
+    where
+      at : (w : Work) → work (Some (runs wanted)) (reading files (files_of (Some (runs wanted)))) ≡ w → HasStatus w old new n
+      at w is = subst (λ (w : Work). HasStatus w old new n) is held
+
+      go : RunCase wanted files → ToldStatuses (Some (runs wanted)) files old new n
+      go (run_many many is) = let k : n ≡ 11 = at (ends [] (past BookCount)) is in
+          stopped-told (record { none = λ last h. no-session-of-many last many h }) 11 k (λ e. omega (arith, e)) (λ e. omega (arith, e)) (λ e. inl (inl many)) (λ h. k)
+      go (run_missing name m is) = let k : n ≡ 4 = at (ends [] (no_such_file name)) is in
+          let absent : NoSession = record { none = λ last h. missing-texts h.texts h.has m } in
+          stopped-told absent 4 k (λ e. omega (arith, e)) (λ e. omega (arith, e)) (λ e. absurd (omega (arith, e, k)))
+          (λ h. absurd (no-past absent (λ many. subst (λ (b : Bool). IsMissing files (RunList wanted b)) many m) (λ long. missing-long files (files_of (Some (runs wanted))) m long) h))
+      go (run_long limit l is) = let k : n ≡ 11 = at (ends [] (past limit)) is in
+          stopped-told (record { none = λ last h. long-texts h.texts h.has l }) 11 k (λ e. omega (arith, e)) (λ e. omega (arith, e)) (λ e. inl (inr l)) (λ h. k)
+      go (run_treeless texts name reason has within t is) = let k : n ≡ 5 = at (ends [] (not_readable name reason)) is in
+          let absent : NoSession = record { none = λ last h. (session-texts texts has last h).1 (lacks-tree (trees_wanted wanted texts) t) } in
+          stopped-told absent 5 k (λ e. omega (arith, e)) (λ e. omega (arith, e)) (λ e. absurd (omega (arith, e, k)))
+          (λ h. absurd (no-past absent (no-texts files wanted texts has) (long-texts texts has) h))
+      go (run_starts texts roots has within r is) = let s : HasStatus (starts (start_of wanted texts)) old new n = at (starts (start_of wanted texts)) is in record {
+        is_done = λ e. let t = settled-at s e (λ f. omega (arith, f)) (λ f. omega (arith, f)) in subst (λ (x : End). SessionTo wanted files x old new) (came-done (start_of wanted texts) old new t.last t.came (sym t.is ∙ e)) (session-of t);
+        done_is = λ h. inr (start-among (start_of wanted texts) (session-texts texts has ended_ok h).0 s);
+        is_past = λ e. let t = settled-at s e (λ f. omega (arith, f)) (λ f. omega (arith, f)) in by-limit t ((session-end t.last).passes (sym t.is ∙ e));
+        past_is = λ h. inr (start-among (start_of wanted texts) (past-of h) s);
+        is_damaged = λ e. let t = settled-at s e (λ f. omega (arith, f)) (λ f. omega (arith, f)) in by-damage t ((session-end t.last).damage (sym t.is ∙ e));
+        damaged_is = λ h. inr (start-among (start_of wanted texts) (session-texts texts has (damaged h.0 h.1) h.2).0 s);
+      }
+        where
+          settled-at : {m : ℕ} → HasStatus (starts (start_of wanted texts)) old new n → n ≡ m → (5 ≡ m → ⊥) → (1 ≡ m → ⊥) → IsSettled (start_of wanted texts) old new n
+          settled-at s e a b = start-settled (start_of wanted texts) s (λ f. a (sym f ∙ e)) (λ f. b (sym f ∙ e))
+
+          session-of : (t : IsSettled (start_of wanted texts) old new n) → SessionTo wanted files t.last old new
+          session-of t = record { texts = texts; has = has; trees = roots-lack (trees_wanted wanted texts) roots r; came = t.came }
+
+          by-limit : (t : IsSettled (start_of wanted texts) old new n) → (limit : Limit) × (t.last ≡ past limit) → IsPastLimit (Some (runs wanted)) files old new
+          by-limit t h = inr (h.0, subst (λ (x : End). SessionTo wanted files x old new) h.1 (session-of t))
+
+          by-damage : (t : IsSettled (start_of wanted texts) old new n) → (file : ℕ) × (place : ℕ) × (t.last ≡ damaged file place) → FindsItDamaged (Some (runs wanted)) files old new
+          by-damage t h = (h.0, h.1, subst (λ (x : End). SessionTo wanted files x old new) h.2 (session-of t))
+
+          past-of : IsPastLimit (Some (runs wanted)) files old new → IsAcceptedStart (start_of wanted texts)
+          past-of (inl (inl many)) = absurd (no-texts files wanted texts has many)
+          past-of (inl (inr long)) = absurd (long-texts texts has long)
+          past-of (inr (limit, h)) = (session-texts texts has (past limit) h).0
+
+  -- the statuses that sessions alone give
+  pub run-session : HasStatus (work (Some (runs wanted)) (reading files (files_of (Some (runs wanted))))) old new n → SessionStatuses (Some (runs wanted)) files old new n
+  run-session held = record { ends = by (run_case wanted files); among = λ last h. inr (settles (run_case wanted files) last h) }
+    where
+      at : (w : Work) → work (Some (runs wanted)) (reading files (files_of (Some (runs wanted)))) ≡ w → HasStatus w old new n
+      at w is = subst (λ (w : Work). HasStatus w old new n) is held
+
+      unlike : (m : ℕ) → n ≡ m → list_any (nat_eq m) session_only ≡ false → IsOneOf n session_only → ⊥
+      unlike m e none h = not-among m session_only none (subst (λ (k : ℕ). IsOneOf k session_only) e h)
+
+      by : RunCase wanted files → IsOneOf n session_only → SessionEnds (Some (runs wanted)) files old new n
+      by (run_many many is) one = absurd (unlike 11 (at (ends [] (past BookCount)) is) refl one)
+      by (run_missing name m is) one = absurd (unlike 4 (at (ends [] (no_such_file name)) is) refl one)
+      by (run_long limit l is) one = absurd (unlike 11 (at (ends [] (past limit)) is) refl one)
+      by (run_treeless texts name reason has within t is) one = absurd (unlike 5 (at (ends [] (not_readable name reason)) is) refl one)
+      by (run_starts texts roots has within r is) one =
+          let t : IsSettled (start_of wanted texts) old new n = start-settled (start_of wanted texts) (at (starts (start_of wanted texts)) is) (λ e. unlike 5 e refl one) (λ e. unlike 1 e refl one) in
+          record { last = t.last; held = record { texts = texts; has = has; trees = roots-lack (trees_wanted wanted texts) roots r; came = t.came }; is = t.is }
+
+      settles : RunCase wanted files → (last : End) → SessionTo wanted files last old new → IsOneOf n session_statuses
+      settles (run_many many is) last h = absurd (no-session-of-many last many h)
+      settles (run_missing name m is) last h = absurd (missing-texts h.texts h.has m)
+      settles (run_long limit l is) last h = absurd (long-texts h.texts h.has l)
+      settles (run_treeless texts name reason has within t is) last h = absurd ((session-texts texts has last h).1 (lacks-tree (trees_wanted wanted texts) t))
+      settles (run_starts texts roots has within r is) last h = start-listed (start_of wanted texts) (session-texts texts has last h).0 (at (starts (start_of wanted texts)) is)
