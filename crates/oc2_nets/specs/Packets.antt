@@ -24,6 +24,13 @@ protocol_of text =
     else (if bytes_eq text (codes "udp") then Some Udp
     else (if bytes_eq text (codes "sctp") then Some Sctp else None)))
 
+-- the name of a protocol
+abbrev pub protocol_word : Protocol → List ℕ
+protocol_word Icmp = codes "icmp"
+protocol_word Tcp = codes "tcp"
+protocol_word Udp = codes "udp"
+protocol_word Sctp = codes "sctp"
+
 abbrev pub is_icmp : Protocol → Bool
 is_icmp Icmp = true
 is_icmp Tcp = false

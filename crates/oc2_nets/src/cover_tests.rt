@@ -92,6 +92,53 @@ fn a_connection_covers_where_each_stated_part_agrees(rt: HostRuntime) -> Result<
 }
 
 #[test]
+fn an_ipv6_connection_covers_where_each_stated_part_agrees(rt: HostRuntime) -> Result<(), Fail> {
+    let p = packet("0 ingress sctp 2001:db8::5 40000 2001:db9::7 443")?;
+    let near = read_net6("2001:db8::/32").ok_or("not read")?;
+    let far = read_net6("2001:db9::7").ok_or("not read")?;
+    let rows = [
+        (None, None, None, None, None, true),
+        (Some(Protocol::Sctp), None, None, None, None, true),
+        (Some(Protocol::Tcp), None, None, None, None, false),
+        (None, Some(near), None, None, None, true),
+        (None, Some(far), None, None, None, false),
+        (None, None, Some(40_000), None, None, true),
+        (None, None, Some(443), None, None, false),
+        (None, None, None, Some(far), None, true),
+        (None, None, None, Some(near), None, false),
+        (None, None, None, None, Some(443), true),
+        (None, None, None, None, Some(40_000), false),
+        (
+            Some(Protocol::Sctp),
+            Some(near),
+            Some(40_000),
+            Some(far),
+            Some(443),
+            true,
+        ),
+    ];
+    for (protocol, src, src_port, dst, dst_port, covered) in rows {
+        let flow = Flow::Conn6 {
+            protocol,
+            src,
+            src_port,
+            dst,
+            dst_port,
+        };
+        assert_eq!(rt; covers(&flow, &p), covered);
+    }
+    let other = Flow::Conn4 {
+        protocol: None,
+        src: None,
+        src_port: None,
+        dst: None,
+        dst_port: None,
+    };
+    assert!(rt; !covers(&other, &p));
+    Ok(())
+}
+
+#[test]
 fn a_stated_port_agrees_with_no_icmp_packet(rt: HostRuntime) -> Result<(), Fail> {
     let p = packet("0 egress icmp 10.0.0.5 - 198.51.100.7 443")?;
     let rows = [

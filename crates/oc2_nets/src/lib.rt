@@ -13,6 +13,7 @@ mod lines;
 mod net_texts;
 mod nets;
 mod packets;
+mod protocols;
 #[cfg(test)]
 mod tests;
 mod texts;
@@ -24,3 +25,4 @@ pub use lines::read_packet;
 pub use net_texts::NetText;
 pub use nets::{print_net4, print_net6, read_net4, read_net6};
 pub use packets::{Address, Packet, Protocol};
+pub use protocols::{protocol_word, read_protocol};

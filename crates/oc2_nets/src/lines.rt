@@ -1,10 +1,11 @@
 // The lines of packets.
 ghost use Rattle.std.specs.Prelude.{◌≡◌, None, MatchOption};
 ghost use Rattle.oc2_nets.specs.Texts.{space, parts};
-ghost use Rattle.oc2_nets.specs.Packets.{outward_of, protocol_of, port_of, address_of, packet, packet_at, packet_of};
+ghost use Rattle.oc2_nets.specs.Packets.{outward_of, port_of, address_of, packet, packet_at, packet_of};
 ghost use Rattle.oc2_nets.specs.Words.{seven_words};
 
 use crate::packets::{Address, Packet, Protocol};
+use crate::protocols::read_protocol;
 use crate::texts::{cut, read_address4, read_address6};
 use decimals::read_number;
 
@@ -18,22 +19,6 @@ fn read_outward(text: &str) -> Option<bool>
         Some(true)
     } else if text == "ingress" {
         Some(false)
-    } else {
-        None
-    }
-}
-
-fn read_protocol(text: &str) -> Option<Protocol>
-    ensures { result ≡ protocol_of text.now }
-{
-    if text == "icmp" {
-        Some(Protocol::Icmp)
-    } else if text == "tcp" {
-        Some(Protocol::Tcp)
-    } else if text == "udp" {
-        Some(Protocol::Udp)
-    } else if text == "sctp" {
-        Some(Protocol::Sctp)
     } else {
         None
     }

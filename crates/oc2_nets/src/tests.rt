@@ -1,5 +1,8 @@
 // Outside expectations: RFC 4291, section 2.2, Python's `ipaddress`, and the rows of the project's formats.
-use crate::{Address, Protocol, print_net4, print_net6, read_net4, read_net6, read_packet};
+use crate::{
+    Address, Protocol, print_net4, print_net6, protocol_word, read_net4, read_net6, read_packet,
+    read_protocol,
+};
 use std::alloc::Global;
 use std::process::Abort;
 use std::test::Fail;
@@ -153,6 +156,26 @@ fn packet_lines(rt: HostRuntime) -> Result<(), Fail> {
     assert!(rt; packet.to == Address::V6(1));
     assert_eq!(rt; packet.from_port, 0);
     assert_eq!(rt; packet.to_port, 7);
+    Ok(())
+}
+
+#[test]
+fn protocols_have_their_names(rt: HostRuntime) -> Result<(), Fail> {
+    let rows = [
+        (Protocol::Icmp, "icmp"),
+        (Protocol::Tcp, "tcp"),
+        (Protocol::Udp, "udp"),
+        (Protocol::Sctp, "sctp"),
+    ];
+    for (protocol, name) in rows {
+        assert_eq!(rt; protocol_word(protocol), name);
+        assert!(rt; read_protocol(name) == Some(protocol), "{name}");
+    }
+    for name in ["", "ICMP", "tcp ", "sctpx", "dccp"] {
+        assert!(rt; read_protocol(name).is_none(), "{name}");
+    }
+    let (_, packet) = read_packet("0 egress sctp 10.0.0.5 1 10.0.0.6 2").ok_or("not read")?;
+    assert!(rt; packet.protocol == Protocol::Sctp);
     Ok(())
 }
 
