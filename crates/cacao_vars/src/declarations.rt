@@ -1,4 +1,4 @@
-//! Declarations of variables.
+// Declarations of variables.
 ghost use Rattle.std.specs.Prelude.{◌≡◌, ◌↔◌, [], IsTrue, IsSome, Ok, false, is_some, IfOk, OnOk, OnErr, None, insert, ◌≤◌, length};
 ghost use Rattle.std.specs.Option.{option_copied};
 

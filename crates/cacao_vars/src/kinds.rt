@@ -1,4 +1,4 @@
-//! Kinds of variables.
+// Kinds of variables.
 ghost use Rattle.std.specs.Prelude.{◌≡◌, IfOk};
 
 use crate::words::Word;

@@ -1,4 +1,4 @@
-//! Laws over the definitions that the contracts of this crate speak by.
+// Laws over the definitions that the contracts of this crate speak by.
 ghost use Rattle.cacao_vars.specs.References.{ReferencesGoOn};
 ghost use Rattle.cacao_vars.specs.Scopes.{WritesOneValue, ScopesOpen};
 

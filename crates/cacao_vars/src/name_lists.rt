@@ -1,4 +1,4 @@
-//! Lists of names.
+// Lists of names.
 ghost use Rattle.std.specs.Prelude.{◌≡◌, ◌↔◌, [], ◌∷◌, ◌++◌, IsTrue, Contains, OnOk, OnErr};
 
 use crate::variable_names::Name;

@@ -1,4 +1,4 @@
-//! References to variables in texts.
+// References to variables in texts.
 ghost use Rattle.std.specs.Prelude.{◌≡◌, ◌≢◌, List, ◌+◌, ◌<◌, ◌≤◌, ◌++◌, None, Some, ℕ, ◌↔◌, IsTrue, IfNone, IfSome, codes, MatchOption, slice_index, true, false, length, take, drop};
 ghost use Rattle.std.specs.List.{list_all};
 ghost use Rattle.cacao_vars.specs.Names.{IsName, is_name_character};

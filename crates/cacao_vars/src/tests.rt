@@ -1,7 +1,10 @@
-//! Rows whose answers are known from outside.
+// Rows whose answers are known from outside.
 ghost use Rattle.std.specs.Prelude.{◌≡◌, ◌<◌, IfOk, length};
 
-use crate::{Kind, Name, Names, ScopeError, Scopes, Var, Vars, Word, find_reference};
+use crate::{
+    Kind, Name, Names, ScopeError, Scopes, Var, Vars, Word, find_reference, leading_reference,
+    references_go_on, scopes_open, whole_reference, writes_one_value,
+};
 use std::alloc::{AllocError, Global};
 use std::test::Fail;
 
@@ -50,6 +53,7 @@ fn names(rt: HostRuntime) -> Result<(), Fail> {
     ];
     for (text, wanted) in table {
         assert_eq!(rt; Name::read(alloc, text)?.is_some(), wanted, "{text}");
+        assert_eq!(rt; Name::fits(text), wanted, "{text}");
     }
     for (middle, wanted) in [(60, true), (61, false)] {
         let mut text = String::from_str(alloc, "__")?;
@@ -85,9 +89,26 @@ fn references(rt: HostRuntime) {
         let found = find_reference(text).map(|r| (r.before, r.name, r.rest));
         assert!(rt; found == wanted, "{text}");
     }
+    references_go_on();
 }
 
-// Scope 0 with `__a__`, constant, and scope 1 in it with `__b__`, unset.
+#[test]
+fn references_at_the_front_and_whole_ones(rt: HostRuntime) {
+    let table = [
+        ("__a__:value", Some(5), Some("__a__")),
+        ("__a__:value ", Some(5), None),
+        (" __a__:value", None, None),
+        ("__a__", None, None),
+        ("__a___:value", Some(6), Some("__a___")),
+        (":value", None, None),
+    ];
+    for (text, len, name) in table {
+        assert!(rt; leading_reference(text.as_bytes()) == len, "{text}");
+        assert!(rt; whole_reference(text) == name, "{text}");
+    }
+}
+
+// Scope 0 with `__a__`, constant, and scope 1 in it with `__b__`, unset, and `__c__`, constant.
 fn two_scopes(alloc: Global) -> Result<Scopes, Fail>
     ensures { IfOk result (λ scopes. length scopes.scopes ≡ 2) }
 {
@@ -95,6 +116,7 @@ fn two_scopes(alloc: Global) -> Result<Scopes, Fail>
     outer.insert(declare(alloc, "__a__", Some("1"), true)?)?;
     let mut inner = Vars::new(alloc);
     inner.insert(declare(alloc, "__b__", None, false)?)?;
+    inner.insert(declare(alloc, "__c__", Some("6"), true)?)?;
     let mut scopes = Scopes::new(alloc);
     scopes.open_scope(None, outer)?;
     scopes.open_scope(Some(0), inner)?;
@@ -118,10 +140,10 @@ fn declarations_in_order(rt: HostRuntime) -> Result<(), Fail> {
 fn refused_writes(rt: HostRuntime) -> Result<(), Fail> {
     let alloc = rt.alloc();
     let mut scopes = two_scopes(alloc)?;
-    let (a, c) = (name(alloc, "__a__")?, name(alloc, "__c__")?);
+    let (a, d) = (name(alloc, "__a__")?, name(alloc, "__d__")?);
     let refused = scopes.write(1, &a, Word::new(alloc, "2")?);
     assert!(rt; refused == Err(ScopeError::Constant));
-    let refused = scopes.write(1, &c, Word::new(alloc, "2")?);
+    let refused = scopes.write(1, &d, Word::new(alloc, "2")?);
     assert!(rt; refused == Err(ScopeError::Unknown));
     let refused = scopes.bind(1, &a, Word::new(alloc, "2")?);
     assert!(rt; refused == Err(ScopeError::Unknown));
@@ -140,6 +162,57 @@ fn bound_and_written(rt: HostRuntime) -> Result<(), Fail> {
     scopes.write(1, &b, Word::new(alloc, "3")?)?;
     scopes.write(1, &b, Word::new(alloc, "4")?)?;
     assert_eq!(rt; value(&scopes, 1, &b), "4");
+    writes_one_value();
+    Ok(())
+}
+
+#[test]
+fn an_empty_text_is_a_value(rt: HostRuntime) -> Result<(), Fail> {
+    let alloc = rt.alloc();
+    let mut scopes = two_scopes(alloc)?;
+    let b = name(alloc, "__b__")?;
+    scopes.write(1, &b, Word::new(alloc, "")?)?;
+    assert_eq!(rt; value(&scopes, 1, &b), "");
+    Ok(())
+}
+
+#[test]
+fn a_constant_of_an_inner_scope_is_bound(rt: HostRuntime) -> Result<(), Fail> {
+    let alloc = rt.alloc();
+    let mut scopes = two_scopes(alloc)?;
+    let c = name(alloc, "__c__")?;
+    assert_eq!(rt; value(&scopes, 1, &c), "6");
+    assert!(rt; scopes.write(1, &c, Word::new(alloc, "7")?) == Err(ScopeError::Constant));
+    scopes.bind(1, &c, Word::new(alloc, "7")?)?;
+    assert_eq!(rt; value(&scopes, 1, &c), "7");
+    assert_eq!(rt; value(&scopes, 0, &c), "(unset)");
+    Ok(())
+}
+
+// Scope 0 with `__a__` as 1, and scope 1 in it with `__a__` as 2.
+fn one_name_twice(alloc: Global) -> Result<Scopes, Fail>
+    ensures { IfOk result (λ scopes. length scopes.scopes ≡ 2) }
+{
+    let mut outer = Vars::new(alloc);
+    outer.insert(declare(alloc, "__a__", Some("1"), false)?)?;
+    let mut inner = Vars::new(alloc);
+    inner.insert(declare(alloc, "__a__", Some("2"), false)?)?;
+    let mut scopes = Scopes::new(alloc);
+    scopes.open_scope(None, outer)?;
+    scopes.open_scope(Some(0), inner)?;
+    Ok(scopes)
+}
+
+#[test]
+fn an_inner_declaration_hides_the_outer_one(rt: HostRuntime) -> Result<(), Fail> {
+    let alloc = rt.alloc();
+    let mut scopes = one_name_twice(alloc)?;
+    let a = name(alloc, "__a__")?;
+    assert_eq!(rt; value(&scopes, 1, &a), "2");
+    scopes.write(1, &a, Word::new(alloc, "3")?)?;
+    assert_eq!(rt; value(&scopes, 1, &a), "3");
+    assert_eq!(rt; value(&scopes, 0, &a), "1");
+    scopes_open();
     Ok(())
 }
 
@@ -157,8 +230,21 @@ fn lists_of_names(rt: HostRuntime) -> Result<(), Fail> {
 #[test]
 fn kinds(rt: HostRuntime) -> Result<(), Fail> {
     let alloc = rt.alloc();
-    assert!(rt; Kind::read(alloc, "ipv4-addr")? == Kind::Ipv4Addr);
-    assert!(rt; Kind::read(alloc, "hexstring")? == Kind::Hexstring);
+    let table = [
+        ("string", Kind::String),
+        ("bool", Kind::Bool),
+        ("integer", Kind::Integer),
+        ("long", Kind::Long),
+        ("ipv4-addr", Kind::Ipv4Addr),
+        ("ipv6-addr", Kind::Ipv6Addr),
+        ("mac-addr", Kind::MacAddr),
+        ("uri", Kind::Uri),
+        ("uuid", Kind::Uuid),
+        ("hexstring", Kind::Hexstring),
+    ];
+    for (text, kind) in table {
+        assert!(rt; Kind::read(alloc, text)? == kind, "{text}");
+    }
     assert!(rt; Kind::read(alloc, "float")? == Kind::Other(Word::new(alloc, "float")?));
     Ok(())
 }

@@ -1,4 +1,4 @@
-//! Names of variables.
+// Names of variables.
 ghost use Rattle.std.specs.Prelude.{◌≡◌, ◌↔◌, IsTrue, IsSome, IfOk, IfSome, nat_eq};
 ghost use Rattle.std.specs.Cmp;
 ghost use Rattle.std.specs.Cmp.Lexicographic.{pointwise, slice_cmp, nat_list_eq_equiv, nat_list_cmp_total, texts_ties, texts_po};
@@ -58,6 +58,13 @@ pub(crate) fn is_name(text: &[u8]) -> bool
 }
 
 impl Name {
+    /// Whether a text is a name. It takes no memory.
+    pub fn fits(text: &str) -> bool
+        ensures { IsTrue result ↔ IsName text.now }
+    {
+        is_name(text.as_bytes())
+    }
+
     /// The name with this text; None where the text is none.
     pub fn read(alloc: Global, text: &str) -> Result<Option<Name>, AllocError>
         ensures grammar { IfOk result (λ found. IsSome found ↔ IsName text.now) }

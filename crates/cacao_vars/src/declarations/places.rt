@@ -1,4 +1,4 @@
-//! Where a declaration belongs.
+// Where a declaration belongs.
 ghost use Rattle.std.specs.Prelude.{◌≡◌, ◌≤◌, length, insert};
 ghost use Rattle.std.specs.Option.{option_copied};
 ghost use Rattle.cacao_vars.specs.declared.declarations.Var.{Var};

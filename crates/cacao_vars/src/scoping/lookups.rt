@@ -1,4 +1,4 @@
-//! Look-ups along the scopes.
+// Look-ups along the scopes.
 ghost use Rattle.std.specs.Prelude.{◌≡◌, ◌↔◌, ◌<◌, IsTrue, IfSome, is_some, length};
 ghost use Rattle.std.specs.Option.{option_copied};
 ghost use Rattle.cacao_vars.specs.Scopes.{HasParentsBefore, parent_of, home, declaration, last_write, IsConstant};
