@@ -11,7 +11,7 @@ use Rattle.cacao_cond.specs.declared.errors.CondError.TheVariants.{Grammar, Memo
 use Rattle.cacao_cond.specs.declared.trees.Constant.{Constant}
 use Rattle.cacao_cond.specs.declared.trees.Constant.TheVariants.{Text}
 use Rattle.cacao_cond.specs.Trees.{AllTree, PrimeTree}
-use Rattle.cacao_cond.specs.Reading.{Fails, begins, reference_at, text_of, comparison_at, behind, behind_joint, skipped, constant_at, constants_at, any_at, all_at, prime_at}
+use Rattle.cacao_cond.specs.Reading.{Fails, begins, text_of, named_at, behind, behind_joint, skipped, constant_at, constants_at, any_at, all_at, prime_at}
 use Rattle.cacao_cond.proofs.Steps.{both}
 
 -- an error is passed on
@@ -19,12 +19,12 @@ pub err_through : {Y W : Type 0} (e : CondError) (inner : Option Y) (outer : Opt
 err_through Grammar inner outer g f = f g
 err_through Memory inner outer g f = tt
 
--- a reference, and what follows it
-pub prime_is : (n : ℕ) (text name rest : List ℕ) → (n ≡ 0 → ⊥) → begins 40 text ≡ false → Some (name, rest) ≡ reference_at text → prime_at n text ≡ comparison_at (n - 1) (name, rest)
-prime_is zero text name rest h b r = absurd (h refl)
-prime_is (suc n) text name rest h b r =
+-- what begins with no parenthesis is a comparison
+pub prime_named : (n : ℕ) (text : List ℕ) → (n ≡ 0 → ⊥) → begins 40 text ≡ false → prime_at n text ≡ named_at (n - 1) text
+prime_named zero text h b = absurd (h refl)
+prime_named (suc n) text h b =
     let less : suc n - 1 ≡ n = omega arith in
-    rw b (rw (← r) (ap (λ k. comparison_at k (name, rest)) (sym less)))
+    rw b (ap (λ k. named_at k text) (sym less))
 
 -- characters that are a text, and others
 pub text_yes : (items rest word : List ℕ) → word ≡ items → IsUtf8 word → text_of (items, rest) ≡ Some (Text word, rest)

@@ -1,6 +1,6 @@
 -- The names of a condition.
-use Rattle.std.specs.Prelude.{ℕ, List, [], ◌∷◌, ◌++◌, if◌then◌else◌}
-use Rattle.std.specs.List.{list_any}
+use Rattle.std.specs.Prelude.{◌≢◌, ◌↔◌, ℕ, List, [], ◌∷◌, ◌++◌, Contains, if◌then◌else◌}
+use Rattle.std.specs.List.{AllPairs, list_any}
 use Rattle.std.specs.Str.{bytes_eq}
 use Rattle.cacao_cond.specs.Trees.{AnyTree, AllTree, PrimeTree}
 use Rattle.cacao_cond.specs.Trees.AnyTree.{last_part, or_else}
@@ -21,6 +21,14 @@ abbrev mutual
   named_prime (group any) = named any
   named_prime (compared name op constant) = name ∷ []
   named_prime (among name constants) = name ∷ []
+
+-- no name stands in the list twice
+abbrev pub HasNoTwin : List (List ℕ) → Type 0
+HasNoTwin names = AllPairs (λ name later. name ≢ later) names
+
+-- the list has exactly the names of the condition
+abbrev pub HasNamesOf : AnyTree → List (List ℕ) → Type 0
+HasNamesOf tree names = (name : List ℕ) → Contains names name ↔ Contains (named tree) name
 
 -- a list with one more name, unless it is there
 abbrev pub with_name : List (List ℕ) → List ℕ → List (List ℕ)

@@ -127,6 +127,26 @@ among_at n name text = opening_at text >>= λ a. constants_at n a >>= λ list. b
 abbrev pub comparison_at : ℕ → List ℕ × List ℕ → Option (PrimeTree × List ℕ)
 comparison_at n name = option_map_or (λ op. compared_at name.0 op.0 op.1) (op_at (skipped name.1)) (among_at n name.0 name.1)
 
+-- behind a part: `OR` and others, or nothing more
+abbrev pub or_behind : (List ℕ → Option (AnyTree × List ℕ)) → AllTree × List ℕ → Option (AnyTree × List ℕ)
+or_behind read first =
+    option_map_or (λ rest. read rest >>= λ others. Some (or_else first.0 others.0, others.1))
+    (behind_joint (codes "OR") first.1) (Some (last_part first.0, first.1))
+
+-- behind a part: `AND` and others, or nothing more
+abbrev pub and_behind : (List ℕ → Option (AllTree × List ℕ)) → PrimeTree × List ℕ → Option (AllTree × List ℕ)
+and_behind read first =
+    option_map_or (λ rest. read rest >>= λ others. Some (and_also first.0 others.0, others.1))
+    (behind_joint (codes "AND") first.1) (Some (last_prime first.0, first.1))
+
+-- behind a condition in parentheses: the closing one
+abbrev pub group_behind : AnyTree × List ℕ → Option (PrimeTree × List ℕ)
+group_behind inner = behind (codes ")") (skipped inner.1) >>= λ rest. Some (group inner.0, rest)
+
+-- a comparison, from its name on
+abbrev pub named_at : ℕ → List ℕ → Option (PrimeTree × List ℕ)
+named_at n text = reference_at text >>= comparison_at n
+
 abbrev mutual
   pub any_at : ℕ → List ℕ → Option (AnyTree × List ℕ)
   any_at zero text = None

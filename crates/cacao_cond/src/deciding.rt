@@ -1,4 +1,4 @@
-//! The values by which conditions are decided.
+// The values by which conditions are decided.
 ghost use Rattle.std.specs.Prelude.{◌≡◌, ◌++◌, [], ◌∷◌, OnOk, OnErr, Option, option_map};
 ghost use Rattle.cacao_cond.specs.Worths.{worth_of, whole_worth, flag_worth, value_of};
 

@@ -1,4 +1,4 @@
-//! Why a condition was not read.
+// Why a condition was not read.
 ghost use Rattle.std.specs.Prelude.{◌≡◌};
 ghost use Rattle.cacao_cond.specs.declared.errors.CondError.TheVariants.{Memory};
 

@@ -1,9 +1,9 @@
-//! The names of conditions.
+// The names of conditions.
 ghost use Rattle.std.specs.Prelude.{◌≡◌, [], ◌∷◌, ◌++◌, IfOk, OnOk, IsTrue};
 ghost use Rattle.std.specs.List.{list_any};
 ghost use Rattle.std.specs.Str.{bytes_eq};
 ghost use Rattle.cacao_cond.specs.Trees.{tree_of, all_of_tree, prime_tree};
-ghost use Rattle.cacao_cond.specs.Names.{named, named_all, named_prime, with_name, with_names};
+ghost use Rattle.cacao_cond.specs.Names.{named, named_all, named_prime, with_name, with_names, HasNoTwin, HasNamesOf};
 
 use crate::trees::{AllOf, Cond, Prime};
 use cacao_vars::{Name, Names};
@@ -24,8 +24,17 @@ fn add_name(name: &Name, names: &mut Names) -> Result<(), AllocError>
     names.push(name.clone()?)
 }
 
-/// The names of a condition in the order in which they first stand, each once.
+/// The names of a condition, each once.
 pub fn names(alloc: Global, cond: &Cond) -> Result<Names, AllocError>
+    ensures once { IfOk result HasNoTwin }
+    ensures exact { IfOk result (HasNamesOf (tree_of cond.now)) }
+    // In the order in which they first stand.
+    ensures listed { IfOk result (λ names. names ≡ with_names [] (named (tree_of cond.now))) }
+{
+    names_in_order(alloc, cond)
+}
+
+fn names_in_order(alloc: Global, cond: &Cond) -> Result<Names, AllocError>
     ensures { IfOk result (λ names. names ≡ with_names [] (named (tree_of cond.now))) }
 {
     let mut found = Names::new(alloc);

@@ -1,4 +1,4 @@
-//! Conditions as texts.
+// Conditions as texts.
 ghost use Rattle.std.specs.Prelude.{◌≡◌, ◌++◌, [], ◌∷◌, IfOk, OnOk, codes};
 ghost use Rattle.cacao_vars.specs.Names.{IsName};
 ghost use Rattle.cacao_cond.specs.Grammar.{Spells, escaped};

@@ -1,8 +1,8 @@
-//! The reader of conditions.
+// The reader of conditions.
 ghost use Rattle.std.specs.Prelude.{◌≡◌, false, ◌*◌, ◌≤◌, ◌<◌, ◌↔◌, Some, None, IfOk, IsErrOf, length};
 ghost use Rattle.cacao_cond.specs.Trees.{AnyTree, constants_of, tree_of, all_of_tree, prime_tree};
 ghost use Rattle.cacao_cond.specs.Grammar.{Spells};
-ghost use Rattle.cacao_cond.specs.Reading.{Gives, quoted, text_of, constant_at, constants_at, compared_at, among_at, comparison_at, any_at, all_at, prime_at, condition_at};
+ghost use Rattle.cacao_cond.specs.Reading.{Gives, quoted, text_of, constant_at, constants_at, compared_at, among_at, comparison_at, or_behind, and_behind, group_behind, named_at, any_at, all_at, prime_at, condition_at};
 ghost use Rattle.cacao_vars.specs.Names.{IsName};
 
 use crate::errors::CondError;
@@ -86,6 +86,9 @@ fn read_constants(
     }
 }
 
+// A text of 2,048 bytes can open 2,048 parentheses, and the stack is 8 MiB. So each function on the way into a parenthesis
+// calls the next one and hands what it read to another function, and keeps little on the stack meanwhile.
+
 // One or more parts with `OR` between them.
 #[cycle(reading)]
 fn read_any(alloc: Global, levels: usize, text: &[u8]) -> Result<(Cond, &[u8]), CondError>
@@ -95,10 +98,23 @@ fn read_any(alloc: Global, levels: usize, text: &[u8]) -> Result<(Cond, &[u8]), 
         return Err(CondError::Grammar);
     }
     let (first, rest) = read_all(alloc, levels - 1, text)?;
-    match tokens::behind_connective(b"OR", rest) {
-        None => Ok((Cond::Last(first), rest)),
+    read_or(alloc, levels - 1, first, rest)
+}
+
+// Behind a part: `OR` and others, or nothing more.
+#[cycle(reading)]
+fn read_or(
+    alloc: Global,
+    levels: usize,
+    first: AllOf,
+    text: &[u8],
+) -> Result<(Cond, &[u8]), CondError>
+    ensures { Gives (λ r. (tree_of r.0, r.1.now)) result (or_behind (any_at levels) (all_of_tree first, text.now)) }
+{
+    match tokens::behind_connective(b"OR", text) {
+        None => Ok((Cond::Last(first), text)),
         Some(rest) => {
-            let (others, rest) = read_any(alloc, levels - 1, rest)?;
+            let (others, rest) = read_any(alloc, levels, rest)?;
             Ok((Cond::Or(first, Box::new(alloc, others)?), rest))
         }
     }
@@ -113,10 +129,23 @@ fn read_all(alloc: Global, levels: usize, text: &[u8]) -> Result<(AllOf, &[u8]),
         return Err(CondError::Grammar);
     }
     let (first, rest) = read_prime(alloc, levels - 1, text)?;
-    match tokens::behind_connective(b"AND", rest) {
-        None => Ok((AllOf::Last(first), rest)),
+    read_and(alloc, levels - 1, first, rest)
+}
+
+// Behind a part: `AND` and others, or nothing more.
+#[cycle(reading)]
+fn read_and(
+    alloc: Global,
+    levels: usize,
+    first: Prime,
+    text: &[u8],
+) -> Result<(AllOf, &[u8]), CondError>
+    ensures { Gives (λ r. (all_of_tree r.0, r.1.now)) result (and_behind (all_at levels) (prime_tree first, text.now)) }
+{
+    match tokens::behind_connective(b"AND", text) {
+        None => Ok((AllOf::Last(first), text)),
         Some(rest) => {
-            let (others, rest) = read_all(alloc, levels - 1, rest)?;
+            let (others, rest) = read_all(alloc, levels, rest)?;
             Ok((AllOf::And(first, Box::new(alloc, others)?), rest))
         }
     }
@@ -132,13 +161,27 @@ fn read_prime(alloc: Global, levels: usize, text: &[u8]) -> Result<(Prime, &[u8]
     }
     if tokens::begins_with(b'(', text) {
         let (inner, rest) = read_any(alloc, levels - 1, tokens::skip(&text[1..]))?;
-        return match tokens::behind_word(b")", tokens::skip(rest)) {
-            Some(rest) => Ok((Prime::Group(Box::new(alloc, inner)?), rest)),
-            None => Err(CondError::Grammar),
-        };
+        return close(alloc, inner, rest);
     }
+    read_named(alloc, levels - 1, text)
+}
+
+// Behind a condition in parentheses: the closing one.
+fn close(alloc: Global, inner: Cond, text: &[u8]) -> Result<(Prime, &[u8]), CondError>
+    ensures { Gives (λ r. (prime_tree r.0, r.1.now)) result (group_behind (tree_of inner, text.now)) }
+{
+    match tokens::behind_word(b")", tokens::skip(text)) {
+        Some(rest) => Ok((Prime::Group(Box::new(alloc, inner)?), rest)),
+        None => Err(CondError::Grammar),
+    }
+}
+
+// A comparison, from its name on.
+fn read_named(alloc: Global, levels: usize, text: &[u8]) -> Result<(Prime, &[u8]), CondError>
+    ensures { Gives (λ r. (prime_tree r.0, r.1.now)) result (named_at levels text.now) }
+{
     match tokens::reference(text) {
-        Some((name, rest)) => read_comparison(alloc, levels - 1, name, rest),
+        Some((name, rest)) => read_comparison(alloc, levels, name, rest),
         None => Err(CondError::Grammar),
     }
 }
@@ -150,11 +193,12 @@ pub fn read_cond(alloc: Global, text: &[u8]) -> Result<Cond, CondError>
     ensures spelled { IfOk result (λ cond. Spells (tree_of cond) text.now) }
     ensures grammar { IsErrOf result CondError.Grammar → (tree : AnyTree) → ¬ (Spells tree text.now) }
     ensures only { (tree : AnyTree) → Spells tree text.now → IfOk result (λ cond. tree_of cond ≡ tree) }
-    ensures reading { Gives tree_of result (condition_at (3 * length text.now) text.now) }
 {
     read_condition(alloc, text)
 }
 
+// The same by the steps of `Reading`. The calls count down from three times the length, which is enough for each text of
+// the grammar.
 fn read_condition(alloc: Global, text: &[u8]) -> Result<Cond, CondError>
     requires { length text.now ≤ 2048 }
     ensures { Gives tree_of result (condition_at (3 * length text.now) text.now) }

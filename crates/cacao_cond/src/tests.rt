@@ -1,4 +1,4 @@
-//! Rows whose answers are known from outside.
+// Rows whose answers are known from outside.
 use crate::{Atom, Cond, CondError, Values, names, print_cond, read_cond, truth, value_of};
 use cacao_vars::{Kind, Name};
 use std::alloc::Global;
@@ -58,20 +58,45 @@ fn texts_of_the_grammar(rt: HostRuntime) -> Result<(), Fail> {
     Ok(())
 }
 
+// So many opening parentheses, a comparison of 13 bytes, and so many closing ones.
+fn nested(alloc: Global, opening: u32, closing: u32) -> Result<String, Fail> {
+    let mut text = String::new(alloc);
+    for _ in 0..opening {
+        text.push('(')?;
+    }
+    text.push_str("__a__:value=1")?;
+    for _ in 0..closing {
+        text.push(')')?;
+    }
+    Ok(text)
+}
+
 #[test]
 fn a_thousand_parentheses(rt: HostRuntime) -> Result<(), Fail> {
     let alloc = rt.alloc();
-    for (closing, wanted) in [(1000, true), (999, false)] {
-        let mut text = String::new(alloc);
-        for _ in 0..1000 {
-            text.push('(')?;
-        }
-        text.push_str("__a__:value = 1")?;
-        for _ in 0..closing {
-            text.push(')')?;
-        }
-        assert_eq!(rt; read(alloc, text.as_str())?.is_some(), wanted, "{closing}");
+    let table = [(1000, 1000, true), (1000, 999, false), (2035, 0, false)];
+    for (opening, closing, wanted) in table {
+        let text = nested(alloc, opening, closing)?;
+        assert_eq!(rt;
+            read(alloc, text.as_str())?.is_some(),
+            wanted,
+            "{opening} {closing}"
+        );
     }
+    Ok(())
+}
+
+#[test]
+fn the_most_parentheses_of_a_condition(rt: HostRuntime) -> Result<(), Fail> {
+    let alloc = rt.alloc();
+    let text = nested(alloc, 1017, 1017)?;
+    let cond = read(alloc, text.as_str())?.ok_or("no condition")?;
+    let a = name(alloc, "__a__")?;
+    let mut values = Values::new(alloc);
+    values.push(&a, Atom::Whole(1))?;
+    assert!(rt; truth(&cond, &values));
+    assert_eq!(rt; names(alloc, &cond)?.as_slice().len(), 1);
+    assert_eq!(rt; print_cond(alloc, &cond)?.as_slice().len(), 2049);
     Ok(())
 }
 
@@ -107,6 +132,8 @@ struct Names {
     a: Name,
     flag: Name,
     none: Name,
+    low: Name,
+    yes: Name,
 }
 
 impl Names {
@@ -119,6 +146,8 @@ impl Names {
         values.push(&self.a, Atom::Text("11"))?;
         values.push(&self.flag, Atom::Flag(false))?;
         values.push(&self.none, Atom::Unset)?;
+        values.push(&self.low, Atom::Whole(-2))?;
+        values.push(&self.yes, Atom::Text("true"))?;
         Ok(values)
     }
 }
@@ -131,12 +160,16 @@ fn truths(rt: HostRuntime) -> Result<(), Fail> {
     let a = name(alloc, "__a__")?;
     let flag = name(alloc, "__flag__")?;
     let none = name(alloc, "__none__")?;
+    let low = name(alloc, "__low__")?;
+    let yes = name(alloc, "__yes__")?;
     let names = Names {
         severity,
         host,
         a,
         flag,
         none,
+        low,
+        yes,
     };
     let values = names.values(alloc)?;
     let table = [
@@ -158,6 +191,12 @@ fn truths(rt: HostRuntime) -> Result<(), Fail> {
         ("__severity__:value >= 8", true),
         ("__severity__:value <= 8", true),
         ("__severity__:value > -2", true),
+        ("__low__:value < 1", true),
+        ("__low__:value > 1", false),
+        ("__low__:value = -2", true),
+        ("__yes__:value = true", true),
+        ("__yes__:value > true", false),
+        ("__severity__:value = 8 OR __a__:value = 1", true),
         ("__severity__:value IN (7, 8)", true),
         ("__severity__:value = 8 AND __a__:value = 1", false),
         ("__severity__:value = 7 OR __a__:value = 1", false),

@@ -1,4 +1,4 @@
-//! The parts of a condition that take no memory, read from the left.
+// The parts of a condition that take no memory, read from the left.
 ghost use Rattle.std.specs.Prelude.{◌≡◌, ◌+◌, ◌≤◌, ◌^◌, ◌<◌, ◌≢◌, ◌↔◌, ℕ, Some, None, IfSome, IsTrue, MatchOption, OnSome, length, take, drop, option_map};
 ghost use Rattle.std.specs.Option.{option_copied};
 ghost use Rattle.cacao_vars.specs.Names.{IsName};

@@ -1,4 +1,4 @@
-//! Conditions as trees.
+// Conditions as trees.
 use cacao_vars::{Name, Word};
 
 /// The operator of a comparison.

@@ -1,4 +1,4 @@
-//! How conditions are decided.
+// How conditions are decided.
 ghost use Rattle.std.specs.Prelude.{◌≡◌};
 ghost use Rattle.std.specs.Fmt.{signed_decimal};
 ghost use Rattle.std.specs.Str.{bytes_eq};

@@ -1,4 +1,4 @@
-//! Looking for a name among values.
+// Looking for a name among values.
 ghost use Rattle.std.specs.Prelude.{◌≡◌, option_map};
 ghost use Rattle.cacao_cond.specs.Listed.{listed};
 ghost use Rattle.cacao_cond.specs.Worths.{worth_of};
