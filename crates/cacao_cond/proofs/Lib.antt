@@ -6,3 +6,4 @@ pub mod Again
 pub mod NameLemmas
 pub mod Printed
 pub mod ListedLemmas
+pub mod PartLemmas

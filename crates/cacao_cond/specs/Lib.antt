@@ -6,3 +6,4 @@ pub mod Names
 pub mod Printing
 pub mod Worths
 pub mod Listed
+pub mod Parts

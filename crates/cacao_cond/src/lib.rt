@@ -13,7 +13,7 @@ mod truths;
 
 pub use deciding::{Atom, Values, value_of};
 pub use errors::CondError;
-pub use laws::spells_at_most_one;
+pub use laws::{conditions_are_lists, spells_at_most_one};
 pub use naming::names;
 pub use printing::{CondText, print_cond};
 pub use reading::read_cond;
