@@ -18,8 +18,8 @@ colon_at Inside b = 0
 colon_at Escaped b = 0
 
 abbrev pub colons_from : Position → List ℕ → ℕ
-colons_from place [] = 0
-colons_from place (b ∷ bs) = colon_at place b + colons_from (next_position place b) bs
+colons_from position [] = 0
+colons_from position (b ∷ bs) = colon_at position b + colons_from (next_position position b) bs
 
 -- the colons outside strings
 abbrev pub colons : List ℕ → ℕ
