@@ -13,6 +13,7 @@ pub record IsReadUpTo (file size blocks : ℕ) (old new : SiteView) (image : Lis
   pub rest : SameRest old new
   pub calls : new.disk.calls ≤ old.disk.calls + blocks
   pub bytes : new.disk.written ≤ old.disk.written
+  pub faults : new.disk.faults ≡ old.disk.faults
   pub low : length image ≤ end
   pub high : end ≤ size
   pub is : IsTrue old.disk.told → size ≡ length (old.disk.reads file) → (end ≡ size) × (image ≡ take (4096 * blocks) (old.disk.reads file))

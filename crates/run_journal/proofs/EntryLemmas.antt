@@ -5,7 +5,7 @@ use Rattle.std.proofs.lemmas.List.Elements.{All-nil, All-push}
 use Rattle.cacao_site.specs.View.{DiskView}
 use Rattle.cacao_site.specs.DiskCalls.{IsLeft, EachBeat, AllLeft}
 use Rattle.cacao_site.proofs.Beats.{each-weaken, each-now}
-use Rattle.run_journal.specs.Layout.{header, length_field, entries, front, IsClosed, HasOpened, IsClosedOrOpened, HasLayout, IsWithin, BeforeOrAfter, block_for, length_of, Entries, IsShort, most_entry}
+use Rattle.run_journal.specs.Layout.{header, length_field, entries, front, IsClosed, HasOpened, IsClosedOrOpened, HasLayout, IsWithin, BeforeOrAfter, block_for, length_of, Entries, IsEntry, most_entry}
 
 pub entries-push : (items : List (List ℕ)) (item : List ℕ) → entries (items ++ item ∷ []) ≡ entries items ++ 1 ∷ (length_field (length item) ++ item)
 unfolding entries
@@ -40,8 +40,8 @@ opened_is items item image has =
           ∙ ap (λ (l : List ℕ). l ++ 0 ∷ has.0) (sym (front-push items item));
     }
 
-pub opened_layout : (items : List (List ℕ)) (item image : List ℕ) → All IsShort items → IsShort item → IsWithin image → HasOpened (front items) (block_for item) image → HasLayout (items ++ item ∷ []) image
-opened_layout items item image short fits within has = record { short = All-push IsShort items item short fits; closed = opened_is items item image has; within = within }
+pub opened_layout : (items : List (List ℕ)) (item image : List ℕ) → All IsEntry items → IsEntry item → IsWithin image → HasOpened (front items) (block_for item) image → HasLayout (items ++ item ∷ []) image
+opened_layout items item image short fits within has = record { short = All-push IsEntry items item short fits; closed = opened_is items item image has; within = within }
 
 each-both : {a b : DiskView} {file : ℕ} {P Q : List ℕ → Type 0} → EachBeat file a b P → EachBeat file a b Q → EachBeat file a b (λ image. P image × Q image)
 each-both p q = record {
@@ -50,7 +50,7 @@ each-both p q = record {
 }
 
 -- what holds of the blocks holds of the lists, where the file and the block are told by equations
-module _ (a b : DiskView) (file inside_file gate : ℕ) (items : List (List ℕ)) (item block : List ℕ) (file_is : inside_file ≡ file) (size : length (front items) ≡ gate) (block_is : block ≡ block_for item) (short : All IsShort items) (fits : IsShort item) (ready : AllLeft file a (HasLayout items)) where
+module _ (a b : DiskView) (file inside_file gate : ℕ) (items : List (List ℕ)) (item block : List ℕ) (file_is : inside_file ≡ file) (size : length (front items) ≡ gate) (block_is : block ≡ block_for item) (short : All IsEntry items) (fits : IsEntry item) (ready : AllLeft file a (HasLayout items)) where
   closed : AllLeft inside_file a (IsClosed (front items))
   closed told image left = (ready told image (subst (λ f. IsLeft a f a.beat image) file_is left)).closed
 
@@ -86,12 +86,12 @@ field_of a b c d p q r s =
 -- before the first entry
 pub entries_none : (bytes : List ℕ) → Entries bytes [] bytes
 unfolding entries
-entries_none bytes = record { short = All-nil IsShort; is = refl }
+entries_none bytes = record { short = All-nil IsEntry; is = refl }
 
 -- one entry more
 pub entries_more : (bytes : List ℕ) (items : List (List ℕ)) (rest item after : List ℕ) → Entries bytes items rest → length item ≤ most_entry → rest ≡ 1 ∷ length_field (length item) ++ item ++ after → Entries bytes (items ++ item ∷ []) after
 entries_more bytes items rest item after so_far short is = record {
-  short = All-push IsShort items item so_far.short short;
+  short = All-push IsEntry items item so_far.short short;
   is =
       so_far.is ∙ ap (λ (l : List ℕ). entries items ++ l) is
       ∙ sym (append_assoc (entries items) (1 ∷ (length_field (length item) ++ item)) after)

@@ -5,12 +5,12 @@ use Rattle.std.proofs.lemmas.List.Elements.{All-nil}
 use Rattle.cacao_site.proofs.Beats.{each-weaken}
 use Rattle.cacao_site.specs.DiskCalls.{IsLeft, IsDurable, EachBeat, AllLeft, TornSince, Written}
 use Rattle.cacao_site.specs.View.{DiskView}
-use Rattle.run_journal.specs.Layout.{header, length_field, entries, front, Entries, HasLayout, IsShort, Stands}
+use Rattle.run_journal.specs.Layout.{header, length_field, entries, front, Entries, HasLayout, IsEntry, Stands}
 
 -- the header and a closed gate
 pub blank_layout : (image : List ℕ) → image ≡ header ++ 0 ∷ [] → HasLayout [] image
 unfolding front entries
-blank_layout image is = record { short = All-nil IsShort; closed = record { gate = 0; rest = []; shut = omega arith; is = is }; within = omega (arith, ap length is) }
+blank_layout image is = record { short = All-nil IsEntry; closed = record { gate = 0; rest = []; shut = omega arith; is = is }; within = omega (arith, ap length is) }
 
 -- while it is written, where the file and the list are told by equations
 module _ (a b : DiskView) (file inside_file : ℕ) (items : List (List ℕ)) (file_is : inside_file ≡ file) (blank : items ≡ []) (short : AllLeft file a (λ image. length image ≤ 9)) where

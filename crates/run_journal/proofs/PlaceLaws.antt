@@ -6,7 +6,7 @@ use Rattle.std.proofs.Math.Seq.{take-suc}
 use Rattle.std.proofs.lemmas.List.Elements.{All-nil, All-drop, All-cons}
 use Rattle.std.proofs.Math.ListN.{get_or-append}
 use Rattle.run_journal.specs.Laws.{LayoutStands, OnePlace, StandsOrDamaged}
-use Rattle.run_journal.specs.Layout.{header, entries, front, length_field, length_of, most_entry, most_image, IsShort, IsBroken, BreaksAt}
+use Rattle.run_journal.specs.Layout.{header, entries, front, length_field, length_of, most_entry, most_image, IsEntry, IsBroken, BreaksAt}
 use Rattle.run_journal.proofs.Headers.{count-le}
 use Rattle.run_journal.proofs.EntryLemmas.{field_of}
 use Rattle.run_journal.proofs.LayoutLaws.{behind_header, no_entry_broken}
@@ -76,13 +76,13 @@ first_differs (suc n) xs ys p q = elim (first_differs n xs ys (omega arith) (ome
 record Parsed (bytes : List ℕ) : Type 0 where
   items : List (List ℕ)
   rest : List ℕ
-  short : All IsShort items
+  short : All IsEntry items
   is : bytes ≡ entries items ++ rest
   ends : IsBroken rest ⊎ ((gate : ℕ) × (behind : List ℕ) × (rest ≡ gate ∷ behind) × (gate ≢ 1))
 
 at_once : (bytes : List ℕ) → IsBroken bytes ⊎ ((gate : ℕ) × (behind : List ℕ) × (bytes ≡ gate ∷ behind) × (gate ≢ 1)) → Parsed bytes
 unfolding entries
-at_once bytes ends = record { items = []; rest = bytes; short = All-nil IsShort; is = refl; ends = ends }
+at_once bytes ends = record { items = []; rest = bytes; short = All-nil IsEntry; is = refl; ends = ends }
 
 -- a whole entry in front
 with_entry : (a b c d : ℕ) (after : List ℕ) → a < 256 → b < 256 → c < 256 → d < 256 → length_of a b c d ≤ most_entry → length_of a b c d ≤ length after
@@ -98,7 +98,7 @@ with_entry a b c d after pa pb pc pd low whole p =
     record {
       items = item ∷ p.items;
       rest = p.rest;
-      short = All-cons IsShort item p.items (omega (arith, len)) p.short;
+      short = All-cons IsEntry item p.items (omega (arith, len)) p.short;
       is = ap (λ (l : List ℕ). 1 ∷ a ∷ b ∷ c ∷ d ∷ l) body ∙ ap (λ (f : List ℕ). (((1 ∷ f) ++ item) ++ entries p.items) ++ p.rest) (sym field);
       ends = p.ends;
     }

@@ -2,7 +2,7 @@
 use Rattle.std.specs.Prelude.{◌≡◌, ◌+◌, ◌<◌, ◌≤◌, All, [], false, length, vec_len, vec_capacity}
 use Rattle.run_journal.specs.declared.journal.Journal.TheInside.{Inside}
 use Rattle.run_journal.specs.JournalView.{JournalView}
-use Rattle.run_journal.specs.Layout.{front, IsShort, most_image}
+use Rattle.run_journal.specs.Layout.{front, IsEntry, most_image}
 
 abbrev pub journal_view : Inside → JournalView
 journal_view a = record { file = a.file; items = a.items.items; broken = a.broken; prepared = a.prepared; spare = a.spare }
@@ -11,7 +11,7 @@ pub record IsKept (a : Inside) : Type 0 where
   pub file : a.file ≤ 16
   pub gate : a.gate ≡ length (front a.items.items)
   pub fits : a.gate < most_image
-  pub short : All IsShort a.items.items
+  pub short : All IsEntry a.items.items
   pub blank : a.prepared ≡ false → a.items.items ≡ []
   pub item_room : 0 < a.spare → vec_len a.items < vec_capacity a.items
   pub block_room : 0 < a.spare → a.spare + 4 ≤ vec_capacity a.block

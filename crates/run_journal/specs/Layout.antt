@@ -45,8 +45,8 @@ HasOpened start block image = (rest : List ℕ) × (image ≡ start ++ 1 ∷ (bl
 abbrev pub IsClosedOrOpened : List ℕ → List ℕ → List ℕ → Type 0
 IsClosedOrOpened start block image = IsClosed start image ⊎ HasOpened start block image
 
-abbrev pub IsShort : List ℕ → Type 0
-IsShort item = length item ≤ most_entry
+abbrev pub IsEntry : List ℕ → Type 0
+IsEntry item = length item ≤ most_entry
 
 -- the image is no longer than a file may be
 abbrev pub IsWithin : List ℕ → Type 0
@@ -54,7 +54,7 @@ IsWithin image = length image ≤ most_image
 
 -- the header, the entries and a closed gate, in an image that is not too long
 pub record HasLayout (items : List (List ℕ)) (image : List ℕ) : Type 0 where
-  pub short : All IsShort items
+  pub short : All IsEntry items
   pub closed : IsClosed (front items) image
   pub within : IsWithin image
 
@@ -80,14 +80,14 @@ IsBroken (gate ∷ rest) = gate ≡ 1
 
 -- these whole entries, and then this
 pub record Entries (bytes : List ℕ) (items : List (List ℕ)) (rest : List ℕ) : Type 0 where
-  pub short : All IsShort items
+  pub short : All IsEntry items
   pub is : bytes ≡ entries items ++ rest
 
 -- whole entries, and then no whole entry and no closed gate
 pub record BreaksAt (image : List ℕ) (place : ℕ) : Type 0 where
   pub items : List (List ℕ)
   pub rest : List ℕ
-  pub short : All IsShort items
+  pub short : All IsEntry items
   pub is : image ≡ front items ++ rest
   pub at : place ≡ length (front items)
   pub broken : IsBroken rest

@@ -1,5 +1,5 @@
 // A file that is read block after block.
-ghost use Rattle.std.specs.Prelude.{◌≡◌, ◌≢◌, ◌⊎◌, ◌+◌, ◌/◌, ◌≤◌, ℕ, List, length, take, min, IsTrue, IfOk, OnErr, IsErrOf, Err};
+ghost use Rattle.std.specs.Prelude.{◌≡◌, ◌≢◌, ◌⊎◌, ◌+◌, ◌/◌, ◌≤◌, ℕ, List, length, take, min, IsTrue, IfOk, OnOk, OnErr, IsErrOf, Err};
 ghost use Rattle.cacao_site.specs.Counts.{Rose};
 ghost use Rattle.cacao_site.specs.DiskCalls.{GoesOn, StaysAt, SameRest, CallsOn};
 
@@ -28,6 +28,8 @@ pub fn read_blocks<D: Disk>(
     ensures image { IfOk result (λ image. IsTrue (D.view disk.old).disk.told → size ≡ length ((D.view disk.old).disk.reads file)
         → image.items ≡ (D.view disk.old).disk.reads file) }
     ensures disk { IsErrOf result JournalError.Disk → Rose (D.view disk.old).disk.faults (D.view disk.new).disk.faults }
+    ensures faultless { OnOk result ((D.view disk.new).disk.faults ≡ (D.view disk.old).disk.faults) }
+    ensures memory { IsErrOf result JournalError.Memory → (D.view disk.new).disk.faults ≡ (D.view disk.old).disk.faults }
     ensures no_other { OnErr result ((IsErrOf result JournalError.Disk) ⊎ (IsErrOf result JournalError.Memory)) }
 {
     let mut image = Vec::new(alloc);
@@ -58,6 +60,8 @@ fn read_block<D: Disk>(
         → image.old.items ≡ take (length image.old.items) ((D.view disk.old).disk.reads file)
         → (ends ≡ end) × (image.new.items ≡ take (length image.old.items + 4096) ((D.view disk.old).disk.reads file))) }
     ensures disk { IsErrOf result JournalError.Disk → Rose (D.view disk.old).disk.faults (D.view disk.new).disk.faults }
+    ensures faultless { OnOk result ((D.view disk.new).disk.faults ≡ (D.view disk.old).disk.faults) }
+    ensures memory { IsErrOf result JournalError.Memory → (D.view disk.new).disk.faults ≡ (D.view disk.old).disk.faults }
     ensures no_other { OnErr result ((IsErrOf result JournalError.Disk) ⊎ (IsErrOf result JournalError.Memory)) }
 {
     let at = image.len() as u64;

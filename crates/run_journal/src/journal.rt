@@ -1,6 +1,6 @@
 // The entries of one file.
 ghost use Rattle.std.specs.Prelude.{◌≡◌, ◌<◌, ◌≤◌, [], length, take, All, false, true, OnOk, OnErr, IsErrOf, Err, slice_index_or};
-ghost use Rattle.run_journal.specs.Layout.{front, IsShort};
+ghost use Rattle.run_journal.specs.Layout.{front, IsEntry};
 ghost use Rattle.run_journal.specs.JournalView.{JournalView};
 
 use crate::error::JournalError;
@@ -72,7 +72,7 @@ impl Journal {
         requires file { file ≤ 16 }
         requires gate { gate ≡ length (front items.items) }
         requires fits { gate < 67_108_864 }
-        requires short { All IsShort items.items }
+        requires short { All IsEntry items.items }
         ensures { result ≡ record { file = file; items = items.items; broken = false; prepared = true; spare = 0 } }
     {
         Journal {

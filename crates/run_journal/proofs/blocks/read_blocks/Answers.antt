@@ -14,6 +14,7 @@ loop-block-preserved g c = record {
   rest = rest-trans c.loop-block.invariant.rest c.read_block.ensures.rest;
   calls = omega (arith, c.loop-block.invariant.calls, c.read_block.ensures.calls);
   bytes = omega (arith, c.loop-block.invariant.bytes, c.read_block.ensures.bytes);
+  faults = c.in_ok-end.ensures.faultless ∙ c.loop-block.invariant.faults;
   low = c.in_ok-end.ensures.low.0;
   high = omega (arith, c.in_ok-end.ensures.low.1, c.loop-block.invariant.high);
   is = λ told size.

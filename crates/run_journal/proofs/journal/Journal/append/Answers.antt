@@ -4,7 +4,7 @@ use Rattle.std.proofs.lemmas.Bool.{false≢true}
 use Rattle.std.proofs.lemmas.List.Elements.{All-push}
 use Rattle.cacao_site.specs.DiskCalls.{StaysAt}
 use Rattle.run_journal.specs.JournalView.{JournalView}
-use Rattle.run_journal.specs.Layout.{front, block_for, IsShort}
+use Rattle.run_journal.specs.Layout.{front, block_for, IsEntry}
 use Rattle.run_journal.proofs.EntryLemmas.{append_beats, append_durable, length-front-push}
 use Rattle.cacao_site.proofs.Beats.{each-weaken}
 use Rattle.run_journal.proofs.PlaceLaws.{layout_stands}
@@ -19,7 +19,7 @@ invariant_of-self g c =
       file = c.self.invariant.file;
       gate = omega (arith, whole, c.self.invariant.gate, c.len-size.ensures);
       fits = omega (arith, c.len-size.ensures, c.if-length-gt-MOST_IMAGE.false);
-      short = subst (λ (l : List (List ℕ)). All IsShort l) (sym items) (All-push IsShort c.self.inside.items.items c.args.item c.self.invariant.short c.requires.size);
+      short = subst (λ (l : List (List ℕ)). All IsEntry l) (sym items) (All-push IsEntry c.self.inside.items.items c.args.item c.self.invariant.short c.requires.size);
       blank = λ none. absurd (false≢true (sym none ∙ ready));
       item_room = λ lt. absurd (omega (arith, lt));
       block_room = λ lt. absurd (omega (arith, lt));
@@ -31,7 +31,7 @@ returns-in-Ok-clause-each_beat g c = λ whole.
     let items_is : c.self.inside.items.items ≡ c.args.self.now.items = ap (λ (v : JournalView). v.items) c.self.view_is in
     let size : length (front c.args.self.now.items) ≡ c.self.inside.gate = ap (λ (l : List (List ℕ)). length (front l)) (sym items_is) ∙ sym c.self.invariant.gate in
     let block_is : c.as_slice-2.result.now ≡ block_for c.args.item = c.as_slice-2.ensures.value ∙ c.fill_block.ensures.items ∙ ap block_for c.as_slice.ensures in
-    let short : All IsShort c.args.self.now.items = subst (λ (l : List (List ℕ)). All IsShort l) items_is c.self.invariant.short in
+    let short : All IsEntry c.args.self.now.items = subst (λ (l : List (List ℕ)). All IsEntry l) items_is c.self.invariant.short in
     append_beats (g.D.Disk.view c.args.disk.now).disk (g.D.Disk.view c.add_block.new.disk).disk c.args.self.now.file c.self.inside.file c.self.inside.gate c.args.self.now.items c.args.item c.as_slice-2.result.now file_is size block_is short c.requires.size (c.requires.ready whole) c.add_block.ensures.each_beat c.add_block.ensures.within
 
 pub returns-in-Ok-clause-durable : goal.returns-in-Ok-clause-durable
@@ -40,7 +40,7 @@ returns-in-Ok-clause-durable g c =
     let items_is : c.self.inside.items.items ≡ c.args.self.now.items = ap (λ (v : JournalView). v.items) c.self.view_is in
     let size : length (front c.args.self.now.items) ≡ c.self.inside.gate = ap (λ (l : List (List ℕ)). length (front l)) (sym items_is) ∙ sym c.self.invariant.gate in
     let block_is : c.as_slice-2.result.now ≡ block_for c.args.item = c.as_slice-2.ensures.value ∙ c.fill_block.ensures.items ∙ ap block_for c.as_slice.ensures in
-    let short : All IsShort c.args.self.now.items = subst (λ (l : List (List ℕ)). All IsShort l) items_is c.self.invariant.short in
+    let short : All IsEntry c.args.self.now.items = subst (λ (l : List (List ℕ)). All IsEntry l) items_is c.self.invariant.short in
     let whole : c.args.self.now.broken ≡ false = ap (λ (v : JournalView). v.broken) (sym c.self.view_is) ∙ c.if-self.false in
     append_durable (g.D.Disk.view c.args.disk.now).disk (g.D.Disk.view c.add_block.new.disk).disk c.args.self.now.file c.self.inside.file c.self.inside.gate c.args.self.now.items c.args.item c.as_slice-2.result.now file_is size block_is short c.requires.size (c.requires.ready whole) c.in-Ok.ensures.opened c.add_block.ensures.within
 
@@ -54,7 +54,7 @@ returns-in-Err-clause-each_beat g c = λ whole.
     let items_is : c.self.inside.items.items ≡ c.args.self.now.items = ap (λ (v : JournalView). v.items) c.self.view_is in
     let size : length (front c.args.self.now.items) ≡ c.self.inside.gate = ap (λ (l : List (List ℕ)). length (front l)) (sym items_is) ∙ sym c.self.invariant.gate in
     let block_is : c.as_slice-2.result.now ≡ block_for c.args.item = c.as_slice-2.ensures.value ∙ c.fill_block.ensures.items ∙ ap block_for c.as_slice.ensures in
-    let short : All IsShort c.args.self.now.items = subst (λ (l : List (List ℕ)). All IsShort l) items_is c.self.invariant.short in
+    let short : All IsEntry c.args.self.now.items = subst (λ (l : List (List ℕ)). All IsEntry l) items_is c.self.invariant.short in
     append_beats (g.D.Disk.view c.args.disk.now).disk (g.D.Disk.view c.add_block.new.disk).disk c.args.self.now.file c.self.inside.file c.self.inside.gate c.args.self.now.items c.args.item c.as_slice-2.result.now file_is size block_is short c.requires.size (c.requires.ready whole) c.add_block.ensures.each_beat c.add_block.ensures.within
 
 pub returns-in-Err-clause-others : goal.returns-in-Err-clause-others
