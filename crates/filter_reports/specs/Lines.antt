@@ -8,8 +8,9 @@ use Rattle.oc2_nets.specs.declared.ipv6_nets.Net6.{Net6 as Ipv6Net}
 use Rattle.oc2_nets.specs.declared.packets.Packet.{Packet}
 use Rattle.oc2_nets.specs.declared.packets.Protocol.{Protocol}
 use Rattle.oc2_nets.specs.Nets.{net4_text, net6_text}
+use Rattle.oc2_nets.specs.Packets.{protocol_word}
 use Rattle.oc2_msg.specs.declared.drops.Drop3.{Drop3}
-use Rattle.oc2_msg.specs.Words.{direction_word, drop_word, protocol_word}
+use Rattle.oc2_msg.specs.Words.{direction_word, drop_word}
 use Rattle.slpf_rules.specs.declared.rules.Rule.{Rule}
 use Rattle.slpf_rules.specs.declared.verdicts.Verdict.{Verdict}
 use Rattle.slpf_rules.specs.Verdicts.{verdict}

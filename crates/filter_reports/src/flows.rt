@@ -2,10 +2,10 @@
 ghost use Rattle.std.specs.Prelude.{◌≡◌, IfOk, decimal};
 ghost use Rattle.std.specs.String.{string_bytes};
 ghost use Rattle.oc2_nets.specs.Nets.{net4_text, net6_text};
-ghost use Rattle.oc2_msg.specs.Words.{protocol_word};
+ghost use Rattle.oc2_nets.specs.Packets.{protocol_word};
 ghost use Rattle.filter_reports.specs.Lines.{flow_text, or_hyphen};
 
-use oc2_nets::{Flow, Net4, Net6, Protocol, print_net4, print_net6};
+use oc2_nets::{Flow, Net4, Net6, Protocol, print_net4, print_net6, protocol_word};
 use std::alloc::{AllocError, Global};
 
 /// The kind of the flow and its parts, a hyphen for each part that it does not state.
@@ -66,11 +66,8 @@ fn protocol_text(protocol: Option<Protocol>) -> &'static str
     ensures { result.now ≡ or_hyphen protocol_word protocol }
 {
     match protocol {
+        Some(protocol) => protocol_word(protocol),
         None => "-",
-        Some(Protocol::Icmp) => "icmp",
-        Some(Protocol::Tcp) => "tcp",
-        Some(Protocol::Udp) => "udp",
-        Some(Protocol::Sctp) => "sctp",
     }
 }
 

@@ -17,6 +17,7 @@ use Rattle.oc2_nets.specs.declared.packets.Protocol.{Protocol}
 use Rattle.oc2_nets.specs.declared.packets.Protocol.TheVariants as protocol
 use Rattle.oc2_nets.specs.declared.ipv4_nets.Net4.{Net4}
 use Rattle.oc2_nets.specs.declared.ipv6_nets.Net6.{Net6}
+use Rattle.oc2_nets.specs.Packets.{protocol_word}
 use Rattle.oc2_nets.specs.Nets.{net4_text, net6_text, groups_text, groups_of, hex}
 use Rattle.oc2_nets.proofs.RoundTrips.{net4_back, net6_back}
 use Rattle.oc2_msg.specs.declared.directions.Direction.{Direction}
@@ -26,7 +27,7 @@ use Rattle.oc2_msg.specs.declared.drops.Drop3.TheVariants as drops
 use Rattle.oc2_msg.specs.declared.features.Feature.{Feature}
 use Rattle.oc2_msg.specs.declared.features.Feature.TheVariants as feature
 use Rattle.oc2_msg.specs.Parts.{between, whole, optional, whole_data, texts}
-use Rattle.oc2_msg.specs.Words.{feature_word, protocol_word}
+use Rattle.oc2_msg.specs.Words.{feature_word}
 use Rattle.oc2_msg.specs.Features.{feature_in, features_in}
 use Rattle.oc2_msg.specs.Targets.{net4_in, net6_in, protocol_in}
 use Rattle.oc2_msg.specs.Args.{direction_in, drop_in}

@@ -7,6 +7,7 @@ use Rattle.oc2_nets.specs.declared.flows.Flow.TheVariants as flow
 use Rattle.oc2_nets.specs.declared.ipv4_nets.Net4.{Net4}
 use Rattle.oc2_nets.specs.declared.ipv6_nets.Net6.{Net6}
 use Rattle.oc2_nets.specs.declared.packets.Protocol.{Protocol}
+use Rattle.oc2_nets.specs.Packets.{protocol_word}
 use Rattle.oc2_nets.specs.Nets.{net4_text, net6_text}
 use Rattle.oc2_msg.specs.declared.actions.Action.{Action}
 use Rattle.oc2_msg.specs.declared.actions.Action.TheVariants as action
@@ -20,7 +21,7 @@ use Rattle.oc2_msg.specs.declared.features.Feature.{Feature}
 use Rattle.oc2_msg.specs.declared.commands.Command.{Command}
 use Rattle.oc2_msg.specs.declared.commands.Command.TheVariants as command
 use Rattle.oc2_msg.specs.Parts.{present, object_of, whole_data, texts}
-use Rattle.oc2_msg.specs.Words.{action_word, kind_word, direction_word, drop_word, feature_word, protocol_word}
+use Rattle.oc2_msg.specs.Words.{action_word, kind_word, direction_word, drop_word, feature_word}
 
 -- ---- targets
 

@@ -1,7 +1,5 @@
 -- The words of commands, and what they stand for.
 use Rattle.std.specs.Prelude.{ℕ, List, [], ◌∷◌, Bool, true, false, Option, codes}
-use Rattle.oc2_nets.specs.declared.packets.Protocol.{Protocol}
-use Rattle.oc2_nets.specs.declared.packets.Protocol.TheVariants as protocol
 use Rattle.oc2_msg.specs.declared.actions.Action.{Action}
 use Rattle.oc2_msg.specs.declared.actions.Action.TheVariants as action
 use Rattle.oc2_msg.specs.declared.kinds.TargetKind.{TargetKind}
@@ -109,12 +107,6 @@ abbrev pub feature_named : List ℕ → Option Feature
 feature_named text =
     named ((codes "versions", feature.Versions) ∷ (codes "profiles", feature.Profiles)
     ∷ (codes "pairs", feature.Pairs) ∷ (codes "rate_limit", feature.RateLimit) ∷ []) text
-
-abbrev pub protocol_word : Protocol → List ℕ
-protocol_word protocol.Icmp = codes "icmp"
-protocol_word protocol.Tcp = codes "tcp"
-protocol_word protocol.Udp = codes "udp"
-protocol_word protocol.Sctp = codes "sctp"
 
 -- the responses that a command may ask for; the filter always answers in full
 abbrev pub requests : List (List ℕ)

@@ -19,7 +19,6 @@ mod kinds;
 mod laws;
 mod messages;
 mod parts;
-mod protocols;
 mod reading;
 mod reasons;
 mod refusals;

@@ -7,9 +7,8 @@ ghost use Rattle.oc2_msg.specs.Least.{net4_data, net6_data, protocol_data, conne
 use crate::building::{one_member, push_text, put, text_tree, whole_tree};
 use crate::features::Feature;
 use crate::kinds::TargetKind;
-use crate::protocols::protocol_word;
 use cacao_json::{Items, Pairs, Text, Tree};
-use oc2_nets::{Flow, Net4, Net6, Protocol, print_net4, print_net6};
+use oc2_nets::{Flow, Net4, Net6, Protocol, print_net4, print_net6, protocol_word};
 use std::alloc::{AllocError, Global};
 
 fn net4_tree(alloc: Global, net: Net4) -> Result<Tree, AllocError>

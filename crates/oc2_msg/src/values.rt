@@ -10,9 +10,8 @@ ghost use Rattle.oc2_msg.specs.Ranges.{IsNet4, IsNet6, Each};
 use crate::directions::Direction;
 use crate::drops::Drop3;
 use crate::parts::str_of;
-use crate::protocols::read_protocol;
 use cacao_json::{Tree, member};
-use oc2_nets::{Net4, Net6, Protocol, read_net4, read_net6};
+use oc2_nets::{Net4, Net6, Protocol, read_net4, read_net6, read_protocol};
 
 pub fn net4_in(tree: &Tree) -> Option<Net4>
     ensures value { result ≡ net4_in (data_of tree.now) }
