@@ -113,3 +113,26 @@ fn stamps(rt: HostRuntime) -> Result<(), Fail> {
     assert_eq!(rt; stamp.text(), "2023-11-27T08:30:00.5Z");
     Ok(())
 }
+
+// Stamps are put in order as texts: a point is before `Z`, and so is a digit. So the order is that of time only where the
+// fractions have equal lengths (RFC 3339, section 5.1).
+#[test]
+fn stamps_of_unequal_length_are_in_order_of_bytes(rt: HostRuntime) -> Result<(), Fail> {
+    let alloc = rt.alloc();
+    let table = [
+        ("2024-01-02T03:04:05.000Z", "2024-01-02T03:04:05Z"),
+        ("2024-01-02T03:04:05.5Z", "2024-01-02T03:04:05Z"),
+        ("2024-01-02T03:04:05.51Z", "2024-01-02T03:04:05.5Z"),
+        ("2024-01-02T03:04:05.50Z", "2024-01-02T03:04:05.5Z"),
+        ("2024-01-02T03:04:05.49Z", "2024-01-02T03:04:05.5Z"),
+        ("2024-01-02T03:04:05Z", "2024-01-02T03:04:06.999999999Z"),
+        ("2024-01-02T03:04:05.999999999Z", "2024-01-02T03:04:06Z"),
+    ];
+    for (first, second) in table {
+        let one = Stamp::read(alloc, first)?.ok_or("first")?;
+        let other = Stamp::read(alloc, second)?.ok_or("second")?;
+        assert!(rt; one < other, "{first} {second}");
+        assert!(rt; !(one == other), "{first} {second}");
+    }
+    Ok(())
+}
