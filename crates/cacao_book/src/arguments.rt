@@ -6,7 +6,6 @@ ghost use Rattle.cacao_book.specs.Members.{MayHave, ListOf, TextFits};
 ghost use Rattle.cacao_book.specs.Shape.{IsArgument, IsArguments};
 ghost use Rattle.cacao_book.specs.Books.{argument, items_at, arguments_at, text_of as text_of_data};
 
-use crate::grammars::is_name;
 use crate::lists::{items_at, list, text_or_empty};
 use crate::members::items_of;
 use cacao_json::{Tree, member, text_of};
@@ -21,72 +20,62 @@ fn is_value(text: &str) -> bool
 }
 
 // Whether a text is a name or a reference.
-fn is_argument(alloc: Global, text: &str) -> Result<bool, AllocError>
-    ensures { IfOk result (λ fits. IsTrue fits ↔ IsArgument text.now) }
+fn is_argument(text: &str) -> bool
+    ensures { IsTrue result ↔ IsArgument text.now }
 {
     let Some((name, rest)) = text.split_once(':') else {
-        let fits = is_name(alloc, text)?;
-        return Ok(fits);
+        return Name::fits(text);
     };
     if !is_value(rest) {
-        return Ok(false);
+        return false;
     }
-    let fits = is_name(alloc, name)?;
-    Ok(fits)
+    Name::fits(name)
 }
 
 // Whether a value is a text that is an argument.
-fn is_argument_text(alloc: Global, value: &Tree) -> Result<bool, AllocError>
-    ensures { IfOk result (λ fits. IsTrue fits ↔ TextFits IsArgument (data_of value.now)) }
+fn is_argument_text(value: &Tree) -> bool
+    ensures { IsTrue result ↔ TextFits IsArgument (data_of value.now) }
 {
-    let Some(text) = text_of(value) else {
-        return Ok(false);
-    };
-    let fits = is_argument(alloc, text.as_str())?;
-    Ok(fits)
+    match text_of(value) {
+        Some(text) => is_argument(text.as_str()),
+        None => false,
+    }
 }
 
 // Whether each item is an argument.
-fn are_arguments(alloc: Global, items: &[Tree]) -> Result<bool, AllocError>
-    ensures { IfOk result (λ fits. IsTrue fits ↔ All (TextFits IsArgument) (map data_of items.now)) }
+fn are_arguments(items: &[Tree]) -> bool
+    ensures { IsTrue result ↔ All (TextFits IsArgument) (map data_of items.now) }
 {
     for item in items {
-        if !is_argument_text(alloc, item)? {
-            return Ok(false);
+        if !is_argument_text(item) {
+            return false;
         }
     }
-    Ok(true)
+    true
 }
 
 // Whether a value is a list of at most `most` arguments.
-fn is_argument_list(alloc: Global, value: &Tree, most: usize) -> Result<bool, AllocError>
-    ensures { IfOk result (λ fits. IsTrue fits ↔ IsArguments most (data_of value.now)) }
+fn is_argument_list(value: &Tree, most: usize) -> bool
+    ensures { IsTrue result ↔ IsArguments most (data_of value.now) }
 {
     let Some(items) = items_of(value) else {
-        return Ok(false);
+        return false;
     };
     let items = list(items);
     if most < items.len() {
-        return Ok(false);
+        return false;
     }
-    let fits = are_arguments(alloc, items)?;
-    Ok(fits)
+    are_arguments(items)
 }
 
 /// Whether a member is absent or a list of at most `most` arguments.
-pub(crate) fn may_have_arguments(
-    alloc: Global,
-    tree: &Tree,
-    name: &str,
-    most: usize,
-) -> Result<bool, AllocError>
-    ensures { IfOk result (λ fits. IsTrue fits ↔ MayHave name.now (IsArguments most) (data_of tree.now)) }
+pub(crate) fn may_have_arguments(tree: &Tree, name: &str, most: usize) -> bool
+    ensures { IsTrue result ↔ MayHave name.now (IsArguments most) (data_of tree.now) }
 {
-    let Some(value) = member(tree, name) else {
-        return Ok(true);
-    };
-    let fits = is_argument_list(alloc, value, most)?;
-    Ok(fits)
+    match member(tree, name) {
+        Some(value) => is_argument_list(value, most),
+        None => true,
+    }
 }
 
 // The name that an argument means.

@@ -41,7 +41,7 @@ fn keeps_k2(alloc: Global, book: &Tree) -> Result<bool, AllocError>
 fn keeps_k3(alloc: Global, book: &Tree) -> Result<bool, AllocError>
     ensures { IfOk result (λ kept. IsTrue kept ↔ K3 (data_of book.now)) }
 {
-    let has_variables = may_have_dictionary(alloc, book, "playbook_variables")?;
+    let has_variables = may_have_dictionary(book, "playbook_variables");
     let has_agents = may_have_id_table(alloc, book, "agent_definitions")?;
     let has_targets = may_have_id_table(alloc, book, "target_definitions")?;
     Ok(has_variables && has_agents && has_targets)

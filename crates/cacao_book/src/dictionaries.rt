@@ -7,7 +7,7 @@ ghost use Rattle.cacao_book.specs.Members.{Has, MayHave, TextFits, IsShort};
 ghost use Rattle.cacao_book.specs.Shape.{IsDeclaration, IsDictionary, IsIdTable};
 ghost use Rattle.cacao_book.specs.Books.{maybe_text, var_of, vars_at};
 
-use crate::grammars::{is_id, is_name};
+use crate::grammars::is_id;
 use crate::lists::{members_at, pairs};
 use crate::members::{flag_at, is_short_text, may_have_flag, members_of, some_text, text_at};
 use cacao_json::{Pair, Tree, member, text_of};
@@ -52,53 +52,46 @@ fn is_declaration(tree: &Tree) -> bool
 }
 
 // Whether a member declares a variable by its name.
-fn declares(alloc: Global, pair: &Pair) -> Result<bool, AllocError>
-    ensures { IfOk result (λ fits. IsTrue fits ↔ (IsName (pair_data pair.now).0 × IsDeclaration (pair_data pair.now).1)) }
+fn declares(pair: &Pair) -> bool
+    ensures { IsTrue result ↔ (IsName (pair_data pair.now).0 × IsDeclaration (pair_data pair.now).1) }
 {
-    let has_name = is_name(alloc, pair.name.as_str())?;
-    Ok(has_name && is_declaration(&pair.tree))
+    Name::fits(pair.name.as_str()) && is_declaration(&pair.tree)
 }
 
 // Whether each member declares a variable.
-fn each_declares(alloc: Global, members: &[Pair]) -> Result<bool, AllocError>
-    ensures { IfOk result (λ fits. IsTrue fits ↔ All (λ m. IsName m.0 × IsDeclaration m.1) (map pair_data members.now)) }
+fn each_declares(members: &[Pair]) -> bool
+    ensures { IsTrue result ↔ All (λ m. IsName m.0 × IsDeclaration m.1) (map pair_data members.now) }
 {
     for pair in members {
-        if !declares(alloc, pair)? {
-            return Ok(false);
+        if !declares(pair) {
+            return false;
         }
     }
-    Ok(true)
+    true
 }
 
 // Whether a value is a variable dictionary.
-fn is_dictionary(alloc: Global, value: &Tree) -> Result<bool, AllocError>
-    ensures { IfOk result (λ fits. IsTrue fits ↔ IsDictionary (data_of value.now)) }
+fn is_dictionary(value: &Tree) -> bool
+    ensures { IsTrue result ↔ IsDictionary (data_of value.now) }
 {
     let Some(members) = members_of(value) else {
-        return Ok(false);
+        return false;
     };
     let members = pairs(members);
     if MOST_VARIABLES < members.len() {
-        return Ok(false);
+        return false;
     }
-    let fits = each_declares(alloc, members)?;
-    Ok(fits)
+    each_declares(members)
 }
 
 /// Whether a member is absent or a variable dictionary.
-pub(crate) fn may_have_dictionary(
-    alloc: Global,
-    tree: &Tree,
-    name: &str,
-) -> Result<bool, AllocError>
-    ensures { IfOk result (λ fits. IsTrue fits ↔ MayHave name.now IsDictionary (data_of tree.now)) }
+pub(crate) fn may_have_dictionary(tree: &Tree, name: &str) -> bool
+    ensures { IsTrue result ↔ MayHave name.now IsDictionary (data_of tree.now) }
 {
-    let Some(value) = member(tree, name) else {
-        return Ok(true);
-    };
-    let fits = is_dictionary(alloc, value)?;
-    Ok(fits)
+    match member(tree, name) {
+        Some(value) => is_dictionary(value),
+        None => true,
+    }
 }
 
 // Whether a member's name is an identifier.

@@ -2,14 +2,12 @@
 ghost use Rattle.std.specs.Prelude.{◌≡◌, ◌↔◌, IsTrue, IsSome, IfOk, IfSome, codes};
 ghost use Rattle.cacao_ids.specs.Ids.{IsId, HasObjectType};
 ghost use Rattle.cacao_ids.specs.Stamps.{IsStamp};
-ghost use Rattle.cacao_vars.specs.Names.{IsName};
 ghost use Rattle.cacao_json.specs.Tree.{data_of};
 ghost use Rattle.cacao_book.specs.Members.{Has, TextFits};
 
 use crate::members::text_at;
 use cacao_ids::{Id, Stamp};
 use cacao_json::Tree;
-use cacao_vars::Name;
 use std::alloc::{AllocError, Global};
 
 /// Whether a text is an identifier.
@@ -18,14 +16,6 @@ pub(crate) fn is_id(alloc: Global, text: &str) -> Result<bool, AllocError>
 {
     let id = Id::read(alloc, text)?;
     Ok(id.is_some())
-}
-
-/// Whether a text is a variable's name.
-pub(crate) fn is_name(alloc: Global, text: &str) -> Result<bool, AllocError>
-    ensures { IfOk result (λ fits. IsTrue fits ↔ IsName text.now) }
-{
-    let name = Name::read(alloc, text)?;
-    Ok(name.is_some())
 }
 
 fn is_stamp(alloc: Global, text: &str) -> Result<bool, AllocError>

@@ -45,11 +45,10 @@ fn keeps_k6(step: &Tree) -> bool
     may_have_up_to(step, "delay", MOST_WAIT) && may_have_up_to(step, "timeout", MOST_WAIT)
 }
 
-fn keeps_k7(alloc: Global, step: &Tree) -> Result<bool, AllocError>
-    ensures { IfOk result (λ kept. IsTrue kept ↔ K7 (data_of step.now)) }
+fn keeps_k7(step: &Tree) -> bool
+    ensures { IsTrue result ↔ K7 (data_of step.now) }
 {
-    let kept = may_have_dictionary(alloc, step, "step_variables")?;
-    Ok(kept)
+    may_have_dictionary(step, "step_variables")
 }
 
 fn links_are_texts(step: &Tree) -> bool
@@ -106,21 +105,17 @@ fn may_have_targets(step: &Tree) -> bool
     }
 }
 
-fn keeps_k9(alloc: Global, step: &Tree) -> Result<bool, AllocError>
-    ensures { IfOk result (λ kept. IsTrue kept ↔ K9 (data_of step.now)) }
+fn keeps_k9(step: &Tree) -> bool
+    ensures { IsTrue result ↔ K9 (data_of step.now) }
 {
     if !has_type(step, "action") {
-        return Ok(true);
+        return true;
     }
-    let has_ins = may_have_arguments(alloc, step, "in_args", MOST_ITEMS)?;
-    let has_outs = may_have_arguments(alloc, step, "out_args", MOST_OUT)?;
-    Ok(
-        has_commands(step)
-            && has_some_text(step, "agent")
-            && may_have_targets(step)
-            && has_ins
-            && has_outs,
-    )
+    has_commands(step)
+        && has_some_text(step, "agent")
+        && may_have_targets(step)
+        && may_have_arguments(step, "in_args", MOST_ITEMS)
+        && may_have_arguments(step, "out_args", MOST_OUT)
 }
 
 // Whether each OpenC2 command of an action has its content as it is to be.
@@ -154,8 +149,8 @@ fn keeps_k11(alloc: Global, step: &Tree) -> Result<bool, AllocError>
         return Ok(true);
     }
     let has_playbook = has_id(alloc, step, "playbook_id")?;
-    let has_ins = may_have_arguments(alloc, step, "in_args", MOST_ITEMS)?;
-    let has_outs = may_have_arguments(alloc, step, "out_args", MOST_ITEMS)?;
+    let has_ins = may_have_arguments(step, "in_args", MOST_ITEMS);
+    let has_outs = may_have_arguments(step, "out_args", MOST_ITEMS);
     Ok(has_playbook && may_have_text(step, "playbook_version") && has_ins && has_outs)
 }
 
@@ -233,13 +228,13 @@ pub(crate) fn first_broken_of_step(alloc: Global, step: &Tree) -> Result<Option<
     if !keeps_k6(step) {
         return Ok(Some(6));
     }
-    if !keeps_k7(alloc, step)? {
+    if !keeps_k7(step) {
         return Ok(Some(7));
     }
     if !keeps_k8(step) {
         return Ok(Some(8));
     }
-    if !keeps_k9(alloc, step)? {
+    if !keeps_k9(step) {
         return Ok(Some(9));
     }
     if !keeps_k10(alloc, step)? {

@@ -10,5 +10,5 @@ use Rattle.cacao_book.proofs.dictionaries.is_dictionary.Goals as goal
 pub returns : goal.returns
 returns c =
     let size = length-map c.pairs-members.result.now pair_data in
-    object_of (λ m. IsName m.0 × IsDeclaration m.1) 0 1024 (as_object (data_of c.args.value.now)) c.in-Some.members.now (map pair_data c.pairs-members.result.now) c.in_ok-fits.fits
-    c.in-Some.ensures c.pairs-members.ensures.members (omega arith) (omega (arith, size)) c.in_ok-fits.ensures
+    object_of (λ m. IsName m.0 × IsDeclaration m.1) 0 1024 (as_object (data_of c.args.value.now)) c.in-Some.members.now (map pair_data c.pairs-members.result.now) c.each_declares.result
+    c.in-Some.ensures c.pairs-members.ensures.members (omega arith) (omega (arith, size)) c.each_declares.ensures
