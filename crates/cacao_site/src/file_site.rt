@@ -40,7 +40,7 @@ impl<'a, R: Files + Print> FileSite<'a, R> {
     {
         FileSite {
             rt,
-            files: OpenFiles::new(rt, alloc),
+            files: OpenFiles::new(rt),
             beat: 0,
             faults: 0,
             queue: VecDeque::new(alloc),

@@ -29,6 +29,7 @@ mod replay;
 mod room;
 pub mod shelf;
 pub mod site;
+mod slots;
 mod tear;
 #[cfg(test)]
 mod tests;

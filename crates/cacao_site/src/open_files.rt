@@ -1,7 +1,7 @@
 // The files of a disk in the current folder, and those of them that are open.
-ghost use Rattle.std.specs.Prelude.{◌≡◌, ◌<◌, ◌≤◌, length, drop, vec_len, IfOk, IfSome};
+ghost use Rattle.std.specs.Prelude.{◌≡◌, ◌≤◌, length, drop, IfOk};
 
-use std::alloc::Global;
+use crate::slots::{OneFile, Slots};
 use std::fs::{OpenFile, OpenOptions};
 use std::io::{Read, Seek, SeekFrom, Write};
 use std::rt::Files;
@@ -28,23 +28,14 @@ static NAMES: [&str; 17] = [
     "agent-16.journal",
 ];
 
-/// A file that is open.
-#[derive(Drop)]
-struct OneFile<F> {
-    number: u8,
-    file: F,
-    // Whether it is open for writing too.
-    writable: bool,
-}
-
 /// Files 0 to 16 in the current folder.
 ///
 /// A file is opened by its first read or write, and stays open until a sync that is Ok, so that no error of an
-/// earlier write is lost to it. After a sync that failed each later sync of the file fails.
+/// earlier write is lost to it. After a sync that failed each later sync of the file fails. No call takes memory.
 #[derive(Drop)]
 pub struct OpenFiles<'a, R: Files> {
     rt: &'a R,
-    opened: Vec<OneFile<R::File>>,
+    slots: Slots<R::File>,
     // Whether the folder is known to have the file, by its number.
     in_folder: [bool; 17],
     // Whether a sync of the file failed. What was written before may be lost, and no later sync would tell.
@@ -52,22 +43,22 @@ pub struct OpenFiles<'a, R: Files> {
 }
 
 impl<'a, R: Files> OpenFiles<'a, R> {
-    /// No file is open. Takes no memory.
-    pub fn new(rt: &'a R, alloc: Global) -> OpenFiles<'a, R> {
+    /// No file is open.
+    pub fn new(rt: &'a R) -> OpenFiles<'a, R> {
         OpenFiles {
             rt,
-            opened: Vec::new(alloc),
+            slots: Slots::new(),
             in_folder: [false; 17],
             spoilt: [false; 17],
         }
     }
 
     /// The file's length in bytes; 0 for a file that is not there.
-    pub fn length(&self, file: u8) -> io::Result<u64>
+    pub fn length(&mut self, file: u8) -> io::Result<u64>
         requires { file ≤ 16 }
     {
-        if let Some(place) = self.place(file) {
-            return Ok(self.opened[place].file.metadata()?.len());
+        if let Some(one) = self.slots.at(file) {
+            return Ok(one.file.metadata()?.len());
         }
         match self.rt.metadata(NAMES[file as usize]) {
             Ok(metadata) => Ok(metadata.len()),
@@ -85,27 +76,37 @@ impl<'a, R: Files> OpenFiles<'a, R> {
         ensures count { IfOk result (λ n. n ≤ length into.old) }
         ensures behind { IfOk result (λ n. drop n into.new ≡ drop n into.old) }
     {
-        let Some(place) = self.open_to_read(file)? else {
+        self.open_to_read(file)?;
+        let Some(one) = self.slots.at(file) else {
             return Ok(0);
         };
-        let opened = &mut self.opened[place].file;
-        opened.seek(SeekFrom::Start(at))?;
-        fill(opened, into)
+        one.file.seek(SeekFrom::Start(at))?;
+        fill(&mut one.file, into)
     }
 
     /// Writes the bytes at place `at`, and makes the file if it is not there.
     ///
-    /// Where there is no byte, it makes the file at least that long.
+    /// Where there is no byte, it makes the file at least that long. A file that was opened to read alone is opened
+    /// anew.
     pub fn write(&mut self, file: u8, at: u64, bytes: &[u8]) -> io::Result<()>
         requires { file ≤ 16 }
     {
-        let place = self.open_to_write(file)?;
-        let opened = &mut self.opened[place].file;
-        if bytes.is_empty() && opened.metadata()?.len() < at {
-            return opened.set_len(at);
+        if let Some(one) = self.slots.at(file) {
+            if one.writable {
+                return write_at(&mut one.file, at, bytes);
+            }
         }
-        opened.seek(SeekFrom::Start(at))?;
-        opened.write_all(bytes)
+        let mut opened = OpenOptions::new()
+            .read(true)
+            .write(true)
+            .create(true)
+            .open(self.rt, NAMES[file as usize])?;
+        let done = write_at(&mut opened, at, bytes);
+        *self.slots.at(file) = Some(OneFile {
+            file: opened,
+            writable: true,
+        });
+        done
     }
 
     /// Makes the file durable, if it is there, and closes it. It needs no right to write.
@@ -115,24 +116,26 @@ impl<'a, R: Files> OpenFiles<'a, R> {
         if self.spoilt[file as usize] {
             return Err(io::Error::from(io::ErrorKind::Other));
         }
-        let Some(place) = self.open_to_read(file)? else {
+        self.open_to_read(file)?;
+        let Some(one) = self.slots.at(file) else {
             return Ok(());
         };
-        if let Err(error) = self.sync_at(place, file) {
+        if let Err(error) = one.file.sync_all() {
             self.spoilt[file as usize] = true;
             return Err(error);
         }
-        let _closed = self.opened.swap_remove(place);
+        if let Err(error) = self.sync_folder(file) {
+            self.spoilt[file as usize] = true;
+            return Err(error);
+        }
+        *self.slots.at(file) = None;
         Ok(())
     }
 
-    /// Syncs the file at this place of the list and, the first time that it is there, its folder.
-    fn sync_at(&mut self, place: usize, file: u8) -> io::Result<()>
-        requires place { place < vec_len self.old.opened }
-        requires file { file ≤ 16 }
-        ensures { vec_len self.new.opened ≡ vec_len self.old.opened }
+    /// Syncs the folder of the file, the first time.
+    fn sync_folder(&mut self, file: u8) -> io::Result<()>
+        requires { file ≤ 16 }
     {
-        self.opened[place].file.sync_all()?;
         if !self.in_folder[file as usize] {
             fs::open(self.rt, ".")?.sync_all()?;
             self.in_folder[file as usize] = true;
@@ -140,59 +143,34 @@ impl<'a, R: Files> OpenFiles<'a, R> {
         Ok(())
     }
 
-    /// The place in the list of a file that is open.
-    fn place(&self, file: u8) -> Option<usize>
-        ensures { IfSome result (λ place. place < vec_len self.now.opened) }
-    {
-        self.opened.iter().position(|one| one.number == file)
-    }
-
-    /// The place in the list of the file, which it opens if it is there; None if it is not.
-    fn open_to_read(&mut self, file: u8) -> io::Result<Option<usize>>
+    /// Opens the file, if it is there and not open.
+    fn open_to_read(&mut self, file: u8) -> io::Result<()>
         requires { file ≤ 16 }
-        ensures { IfOk result (λ found. IfSome found (λ place. place < vec_len self.new.opened)) }
     {
-        if let Some(place) = self.place(file) {
-            return Ok(Some(place));
+        if self.slots.at(file).is_some() {
+            return Ok(());
         }
         match fs::open(self.rt, NAMES[file as usize]) {
-            Ok(opened) => Ok(Some(self.keep(file, opened, false)?)),
-            Err(e) if e.kind() == io::ErrorKind::NotFound => Ok(None),
+            Ok(opened) => {
+                *self.slots.at(file) = Some(OneFile {
+                    file: opened,
+                    writable: false,
+                });
+                Ok(())
+            }
+            Err(e) if e.kind() == io::ErrorKind::NotFound => Ok(()),
             Err(e) => Err(e),
         }
     }
+}
 
-    /// The place in the list of the file, which it opens for writing, and makes if it is not there.
-    fn open_to_write(&mut self, file: u8) -> io::Result<usize>
-        requires { file ≤ 16 }
-        ensures { IfOk result (λ place. place < vec_len self.new.opened) }
-    {
-        if let Some(place) = self.place(file) {
-            if self.opened[place].writable {
-                return Ok(place);
-            }
-            let _closed = self.opened.swap_remove(place);
-        }
-        let opened = OpenOptions::new()
-            .read(true)
-            .write(true)
-            .create(true)
-            .open(self.rt, NAMES[file as usize])?;
-        self.keep(file, opened, true)
+/// Writes the bytes at place `at`. Where there is no byte, it makes the file at least that long.
+fn write_at<F: Write + Seek + OpenFile>(file: &mut F, at: u64, bytes: &[u8]) -> io::Result<()> {
+    if bytes.is_empty() && file.metadata()?.len() < at {
+        return file.set_len(at);
     }
-
-    /// Adds a file to the list, and answers its place there.
-    fn keep(&mut self, number: u8, file: R::File, writable: bool) -> io::Result<usize>
-        ensures { IfOk result (λ place. place < vec_len self.new.opened) }
-    {
-        let place = self.opened.len();
-        self.opened.push(OneFile {
-            number,
-            file,
-            writable,
-        })?;
-        Ok(place)
-    }
+    file.seek(SeekFrom::Start(at))?;
+    file.write_all(bytes)
 }
 
 /// Fills the front of the buffer with what the reader has, and answers how many bytes that is.
