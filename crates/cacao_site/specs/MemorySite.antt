@@ -1,5 +1,5 @@
 -- What contracts see of a `MemorySite`.
-use Rattle.std.specs.Prelude.{◌≡◌, ℕ, ◌+◌, Bool, List, ◌++◌, nat_le, if◌then◌else◌, length, replicate, map}
+use Rattle.std.specs.Prelude.{◌≡◌, ℕ, ◌+◌, Bool, true, false, List, ◌++◌, nat_le, if◌then◌else◌, length, replicate, map}
 use Rattle.std.specs.List.{filter}
 use Rattle.cacao_site.specs.Clock.{clock_view}
 use Rattle.cacao_site.specs.Counts.{next_count}
@@ -16,6 +16,11 @@ use Rattle.cacao_site.specs.declared.plan.Weather.{Weather}
 
 abbrev pub plan_of : MemorySite → SitePlan
 plan_of site = site.plan
+
+-- a count of faults after a call that failed or did not
+abbrev pub faults_after : Bool → ℕ → ℕ
+faults_after true faults = next_count faults
+faults_after false faults = faults
 
 -- the bytes of the room that are used
 abbrev pub used_of : MemorySite → ℕ

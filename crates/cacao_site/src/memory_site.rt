@@ -60,7 +60,7 @@ pub struct MemorySite {
 }
 
 impl MemorySite {
-    ghost use Rattle.cacao_site.specs.MemorySite.{plan_of, used_of, view_of, held_of, turn_of, KeepsRest};
+    ghost use Rattle.cacao_site.specs.MemorySite.{plan_of, used_of, view_of, held_of, turn_of, faults_after, KeepsRest};
 
     /// A site with blank files, no line said, no parcel and no fault.
     ///
@@ -163,7 +163,7 @@ impl MemorySite {
         ensures used { self.new.used ≡ self.old.used }
         ensures rest { KeepsRest self.old self.new }
     {
-        self.add_call(0, self.faults)
+        self.add_look(false)
     }
 
     /// One call of the disk that changes no file and fails: one fault more.
@@ -175,61 +175,70 @@ impl MemorySite {
         ensures used { self.new.used ≡ self.old.used }
         ensures rest { KeepsRest self.old self.new }
     {
-        self.add_call(0, self.faults.saturating_add(1))
+        self.add_look(true)
     }
 
-    /// Adds a call that changes no file, which was handed so many bytes; `faults` is the count after it.
-    fn add_call(&mut self, bytes: usize, faults: u64)
-        requires { self.old.faults ≤ faults }
-        ensures call { (file : ℕ) → CallsOn file bytes (view_of self.old).disk (view_of self.new).disk }
+    /// Adds a call that changes no file and was handed no byte, and that failed or did not.
+    fn add_look(&mut self, failed: bool)
+        ensures call { (file : ℕ) → CallsOn file 0 (view_of self.old).disk (view_of self.new).disk }
         ensures stays { (file : ℕ) → StaysAt (view_of self.old).disk (view_of self.new).disk file }
         ensures calls { self.new.calls ≡ next_count self.old.calls }
-        ensures written { self.new.written ≡ count_after self.old.written bytes }
-        ensures faults { self.new.faults ≡ faults }
+        ensures written { self.new.written ≡ self.old.written }
+        ensures faults { self.new.faults ≡ faults_after failed self.old.faults }
         ensures used { self.new.used ≡ self.old.used }
         ensures rest { KeepsRest self.old self.new }
     {
         if self.calls <= u64::from(self.plan.calls) {
-            self.log_look(bytes, faults)
+            self.log_look(failed)
         } else {
-            self.refuse(bytes, faults)
+            self.refuse(0, failed)
         }
     }
 
     /// Such a call, for which the record has room.
     #[tactic(auto, using(crate::proofs::KeptLemmas::kept_steps))]
-    fn log_look(&mut self, bytes: usize, faults: u64)
-        requires open { self.old.calls ≤ self.old.plan.calls }
-        requires up { self.old.faults ≤ faults }
-        ensures call { (file : ℕ) → CallsOn file bytes (view_of self.old).disk (view_of self.new).disk }
+    fn log_look(&mut self, failed: bool)
+        requires { self.old.calls ≤ self.old.plan.calls }
+        ensures call { (file : ℕ) → CallsOn file 0 (view_of self.old).disk (view_of self.new).disk }
         ensures stays { (file : ℕ) → StaysAt (view_of self.old).disk (view_of self.new).disk file }
         ensures calls { self.new.calls ≡ next_count self.old.calls }
-        ensures written { self.new.written ≡ count_after self.old.written bytes }
-        ensures faults { self.new.faults ≡ faults }
+        ensures written { self.new.written ≡ self.old.written }
+        ensures faults { self.new.faults ≡ faults_after failed self.old.faults }
         ensures used { self.new.used ≡ self.old.used }
         ensures rest { KeepsRest self.old self.new }
     {
         self.log.look();
         self.calls = self.calls.saturating_add(1);
-        self.written = self.written.saturating_add(bytes as u64);
-        self.faults = faults;
+        self.faults = self.faults_after(failed);
     }
 
-    /// Such a call, past the first that the plan does not allow: nothing is done.
-    fn refuse(&mut self, bytes: usize, faults: u64)
-        requires closed { self.old.plan.calls < self.old.calls }
-        requires up { self.old.faults ≤ faults }
-        ensures call { (file : ℕ) → CallsOn file bytes (view_of self.old).disk (view_of self.new).disk }
+    /// A call that was handed so many bytes and that failed or did not, past the first that the plan does not allow:
+    /// no file changes.
+    fn refuse(&mut self, size: usize, failed: bool)
+        requires { self.old.plan.calls < self.old.calls }
+        ensures call { (file : ℕ) → CallsOn file size (view_of self.old).disk (view_of self.new).disk }
         ensures stays { (file : ℕ) → StaysAt (view_of self.old).disk (view_of self.new).disk file }
         ensures calls { self.new.calls ≡ next_count self.old.calls }
-        ensures written { self.new.written ≡ count_after self.old.written bytes }
-        ensures faults { self.new.faults ≡ faults }
+        ensures written { self.new.written ≡ count_after self.old.written size }
+        ensures faults { self.new.faults ≡ faults_after failed self.old.faults }
         ensures used { self.new.used ≡ self.old.used }
         ensures rest { KeepsRest self.old self.new }
     {
         self.calls = self.calls.saturating_add(1);
-        self.written = self.written.saturating_add(bytes as u64);
-        self.faults = faults;
+        self.written = self.written.saturating_add(size as u64);
+        self.faults = self.faults_after(failed);
+    }
+
+    /// The count of faults after a call that failed or did not.
+    fn faults_after(&self, failed: bool) -> u64
+        ensures value { result ≡ faults_after failed self.now.faults }
+        ensures up { self.now.faults ≤ result }
+    {
+        if failed {
+            self.faults.saturating_add(1)
+        } else {
+            self.faults
+        }
     }
 
     /// One write that is done.
@@ -304,7 +313,7 @@ impl MemorySite {
         if self.calls <= u64::from(self.plan.calls) {
             self.log_failed_write(file, at, size)
         } else {
-            self.refuse(size, self.faults.saturating_add(1))
+            self.refuse(size, true)
         }
     }
 
