@@ -209,6 +209,57 @@ fn a_file_that_was_read_can_be_written(rt: HostRuntime) -> io::Result<()> {
     Ok(())
 }
 
+#[test]
+fn a_file_stays_open_from_its_first_read_until_its_sync(rt: HostRuntime) -> io::Result<()> {
+    fs::write(&rt, "agent-11.journal", "abc")?;
+    let mut site = FileSite::new(&rt, rt.alloc());
+    let mut back = [9u8; 4];
+    let first = site.read(11, 2, &mut back);
+    fs::rename(&rt, "agent-11.journal", "moved.journal")?;
+    let open = first == Ok(1) && site.read(11, 0, &mut back) == Ok(3);
+    let closed = site.sync(11).is_ok() && site.read(11, 0, &mut back) == Ok(0);
+    fs::remove_file(&rt, "moved.journal")?;
+    assert!(rt; open && closed && back == [b'a', b'b', b'c', 9]);
+    Ok(())
+}
+
+#[test]
+fn a_file_without_the_right_to_write_can_be_read_and_synced(rt: HostRuntime) -> io::Result<()> {
+    fs::write(&rt, "agent-10.journal", "abc")?;
+    let mut rights = rt.metadata("agent-10.journal")?.permissions();
+    rights.set_readonly(true);
+    rt.set_permissions("agent-10.journal", rights)?;
+    let mut site = FileSite::new(&rt, rt.alloc());
+    let mut back = [9u8; 4];
+    let read = site.read(10, 1, &mut back);
+    let synced = site.sync(10).is_ok();
+    fs::remove_file(&rt, "agent-10.journal")?;
+    assert!(rt; read == Ok(2) && synced && back == [b'b', b'c', 9, 9]);
+    Ok(())
+}
+
+#[test]
+fn files_that_are_open_at_once_are_kept_apart(rt: HostRuntime) -> io::Result<()> {
+    let alloc = rt.alloc();
+    let mut site = FileSite::new(&rt, alloc);
+    let mut apart = true;
+    for file in 0..17u8 {
+        apart = apart && site.write(file, 0, &[file]).is_ok();
+    }
+    for file in 0..17u8 {
+        let mut back = [99u8; 2];
+        let read = site.read(file, 0, &mut back);
+        apart = apart && read == Ok(1) && back == [file, 99] && site.sync(file).is_ok();
+    }
+    fs::remove_file(&rt, "engine.journal")?;
+    for agent in 1..17u8 {
+        let name = format!(in alloc; "agent-{agent:02}.journal")?;
+        fs::remove_file(&rt, name.as_str())?;
+    }
+    assert!(rt; apart);
+    Ok(())
+}
+
 /// Whether a site keeps a file under this name: an empty write past its end lengthens it, and what is written at a
 /// place is read there.
 fn is_kept_as<R: Files + Print>(rt: &R, alloc: Global, file: u8, name: &str) -> io::Result<bool>

@@ -59,3 +59,20 @@ fn a_file_shelf_reads_a_file_of_9000_bytes(rt: HostRuntime) -> io::Result<()> {
     assert!(rt; refused.err() == Some(ShelfError::TooLarge));
     Ok(())
 }
+
+#[test]
+fn a_file_shelf_reads_what_is_longer_than_the_system_tells(rt: HostRuntime) {
+    let alloc = rt.alloc();
+    let mut shelf = FileShelf::new(&rt);
+    assert!(rt;
+        shelf
+            .read(alloc, "/dev/null", 0)
+            .is_ok_and(|read| read.is_empty())
+    );
+    assert!(rt; shelf.read(alloc, "/dev/zero", 100_000).err() == Some(ShelfError::TooLarge));
+    assert!(rt;
+        shelf
+            .read(alloc, "/proc/self/stat", 4_096)
+            .is_ok_and(|read| !read.is_empty())
+    );
+}
