@@ -40,6 +40,7 @@ impl Journal {
         ensures bytes { (D.view disk.new).disk.written ≤ (D.view disk.old).disk.written + length item + 6 }
 
         ensures disk { IsErrOf result JournalError.Disk → Rose (D.view disk.old).disk.faults (D.view disk.new).disk.faults }
+        ensures steady { result ≢ Err JournalError.Disk → (D.view disk.new).disk.faults ≡ (D.view disk.old).disk.faults }
         ensures breaks { IsErrOf result JournalError.Disk → self.new ≡ record self.old { broken = true } }
         ensures broken { IsErrOf result JournalError.Broken ↔ (self.old.broken ≡ true) }
         ensures broken_stays { IsErrOf result JournalError.Broken → (disk.new ≡ disk.old) × (self.new ≡ self.old) }

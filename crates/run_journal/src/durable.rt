@@ -30,6 +30,7 @@ impl Journal {
         ensures items { OnErr result (self.new.items ≡ self.old.items) }
         ensures disk { IsErrOf result JournalError.Disk
             → Rose (D.view disk.old).disk.faults (D.view disk.new).disk.faults }
+        ensures steady { result ≢ Err JournalError.Disk → (D.view disk.new).disk.faults ≡ (D.view disk.old).disk.faults }
         ensures breaks { IsErrOf result JournalError.Disk → self.new.broken ≡ true }
         ensures full { (needed : ℕ) → IsErrOf result (JournalError.Full needed)
             → (needed ≡ length (front self.old.items) + 6 + length item) × (67_108_864 < needed) }
@@ -71,6 +72,7 @@ impl Journal {
         ensures items { OnErr result (self.new.items ≡ self.old.items) }
         ensures disk { IsErrOf result JournalError.Disk
             → Rose (D.view disk.old).disk.faults (D.view disk.new).disk.faults }
+        ensures steady { result ≢ Err JournalError.Disk → (D.view disk.new).disk.faults ≡ (D.view disk.old).disk.faults }
         ensures breaks { IsErrOf result JournalError.Disk → self.new.broken ≡ true }
         ensures full { (needed : ℕ) → IsErrOf result (JournalError.Full needed)
             → (needed ≡ length (front self.old.items) + 6 + length item) × (67_108_864 < needed) }

@@ -1,5 +1,5 @@
 // The opening of a journal.
-ghost use Rattle.std.specs.Prelude.{◌≡◌, ◌≢◌, ◌↔◌, ◌+◌, ◌/◌, ◌<◌, ◌≤◌, [], ℕ, List, length, IsTrue, true, false, IfOk, OnOk, IsErrOf, Err};
+ghost use Rattle.std.specs.Prelude.{◌≡◌, ◌≢◌, ◌↔◌, ◌+◌, ◌/◌, ◌<◌, ◌≤◌, [], ℕ, List, length, IsTrue, true, false, IfOk, IsErrOf, Err};
 ghost use Rattle.cacao_site.specs.Counts.{Rose};
 ghost use Rattle.cacao_site.specs.DiskCalls.{StaysAt, SameRest, EachBeat, AllLeft, IsLeft, IsDurable};
 ghost use Rattle.run_journal.specs.JournalView.{JournalView};
@@ -42,10 +42,7 @@ impl Journal {
             → IsDamagedAt ((D.view disk.new).disk.reads file) place }
         ensures disk { IsErrOf result JournalError.Disk → Rose (D.view disk.old).disk.faults (D.view disk.new).disk.faults }
         // No other answer counts a fault.
-        ensures faultless { OnOk result ((D.view disk.new).disk.faults ≡ (D.view disk.old).disk.faults) }
-        ensures damaged_faultless { (place : ℕ) → IsErrOf result (JournalError.Damaged place)
-            → (D.view disk.new).disk.faults ≡ (D.view disk.old).disk.faults }
-        ensures memory { IsErrOf result JournalError.Memory → (D.view disk.new).disk.faults ≡ (D.view disk.old).disk.faults }
+        ensures steady { result ≢ Err JournalError.Disk → (D.view disk.new).disk.faults ≡ (D.view disk.old).disk.faults }
         ensures no_other { (needed : ℕ) → (result ≢ Err JournalError.Broken) × (result ≢ Err (JournalError.Full needed)) }
     {
         if disk.sync(file).is_err() {

@@ -1,5 +1,5 @@
 // The header of a journal.
-ghost use Rattle.std.specs.Prelude.{◌≡◌, ◌≢◌, ◌↔◌, ◌+◌, ◌≤◌, ◌⊎◌, ℕ, List, length, false, true, OnOk, OnErr, IsErrOf};
+ghost use Rattle.std.specs.Prelude.{◌≡◌, ◌≢◌, ◌↔◌, ◌+◌, ◌≤◌, ◌⊎◌, ℕ, List, length, false, true, OnOk, OnErr, IsErrOf, Err};
 ghost use Rattle.cacao_site.specs.Counts.{Rose};
 ghost use Rattle.cacao_site.specs.DiskCalls.{StaysAt, SameRest, EachBeat, AllLeft};
 ghost use Rattle.run_journal.specs.JournalView.{JournalView};
@@ -35,6 +35,7 @@ impl Journal {
         ensures bytes { (D.view disk.new).disk.written ≤ (D.view disk.old).disk.written + 9 }
 
         ensures disk { IsErrOf result JournalError.Disk → Rose (D.view disk.old).disk.faults (D.view disk.new).disk.faults }
+        ensures steady { result ≢ Err JournalError.Disk → (D.view disk.new).disk.faults ≡ (D.view disk.old).disk.faults }
         ensures breaks { IsErrOf result JournalError.Disk → self.new ≡ record self.old { broken = true } }
         ensures broken { IsErrOf result JournalError.Broken ↔ (self.old.broken ≡ true) }
         ensures broken_stays { IsErrOf result JournalError.Broken → disk.new ≡ disk.old }

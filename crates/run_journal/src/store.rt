@@ -15,6 +15,7 @@ pub fn write_and_sync<D: Disk>(disk: &mut D, file: u8, at: u64, bytes: &[u8]) ->
     ensures rest { SameRest (D.view disk.old) (D.view disk.new) }
     ensures calls { (D.view disk.new).disk.calls ≤ (D.view disk.old).disk.calls + 2 }
     ensures bytes { (D.view disk.new).disk.written ≤ (D.view disk.old).disk.written + length bytes.now }
+    ensures faultless { OnOk result ((D.view disk.new).disk.faults ≡ (D.view disk.old).disk.faults) }
     ensures cause { OnErr result (Rose (D.view disk.old).disk.faults (D.view disk.new).disk.faults) }
     ensures written { OnOk result (IsTrue (D.view disk.old).disk.told
         → Written at bytes.now ((D.view disk.old).disk.reads file) ((D.view disk.new).disk.reads file)) }
@@ -39,6 +40,7 @@ pub fn add_block<D: Disk>(disk: &mut D, file: u8, gate: u64, block: &[u8]) -> Re
     ensures rest { SameRest (D.view disk.old) (D.view disk.new) }
     ensures calls { (D.view disk.new).disk.calls ≤ (D.view disk.old).disk.calls + 4 }
     ensures bytes { (D.view disk.new).disk.written ≤ (D.view disk.old).disk.written + length block.now + 1 }
+    ensures faultless { OnOk result ((D.view disk.new).disk.faults ≡ (D.view disk.old).disk.faults) }
     ensures cause { OnErr result (Rose (D.view disk.old).disk.faults (D.view disk.new).disk.faults) }
 {
     write_and_sync(disk, file, gate + 1, block)?;
