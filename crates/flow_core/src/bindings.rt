@@ -116,13 +116,6 @@ fn is_id(alloc: Global, text: &str) -> Result<bool, AllocError>
     Ok(id.is_some())
 }
 
-fn is_name(alloc: Global, text: &str) -> Result<bool, AllocError>
-    ensures { IfOk result (λ fits. IsTrue fits ↔ IsName text.now) }
-{
-    let name = Name::read(alloc, text)?;
-    Ok(name.is_some())
-}
-
 // Whether a member binds a filter to an identifier.
 fn binds_filter(alloc: Global, pair: &Pair) -> Result<bool, AllocError>
     ensures { IfOk result (λ fits. IsTrue fits ↔ (IsId (pair_data pair.now).0 × IsFilter (pair_data pair.now).1)) }
@@ -172,42 +165,39 @@ fn is_short_text(value: &Tree) -> bool
 }
 
 // Whether a member binds a text to a variable.
-fn binds_text(alloc: Global, pair: &Pair) -> Result<bool, AllocError>
-    ensures { IfOk result (λ fits. IsTrue fits ↔ (IsName (pair_data pair.now).0 × TextFits (IsShort 4096) (pair_data pair.now).1)) }
+fn binds_text(pair: &Pair) -> bool
+    ensures { IsTrue result ↔ (IsName (pair_data pair.now).0 × TextFits (IsShort 4096) (pair_data pair.now).1) }
 {
-    let has_name = is_name(alloc, pair.name.as_str())?;
-    Ok(has_name && is_short_text(&pair.tree))
+    Name::fits(pair.name.as_str()) && is_short_text(&pair.tree)
 }
 
-fn bind_texts(alloc: Global, members: &[Pair]) -> Result<bool, AllocError>
-    ensures { IfOk result (λ fits. IsTrue fits ↔ All (λ m. IsName m.0 × TextFits (IsShort 4096) m.1) (map pair_data members.now)) }
+fn bind_texts(members: &[Pair]) -> bool
+    ensures { IsTrue result ↔ All (λ m. IsName m.0 × TextFits (IsShort 4096) m.1) (map pair_data members.now) }
 {
     for pair in members {
-        if !binds_text(alloc, pair)? {
-            return Ok(false);
+        if !binds_text(pair) {
+            return false;
         }
     }
-    Ok(true)
+    true
 }
 
-fn is_text_table(alloc: Global, value: &Tree) -> Result<bool, AllocError>
-    ensures { IfOk result (λ fits. IsTrue fits ↔ ObjectWith (λ name text. IsName name × TextFits (IsShort 4096) text) (data_of value.now)) }
+fn is_text_table(value: &Tree) -> bool
+    ensures { IsTrue result ↔ ObjectWith (λ name text. IsName name × TextFits (IsShort 4096) text) (data_of value.now) }
 {
     let Some(members) = members_of(value) else {
-        return Ok(false);
+        return false;
     };
-    let fits = bind_texts(alloc, pairs(members))?;
-    Ok(fits)
+    bind_texts(pairs(members))
 }
 
-fn may_bind_texts(alloc: Global, tree: &Tree) -> Result<bool, AllocError>
-    ensures { IfOk result (λ fits. IsTrue fits ↔ MayHave (codes "variables") (ObjectWith (λ name text. IsName name × TextFits (IsShort 4096) text)) (data_of tree.now)) }
+fn may_bind_texts(tree: &Tree) -> bool
+    ensures { IsTrue result ↔ MayHave (codes "variables") (ObjectWith (λ name text. IsName name × TextFits (IsShort 4096) text)) (data_of tree.now) }
 {
-    let Some(value) = member(tree, "variables") else {
-        return Ok(true);
-    };
-    let fits = is_text_table(alloc, value)?;
-    Ok(fits)
+    match member(tree, "variables") {
+        Some(value) => is_text_table(value),
+        None => true,
+    }
 }
 
 fn is_well_formed(alloc: Global, tree: &Tree) -> Result<bool, AllocError>
@@ -215,7 +205,7 @@ fn is_well_formed(alloc: Global, tree: &Tree) -> Result<bool, AllocError>
 {
     let has_parts = has_parts(tree);
     let has_agents = may_bind_filters(alloc, tree)?;
-    let has_variables = may_bind_texts(alloc, tree)?;
+    let has_variables = may_bind_texts(tree);
     Ok(has_parts && has_agents && has_variables)
 }
 

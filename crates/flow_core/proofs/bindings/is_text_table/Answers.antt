@@ -9,4 +9,4 @@ use Rattle.flow_core.proofs.bindings.is_text_table.Goals as goal
 
 pub returns : goal.returns
 returns c =
-    object_with (λ (m : List ℕ × Data). IsName m.0 × TextFits (IsShort 4096) m.1) (as_object (data_of c.args.value.now)) c.in-Some.members.now (map pair_data c.pairs.result.now) c.in_ok-fits.fits c.in-Some.ensures c.pairs.ensures.members c.in_ok-fits.ensures
+    object_with (λ (m : List ℕ × Data). IsName m.0 × TextFits (IsShort 4096) m.1) (as_object (data_of c.args.value.now)) c.in-Some.members.now (map pair_data c.pairs.result.now) c.bind_texts.result c.in-Some.ensures c.pairs.ensures.members c.bind_texts.ensures
