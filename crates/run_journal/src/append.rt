@@ -7,7 +7,7 @@ ghost use Rattle.run_journal.specs.Layout.{HasLayout, Stands, BeforeOrAfter, Sta
 
 use crate::error::JournalError;
 use crate::journal::Journal;
-use crate::layout::MOST_IMAGE;
+use crate::layout::{HEAD_SIZE, MOST_IMAGE};
 use crate::store::add_block;
 use cacao_site::{Bytes, Disk};
 
@@ -55,14 +55,14 @@ impl Journal {
             return Err(JournalError::Broken);
         }
         let size = item.len() as u64;
-        let length = self.gate + 6 + size;
+        let length = self.gate + HEAD_SIZE as u64 + size + 1;
         if length > MOST_IMAGE {
             return Err(JournalError::Full { length });
         }
         fill_block(&mut self.block, item.as_slice());
         match add_block(disk, self.file, self.gate, self.block.as_slice()) {
             Ok(()) => {
-                self.gate += 5 + size;
+                self.gate += HEAD_SIZE as u64 + size;
                 self.items.push_reserved(item);
                 self.spare = 0;
                 Ok(())

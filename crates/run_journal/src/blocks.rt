@@ -32,7 +32,7 @@ pub fn read_blocks<D: Disk>(
     ensures memory { IsErrOf result JournalError.Memory → (D.view disk.new).disk.faults ≡ (D.view disk.old).disk.faults }
     ensures no_other { OnErr result ((IsErrOf result JournalError.Disk) ⊎ (IsErrOf result JournalError.Memory)) }
 {
-    let mut image = Vec::new(alloc);
+    let mut image = Vec::with_capacity(alloc, size as usize)?;
     let mut end = size;
     for _block in 0..size / BLOCK as u64 + 1 {
         end = read_block(disk, file, end, &mut image)?;

@@ -4,6 +4,7 @@ ghost use Rattle.run_journal.specs.Layout.{front, IsEntry};
 ghost use Rattle.run_journal.specs.JournalView.{JournalView};
 
 use crate::error::JournalError;
+use crate::layout::{HEAD_SIZE, HEADER_SIZE};
 use cacao_site::Bytes;
 use std::alloc::Global;
 use std::marker::Model;
@@ -42,9 +43,9 @@ fn place_in(items: &[Bytes]) -> u64
     requires { length (front items.now) < 67_108_864 }
     ensures { result ≡ length (front items.now) }
 {
-    let mut place = 8;
+    let mut place = HEADER_SIZE as u64;
     for item in items {
-        place += 5 + item.len() as u64;
+        place += HEAD_SIZE as u64 + item.len() as u64;
     }
     place
 }
@@ -58,7 +59,7 @@ impl Journal {
     {
         Journal {
             file,
-            gate: 8,
+            gate: HEADER_SIZE as u64,
             broken: false,
             prepared: false,
             items: Vec::new(alloc),
@@ -97,7 +98,7 @@ impl Journal {
         ensures prepared { self.new.prepared ≡ self.old.prepared }
     {
         self.block.clear();
-        self.block.reserve(bytes as usize + 5)?;
+        self.block.reserve(bytes as usize + HEAD_SIZE)?;
         self.items.reserve(1)?;
         self.spare = bytes as usize + 1;
         Ok(())

@@ -5,7 +5,7 @@ ghost use Rattle.run_journal.specs.Layout.{Entries, HasLayout, IsBroken, IsDamag
 
 use crate::entries::Entry;
 use crate::error::ImageError;
-use crate::layout::{HEADER, MOST_ENTRY};
+use crate::layout::{BLANK, HEADER_SIZE, MOST_ENTRY};
 use cacao_site::Bytes;
 use std::alloc::{AllocError, Global};
 
@@ -29,7 +29,7 @@ pub fn read_list(alloc: Global, image: &[u8]) -> Result<Found, ImageError>
     if let Some(place) = header_break(image) {
         return Err(ImageError::Damaged { place });
     }
-    let split = read_entries(alloc, &image[8..])?;
+    let split = read_entries(alloc, &image[HEADER_SIZE..])?;
     let gate = (image.len() - split.rest.len()) as u64;
     if split.broken {
         return Err(ImageError::Damaged { place: gate });
@@ -54,8 +54,8 @@ fn header_break(image: &[u8]) -> Option<u64>
         × (slice_index image.now place ≢ slice_index header place)) }
     ensures same { IfNone result (take 8 image.now ≡ header) }
 {
-    for i in 0..8usize {
-        if image[i] != HEADER[i] {
+    for i in 0..HEADER_SIZE {
+        if image[i] != BLANK[i] {
             return Some(i as u64);
         }
     }
@@ -83,7 +83,7 @@ fn read_entries<'a>(alloc: Global, bytes: &'a [u8]) -> Result<Split<'a>, AllocEr
     let mut rest = bytes;
     while let Some((item, after)) = split_entry(rest) {
         entries.push(Entry {
-            place: (8 + bytes.len() - rest.len()) as u64,
+            place: (HEADER_SIZE + bytes.len() - rest.len()) as u64,
             bytes: Bytes::from_slice(alloc, item)?,
         })?;
         rest = after;
