@@ -1,5 +1,5 @@
 -- What the calls of a filter do.
-use Rattle.std.specs.Prelude.{◌≡◌, ◌⊎◌, ℕ, ◌+◌, ◌<◌, ◌≤◌, length, true, List, [], ◌∷◌, ◌++◌}
+use Rattle.std.specs.Prelude.{◌≡◌, ◌≢◌, ◌⊎◌, ℕ, ◌+◌, ◌<◌, ◌≤◌, length, true, List, [], ◌∷◌, ◌++◌}
 use Rattle.cacao_site.specs.declared.parcel.Parcel.{Parcel}
 use Rattle.cacao_site.specs.DiskCalls.{AllLeft, OnlyFile}
 use Rattle.cacao_site.specs.SiteCalls.{Puts}
@@ -29,11 +29,12 @@ pub record Offers (v : ActuatorView) (parcel : Parcel) (moment : ℕ) (old new :
   pub in_range : ActInRange (act_for v.acts parcel moment)
   pub adds : MayAdd v (act_for v.acts parcel moment) old new
 
--- the act was kept, so that it is in each image, and then its reply was put
+-- The act was kept, so that it is in each image, and then its reply was put. No call of the disk failed.
 pub record Acts (v w : ActuatorView) (parcel : Parcel) (moment : ℕ) (old new : SiteView) : Type 0 where
   pub between : SiteView  -- the site behind the act and before the put
   pub offers : Offers v parcel moment old between
   pub durable : AllLeft v.agent between.disk (HoldsActs (v.acts ++ act_for v.acts parcel moment ∷ []))
+  pub steady : between.disk.faults ≡ old.disk.faults
   pub puts : Puts (reply_parcel_of v.agent parcel (act_for v.acts parcel moment).reply) between new
   pub final : IsFinalReply (act_for v.acts parcel moment).reply
   pub fits : length_with v.acts (act_for v.acts parcel moment) ≤ 67_108_864
@@ -54,10 +55,12 @@ MayHaveDone Disk v parcel moment old new = Offers v parcel moment old new
 MayHaveDone Memory v parcel moment old new = (new ≡ old) ⊎ Offers v parcel moment old new
 MayHaveDone _ v parcel moment old new = new ≡ old
 
--- a refusal breaks the filter; nothing else of it changed but that the header may stand
+-- A refusal breaks the filter; nothing else of it changed but that the header may stand. A call of the disk failed only where the
+-- refusal says so.
 pub record Refuses (v w : ActuatorView) (parcel : Parcel) (moment : ℕ) (error : ActError) (old new : SiteView) : Type 0 where
   pub view : w ≡ record v { prepared = w.prepared; broken = true }
   pub site : MayHaveDone error v parcel moment old new
+  pub steady : error ≢ Disk → new.disk.faults ≡ old.disk.faults
 
 -- with the act on a command of a new run and issue the file would have so many bytes, which is past its limit
 pub record Overflows (v : ActuatorView) (parcel : Parcel) (moment needed : ℕ) : Type 0 where

@@ -1,5 +1,5 @@
 -- What contracts see of a filter.
-use Rattle.std.specs.Prelude.{◌≡◌, ℕ, ◌≤◌, max, Bool, true, false, List, length}
+use Rattle.std.specs.Prelude.{◌≡◌, ℕ, ◌≤◌, max, Bool, true, false, List}
 use Rattle.cacao_site.specs.declared.parcel.Parcel.{Parcel}
 use Rattle.cacao_site.specs.DiskCalls.{AllLeft}
 use Rattle.cacao_site.specs.View.{SiteView}

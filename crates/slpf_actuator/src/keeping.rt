@@ -117,6 +117,7 @@ fn keep<D: Disk>(
     ensures file { journal.new.file ≡ journal.old.file }
     ensures acts_stay { OnErr result (history.new ≡ history.old) }
     ensures disk { IsErrOf result ActError.Disk → Rose (D.view disk.old).disk.faults (D.view disk.new).disk.faults }
+    ensures steady { result ≢ Err ActError.Disk → (D.view disk.new).disk.faults ≡ (D.view disk.old).disk.faults }
     ensures full { (needed : ℕ) → IsErrOf result (ActError.Full needed)
         → (disk.new ≡ disk.old) × (needed ≡ length_with history.old act) × (67_108_864 < needed) }
     ensures full_only { 67_108_864 < length_with history.old act
@@ -159,6 +160,7 @@ pub(crate) fn act_on<S: Site>(
     ensures file { journal.new.file ≡ journal.old.file }
     ensures acts_stay { OnErr result (history.new ≡ history.old) }
     ensures disk { IsErrOf result ActError.Disk → Rose (S.view site.old).disk.faults (S.view site.new).disk.faults }
+    ensures steady { result ≢ Err ActError.Disk → (S.view site.new).disk.faults ≡ (S.view site.old).disk.faults }
     ensures full { (needed : ℕ) → IsErrOf result (ActError.Full needed)
         → Overflows (view_over journal.old history.old) command.now moment needed }
     ensures full_stays { (needed : ℕ) → IsErrOf result (ActError.Full needed) → site.new ≡ site.old }

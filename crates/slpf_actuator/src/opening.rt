@@ -45,6 +45,8 @@ impl Actuator {
         ensures damaged { (place : ℕ) → IsErrOf result (ActError.Damaged place) → IsTrue (D.view disk.old).disk.told
             → IsDamaged ((D.view disk.new).disk.reads agent) place }
         ensures disk { IsErrOf result ActError.Disk → Rose (D.view disk.old).disk.faults (D.view disk.new).disk.faults }
+        // No other answer counts a fault.
+        ensures steady { result ≢ Err ActError.Disk → (D.view disk.new).disk.faults ≡ (D.view disk.old).disk.faults }
         ensures no_other { (needed : ℕ) → (result ≢ Err ActError.Broken) × (result ≢ Err (ActError.Full needed)) }
     {
         let journal = match Journal::open_on(alloc, disk, agent) {

@@ -48,6 +48,7 @@ returns-in-Err-act_on-clause-refused g c = λ whole.
     record {
       view = broken_view c.args.self.now inside.journal c.act_on.new.journal inside.history c.act_on.new.history inside.broken c.self.view_is says.file says.acts_stay;
       site = may_have_done c.in-Err-act_on.error c.args.self.now c.args.parcel.now c.args.moment old new offers (λ needed e. ap g.S.Disk.view (says.full_stays needed e)) says.no_other;
+      steady = λ other. says.steady (λ e. other (cc));
     }
 
 pub returns-in-Err-act_on-clause-broken : goal.returns-in-Err-act_on-clause-broken
