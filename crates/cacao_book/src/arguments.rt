@@ -1,4 +1,4 @@
-//! Arguments of actions: names of variables, or references to them.
+// Arguments of actions: names of variables, or references to them.
 ghost use Rattle.std.specs.Prelude.{◌≡◌, ◌↔◌, ◌≤◌, IsTrue, All, IfOk, codes, length, map};
 ghost use Rattle.cacao_vars.specs.Names.{IsName};
 ghost use Rattle.cacao_json.specs.Tree.{data_of};

@@ -1,4 +1,4 @@
-//! The rules of shape of a book, K1 to K4.
+// The rules of shape of a book, K1 to K4.
 ghost use Rattle.std.specs.Prelude.{◌≡◌, ◌↔◌, ◌≤◌, IsTrue, All, IfOk, codes, map};
 ghost use Rattle.cacao_ids.specs.Ids.{IsId};
 ghost use Rattle.cacao_json.specs.Tree.{data_of, pair_data};

@@ -1,4 +1,4 @@
-//! Playbooks.
+// Playbooks.
 use crate::step_lists::Steps;
 use crate::texts::Texts;
 use cacao_ids::{Id, Stamp};

@@ -1,4 +1,4 @@
-//! Cases of a switch.
+// Cases of a switch.
 use cacao_json::Text;
 use std::marker::Model;
 

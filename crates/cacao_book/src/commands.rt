@@ -1,4 +1,4 @@
-//! Commands of actions.
+// Commands of actions.
 use cacao_json::Text;
 use std::marker::Model;
 

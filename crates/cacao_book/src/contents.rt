@@ -1,4 +1,4 @@
-//! Commands of actions, and their contents.
+// Commands of actions, and their contents.
 ghost use Rattle.std.specs.Prelude.{◌≡◌, ◌↔◌, IsTrue, IsSome, All, IfOk, IfSome, Some, codes, map};
 ghost use Rattle.base64.specs.Engines.{standard};
 ghost use Rattle.base64.specs.GeneralPurpose.{decoded_of};

@@ -1,4 +1,4 @@
-//! Variable dictionaries, and tables under identifiers.
+// Variable dictionaries, and tables under identifiers.
 ghost use Rattle.std.specs.Prelude.{◌≡◌, ◌↔◌, ◌≤◌, IsTrue, All, IfOk, codes, length, map};
 ghost use Rattle.cacao_ids.specs.Ids.{IsId};
 ghost use Rattle.cacao_vars.specs.Names.{IsName};

@@ -1,4 +1,4 @@
-//! Tests of texts that take memory.
+// Tests of texts that take memory.
 ghost use Rattle.std.specs.Prelude.{◌≡◌, ◌↔◌, IsTrue, IsSome, IfOk, IfSome, codes};
 ghost use Rattle.cacao_ids.specs.Ids.{IsId, HasObjectType};
 ghost use Rattle.cacao_ids.specs.Stamps.{IsStamp};

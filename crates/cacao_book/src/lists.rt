@@ -1,4 +1,4 @@
-//! Lists in a tree, and the members of an object in order.
+// Lists in a tree, and the members of an object in order.
 ghost use Rattle.std.specs.Prelude.{◌≡◌, ◌↔◌, IsTrue, All, IfOk, map};
 ghost use Rattle.cacao_json.specs.Tree.{data_of, pair_data};
 ghost use Rattle.cacao_book.specs.Members.{Has, MayHave, ListOf, IsText, items_in, members_in, members_at};

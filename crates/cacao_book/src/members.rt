@@ -1,4 +1,4 @@
-//! Looking into an object. No call here takes memory.
+// Looking into an object. No call here takes memory.
 ghost use Rattle.std.specs.Prelude.{◌≡◌, ◌↔◌, ◌≤◌, IsTrue, IsSome, IsSomeAnd, map, option_map, option_and_then, unwrap_or, length};
 ghost use Rattle.serde_json.specs.Find.{get, as_str, as_bool, as_array, as_object};
 ghost use Rattle.cacao_json.specs.Tree.{data_of, pair_data};

@@ -1,4 +1,4 @@
-//! Reading a tree as a playbook.
+// Reading a tree as a playbook.
 ghost use Rattle.std.specs.Prelude.{◌≡◌, ◌++◌, OnOk, IfOk, IfErr, codes, map};
 ghost use Rattle.cacao_ids.specs.Stamps.{IsStamp};
 ghost use Rattle.cacao_json.specs.Tree.{data_of, pair_data};

@@ -1,4 +1,4 @@
-//! Why a tree is no playbook.
+// Why a tree is no playbook.
 ghost use Rattle.std.specs.Prelude.{◌≡◌};
 ghost use Rattle.cacao_book.specs.declared.refusals.BookError.TheVariants as book_error;
 

@@ -1,4 +1,4 @@
-//! The first break of the rules of shape.
+// The first break of the rules of shape.
 ghost use Rattle.std.specs.Prelude.{◌≡◌, OnOk, IfOk, IfErr};
 ghost use Rattle.cacao_json.specs.Tree.{data_of, pair_data};
 ghost use Rattle.cacao_book.specs.Least.{FirstRule};

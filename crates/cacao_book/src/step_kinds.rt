@@ -1,4 +1,4 @@
-//! What steps do.
+// What steps do.
 use crate::cases::Cases;
 use crate::commands::StepCommands;
 use crate::texts::Texts;

@@ -1,4 +1,4 @@
-//! Lists of steps.
+// Lists of steps.
 use crate::steps::Step;
 use std::marker::Model;
 

@@ -1,4 +1,4 @@
-//! Reading the steps of a book that breaks no rule of shape.
+// Reading the steps of a book that breaks no rule of shape.
 ghost use Rattle.std.specs.Prelude.{◌≡◌, ◌≤◌, IsTrue, All, IfOk, codes, map, nat_abs};
 ghost use Rattle.std.specs.Option.{option_map_or};
 ghost use Rattle.cacao_ids.specs.Ids.{IsId};

@@ -1,4 +1,4 @@
-//! The rules of shape of a step, K5 to K12.
+// The rules of shape of a step, K5 to K12.
 ghost use Rattle.std.specs.Prelude.{◌≡◌, ◌↔◌, ◌≤◌, IsTrue, All, IfOk, codes, map};
 ghost use Rattle.cacao_json.specs.Tree.{data_of, pair_data};
 ghost use Rattle.cacao_book.specs.Least.{FirstRule};

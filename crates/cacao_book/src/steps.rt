@@ -1,4 +1,4 @@
-//! Steps of a playbook.
+// Steps of a playbook.
 use crate::step_kinds::StepKind;
 use cacao_ids::Id;
 use cacao_json::Text;

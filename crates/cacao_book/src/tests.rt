@@ -1,4 +1,4 @@
-//! Playbooks whose answers are known from outside.
+// Playbooks whose answers are known from outside.
 use crate::{Book, BookError, Step, StepKind, find_place, read_book};
 use cacao_json::{Text, Tree, find_tree};
 use cacao_vars::Kind;

@@ -1,4 +1,4 @@
-//! Lists of texts.
+// Lists of texts.
 use cacao_json::Text;
 use std::marker::Model;
 

@@ -1,4 +1,4 @@
-//! The rules of a whole book, one function each.
+// The rules of a whole book, one function each.
 ghost use Rattle.std.specs.Prelude.{◌≡◌, ◌↔◌, ◌<◌, IsTrue, All, length, not};
 ghost use Rattle.std.specs.List.{list_all};
 ghost use Rattle.std.specs.Str.{bytes_eq};

@@ -1,4 +1,4 @@
-//! Lists of playbooks.
+// Lists of playbooks.
 ghost use Rattle.std.specs.Prelude.{◌≡◌, [], ◌∷◌, ◌++◌, OnOk, OnErr};
 
 use cacao_book::Book;

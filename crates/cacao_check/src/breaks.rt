@@ -1,4 +1,4 @@
-//! Broken rules.
+// Broken rules.
 ghost use Rattle.std.specs.Prelude.{◌≡◌};
 ghost use Rattle.cacao_check.specs.declared.breaks.CheckError.TheVariants as check_error;
 

@@ -1,4 +1,4 @@
-//! The links of a book by the places of its steps, both ways.
+// The links of a book by the places of its steps, both ways.
 ghost use Rattle.std.specs.Prelude.{IfOk};
 ghost use Rattle.cacao_check.specs.Charts.{IsChartOf};
 

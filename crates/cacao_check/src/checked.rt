@@ -1,4 +1,4 @@
-//! Playbooks that break no rule.
+// Playbooks that break no rule.
 use crate::books::Books;
 use crate::breaks::Mode;
 use crate::looking::{seen_at_key, stands_in, step_with};

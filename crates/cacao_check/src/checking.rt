@@ -1,4 +1,4 @@
-//! Whether playbooks make sense together.
+// Whether playbooks make sense together.
 ghost use Rattle.std.specs.Prelude.{◌≡◌, ◌≤◌, length, IfOk, OnOk, IfErr};
 ghost use Rattle.cacao_check.specs.Sense.{IsSound};
 ghost use Rattle.cacao_check.specs.Checks.{RefusesBooks};

@@ -1,4 +1,4 @@
-//! Where paths end.
+// Where paths end.
 ghost use Rattle.std.specs.Prelude.{◌≡◌, ◌↔◌, ◌⊎◌, ℕ, ◌<◌, ◌≤◌, length, All, Contains, IfOk, OnOk, IsTrue, IsSomeAnd, slice_get};
 ghost use Rattle.cacao_check.specs.Endings.{is_control, CanEnd, ReachesEnd};
 ghost use Rattle.cacao_check.specs.Charts.{IsChartOf, AreMarksOf};

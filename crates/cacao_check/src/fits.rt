@@ -1,4 +1,4 @@
-//! Whether a text may be the value of a variable of a kind. No call here takes memory.
+// Whether a text may be the value of a variable of a kind. No call here takes memory.
 ghost use Rattle.std.specs.Prelude.{◌≡◌, ◌↔◌, IsTrue, ◌≤◌, ◌&&◌, length, nat_le};
 ghost use Rattle.std.specs.List.{list_all};
 ghost use Rattle.cacao_check.specs.Fits.{is_letter as is_letter_of, is_hex as is_hex_of, is_scheme_character, is_visible, may_stand_in_mac as may_stand, IsMac, IsUri, IsOfKind, FitsKind};

@@ -1,4 +1,4 @@
-//! What may be wrong with what a step sees of a name.
+// What may be wrong with what a step sees of a name.
 ghost use Rattle.std.specs.Prelude.{◌≡◌, ◌↔◌, ◌<◌, ◌≤◌, ◌⊎◌, ℕ, length, IfOk, OnOk, IsTrue, IsSome, Option, is_some, true};
 ghost use Rattle.std.specs.Option.{option_copied};
 ghost use Rattle.reachability.specs.Tables.{IsMarked, IsOpen};

@@ -1,4 +1,4 @@
-//! Laws over the definitions that the contracts of this crate speak by. Each function does nothing; its contract is the law.
+// Laws over the definitions that the contracts of this crate speak by. Each function does nothing; its contract is the law.
 ghost use Rattle.cacao_check.specs.Regions.{ScopesAgree};
 ghost use Rattle.cacao_check.specs.Laws.{SoundGives, SoundEnds, ResultsFit, FirstBreakIs};
 

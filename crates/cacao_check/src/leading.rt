@@ -1,4 +1,4 @@
-//! Which books lead to which, by their playbook-actions.
+// Which books lead to which, by their playbook-actions.
 ghost use Rattle.std.specs.Prelude.{◌≡◌, ◌↔◌, ◌∷◌, [], ℕ, ◌≤◌, ◌<◌, length, Contains, IfOk, OnOk, ◌++◌, option_to_list};
 ghost use Rattle.reachability.specs.Tables.{IsWithin, row as row_of};
 ghost use Rattle.cacao_check.specs.Calls.{Calls, AreCallsOf};

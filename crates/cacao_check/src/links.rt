@@ -1,4 +1,4 @@
-//! The links of steps as places.
+// The links of steps as places.
 ghost use Rattle.std.specs.Prelude.{◌≡◌, ◌<◌, ◌≤◌, ◌++◌, length, map, filter_map, option_to_list, All, IfOk, OnOk, Option};
 ghost use Rattle.cacao_book.specs.Steps.{IsInKeyOrder, place_of};
 ghost use Rattle.cacao_check.specs.Links.{next_keys, head_keys, start_places};

@@ -1,4 +1,4 @@
-//! Looking into a book by the keys of its steps.
+// Looking into a book by the keys of its steps.
 ghost use Rattle.std.specs.Prelude.{◌≡◌, ◌↔◌, IsTrue, IfOk};
 ghost use Rattle.std.specs.Option.{option_copied};
 ghost use Rattle.cacao_book.specs.Steps.{step_with as step_under};

@@ -1,4 +1,4 @@
-//! What was searched for already.
+// What was searched for already.
 ghost use Rattle.std.specs.Prelude.{◌≡◌, ◌++◌, ◌∷◌, [], IfOk, OnOk, IfSome, IsTrue};
 ghost use Rattle.cacao_book.specs.declared.books.Book.{Book as ABook};
 ghost use Rattle.cacao_check.specs.Memories.{Remembers, IsRecalled};

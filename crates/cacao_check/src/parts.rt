@@ -1,4 +1,4 @@
-//! What is read of a step once.
+// What is read of a step once.
 use cacao_cond::Cond;
 use cacao_json::Tree;
 use cacao_vars::Name;

@@ -1,4 +1,4 @@
-//! Reading the texts and the links of a step.
+// Reading the texts and the links of a step.
 ghost use Rattle.std.specs.Prelude.{◌≡◌, ℕ, ◌≤◌, ◌<◌, length, map, All, IfOk, IfSome, IfNone, IsSomeAnd, List, option_map, option_and_then};
 ghost use Rattle.cacao_json.specs.Tree.{data_of};
 ghost use Rattle.cacao_cond.specs.Trees.{AnyTree, tree_of};

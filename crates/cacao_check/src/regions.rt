@@ -1,4 +1,4 @@
-//! Regions of a book, as sets of places.
+// Regions of a book, as sets of places.
 ghost use Rattle.std.specs.Prelude.{◌≡◌, ◌↔◌, ◌<◌, [], length, MatchOption, IfOk, IsTrue, slice_index_or};
 ghost use Rattle.reachability.specs.Tables.{IsMarked};
 ghost use Rattle.cacao_check.specs.Regions.{InRegion, IsPlaced, Encloses};

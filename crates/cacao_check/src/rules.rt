@@ -1,4 +1,4 @@
-//! The rules of sense by their names.
+// The rules of sense by their names.
 ghost use Rattle.std.specs.Prelude.{◌≡◌, ◌≤◌};
 ghost use Rattle.cacao_check.specs.Sense.{sense_number};
 

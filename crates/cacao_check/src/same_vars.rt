@@ -1,4 +1,4 @@
-//! Whether two declarations are the same.
+// Whether two declarations are the same.
 ghost use Rattle.std.specs.Prelude.{◌≡◌, ◌↔◌, IsTrue};
 ghost use Rattle.cacao_check.specs.Flaws.{same_kind as same_kind_of};
 

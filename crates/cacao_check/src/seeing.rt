@@ -1,4 +1,4 @@
-//! What a step sees of a name.
+// What a step sees of a name.
 ghost use Rattle.std.specs.Prelude.{◌≡◌, ◌↔◌, ◌⊎◌, ◌<◌, length, Contains, IsTrue, IfOk, OnOk};
 ghost use Rattle.std.specs.Option.{option_copied};
 ghost use Rattle.cacao_check.specs.declared.seen.Sight.{Sight as ASight};

@@ -1,4 +1,4 @@
-//! What a step sees of a name.
+// What a step sees of a name.
 use cacao_vars::Var;
 use std::marker::Model;
 

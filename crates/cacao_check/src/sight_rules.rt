@@ -1,4 +1,4 @@
-//! The rules of a step that look at what it sees of names, one function each.
+// The rules of a step that look at what it sees of names, one function each.
 ghost use Rattle.std.specs.Prelude.{◌≡◌, ◌↔◌, ◌⊎◌, ◌<◌, ℕ, Bool, IsTrue, IsSome, IfOk, OnOk, All, length, Some, slice_get};
 ghost use Rattle.cacao_book.specs.Steps.{KeepsLimits};
 ghost use Rattle.cacao_check.specs.Links.{declares};

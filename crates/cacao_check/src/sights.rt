@@ -1,4 +1,4 @@
-//! Which steps see something of a name, all at once.
+// Which steps see something of a name, all at once.
 ghost use Rattle.std.specs.Prelude.{◌≡◌, ◌↔◌, ◌⊎◌, ℕ, ◌<◌, length, All, Contains, IfOk, OnOk, IsTrue, IsSome};
 ghost use Rattle.reachability.specs.Closure.{Closure};
 ghost use Rattle.cacao_check.specs.Links.{declares};

@@ -1,4 +1,4 @@
-//! What a step has, by its kind. No call here takes memory.
+// What a step has, by its kind. No call here takes memory.
 ghost use Rattle.std.specs.Prelude.{◌≡◌, ◌≤◌, IfSome, codes, length};
 ghost use Rattle.std.specs.Option.{option_copied};
 ghost use Rattle.cacao_book.specs.Steps.{KindKeepsLimits};

@@ -1,4 +1,4 @@
-//! The rules of a step that look at no other step's variables, one function each. No call here takes memory.
+// The rules of a step that look at no other step's variables, one function each. No call here takes memory.
 ghost use Rattle.std.specs.Prelude.{◌≡◌, ◌↔◌, ◌<◌, ◌≤◌, ◌++◌, ◌∷◌, List, ℕ, IsTrue, IsSome, IsSomeAnd, IfSome, All, map, length, Some, slice_get, option_map, option_to_list, is_some};
 ghost use Rattle.std.specs.List.{list_all, list_any};
 ghost use Rattle.std.specs.Str.{bytes_eq};

@@ -1,4 +1,4 @@
-//! What is found out of a book before its rules are asked.
+// What is found out of a book before its rules are asked.
 ghost use Rattle.std.specs.Prelude.{◌≡◌, ◌≤◌, ◌<◌, length, IfOk, Some, slice_get, Contains, ℕ, ◌↔◌};
 ghost use Rattle.cacao_check.specs.Surveys.{IsSurveyOf, AreSurveysOf};
 

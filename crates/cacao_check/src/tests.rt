@@ -1,4 +1,4 @@
-//! Playbooks whose answers are known from outside.
+// Playbooks whose answers are known from outside.
 ghost use Rattle.std.specs.Prelude.{◌≡◌, ◌<◌, ◌≤◌, IfOk, length};
 
 use crate::{Books, Break, CheckError, Checked, Mode, Parts, Sight, check, value_fits};

@@ -1,4 +1,4 @@
-//! The names that a step uses.
+// The names that a step uses.
 ghost use Rattle.std.specs.Prelude.{◌≡◌, ℕ, [], ◌++◌, List, map, Contains, IfOk, OnOk, ◌↔◌, option_map, option_to_list};
 ghost use Rattle.std.specs.List.{flat_map};
 ghost use Rattle.cacao_json.specs.Tree.{data_of, pair_data, items_of, members_of};

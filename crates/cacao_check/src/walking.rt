@@ -1,4 +1,4 @@
-//! The walk over books, their places and the rules.
+// The walk over books, their places and the rules.
 ghost use Rattle.std.specs.Prelude.{◌≡◌, ◌↔◌, ◌<◌, ◌≤◌, ◌+◌, IsTrue, IfOk, OnOk, Some, length, slice_get, option_map, option_and_then};
 ghost use Rattle.std.specs.Option.{ForSome};
 ghost use Rattle.cacao_book.specs.Shape.{place_rank};

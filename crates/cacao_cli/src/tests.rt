@@ -1,4 +1,4 @@
-//! What the program says and answers, through `top`, on texts whose canonical form is known from outside.
+// What the program says and answers, through `top`, on texts whose canonical form is known from outside.
 mod audits;
 mod filters;
 mod rehearsals;

@@ -1,4 +1,4 @@
-//! Stamps.
+// Stamps.
 ghost use Rattle.std.specs.Prelude.{◌≡◌, ◌≢◌, ◌↔◌, ◌≤◌, ◌+◌, ◌/◌, ◌%◌, ℕ, IsTrue, IsSome, IfOk, IfSome, MatchOption, nat_eq};
 ghost use Rattle.std.specs.Cmp;
 ghost use Rattle.std.specs.Cmp.Lexicographic.{pointwise, slice_cmp, nat_list_eq_equiv, nat_list_cmp_total, texts_ties, texts_po};

@@ -1,4 +1,4 @@
-//! The grammars against texts whose answers are known from outside.
+// The grammars against texts whose answers are known from outside.
 use crate::{Id, Stamp, is_uuid};
 use std::test::Fail;
 

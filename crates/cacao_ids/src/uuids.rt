@@ -1,4 +1,4 @@
-//! The second part of an identifier.
+// The second part of an identifier.
 ghost use Rattle.std.specs.Prelude.{◌≡◌, ◌↔◌, ◌⊎◌, ◌<◌, IsTrue, EachIndex, slice_index};
 ghost use Rattle.cacao_ids.specs.Uuids.{IsUuid};
 

@@ -1,1 +1,1 @@
-//! Lines of filters, against those that the formats show.
+// Lines of filters, against those that the formats show.

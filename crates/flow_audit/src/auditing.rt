@@ -1,4 +1,4 @@
-//! The audit of the files of a run.
+// The audit of the files of a run.
 ghost use Rattle.std.specs.Prelude.{◌≡◌, ◌⊎◌, ℕ, List, length, sum_by, IfOk, IfErr, IsErrOf};
 ghost use Rattle.run_records.specs.declared.act.Act.{Act};
 ghost use Rattle.flow_audit.specs.Audits.{AllAgree, IsVerdict, PassesTasksAt};

@@ -1,4 +1,4 @@
-//! A command's identifier and its arguments.
+// A command's identifier and its arguments.
 ghost use Rattle.std.specs.Prelude.{◌≡◌, ◌++◌, ◌∷◌, IfOk, IfSome, option_map, codes, string_bytes};
 ghost use Rattle.std.specs.Fmt.{decimal};
 ghost use Rattle.serde_json.specs.Data.{object, string};

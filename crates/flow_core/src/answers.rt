@@ -1,4 +1,4 @@
-//! Replies, what operators tell, deadlines that pass, and the Upgrade.
+// Replies, what operators tell, deadlines that pass, and the Upgrade.
 ghost use Rattle.std.specs.Prelude.{◌≡◌, ◌+◌, ◌++◌, ◌<◌, ◌≤◌, [], ◌∷◌, false, true, nat_le, ◌==◌, drop, length, IfOk, OnOk, IfSome, MatchOption, option_map, None, Some, if◌then◌else◌};
 ghost use Rattle.std.specs.Fmt.{decimal};
 ghost use Rattle.std.specs.List.{flat_map};

@@ -1,4 +1,4 @@
-//! Bindings of filters to agents and targets, and of texts to variables, read from a tree.
+// Bindings of filters to agents and targets, and of texts to variables, read from a tree.
 ghost use Rattle.std.specs.Prelude.{◌≡◌, ◌⊎◌, ◌↔◌, ◌≤◌, IsTrue, IsSomeAnd, IfSome, IfOk, IfErr, OnOk, All, codes, map, option_map, unwrap_or, nat_abs};
 ghost use Rattle.serde_json.specs.Find.{get, as_object};
 ghost use Rattle.cacao_json.specs.Tree.{data_of, pair_data};

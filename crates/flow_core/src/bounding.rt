@@ -1,4 +1,4 @@
-//! Whether a command, or what an operator is asked, has so many bytes or more. It is told before memory is taken for them.
+// Whether a command, or what an operator is asked, has so many bytes or more. It is told before memory is taken for them.
 ghost use Rattle.std.specs.Prelude.{◌≡◌, IfOk, true};
 ghost use Rattle.flow_rules.specs.Changes.{command_at, question_at, next_command, next_question};
 ghost use Rattle.cacao_check.specs.Uses.{commands_of};

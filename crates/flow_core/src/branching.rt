@@ -1,4 +1,4 @@
-//! Control steps: the tasks that they make for their branches, and wait for (CACAO 2.0, sections 4.7 to 4.10).
+// Control steps: the tasks that they make for their branches, and wait for (CACAO 2.0, sections 4.7 to 4.10).
 ghost use Rattle.std.specs.Prelude.{◌≡◌, ◌<◌, ◌∷◌, [], IfOk, OnOk, length};
 ghost use Rattle.std.specs.Option.{option_copied, option_to_list};
 ghost use Rattle.flow_rules.specs.Edits.{opens, moves};

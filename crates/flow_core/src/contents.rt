@@ -1,4 +1,4 @@
-//! Contents of commands, read once: trees in whose texts the references were found.
+// Contents of commands, read once: trees in whose texts the references were found.
 ghost use Rattle.std.specs.Prelude.{◌≡◌, IfOk, map, option_map};
 ghost use Rattle.serde_json.specs.Find.{get_member};
 ghost use Rattle.cacao_json.specs.Tree.{data_of, items_of, members_of};

@@ -1,4 +1,4 @@
-//! What steps do where they are entered (CACAO 2.0, section 4).
+// What steps do where they are entered (CACAO 2.0, section 4).
 ghost use Rattle.std.specs.Prelude.{◌≡◌, ◌<◌, ◌∷◌, [], Some, IfOk, OnOk, IfSome, suc, length, option_map};
 ghost use Rattle.std.specs.Option.{option_copied};
 ghost use Rattle.std.specs.List.{flat_map};

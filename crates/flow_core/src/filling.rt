@@ -1,4 +1,4 @@
-//! Texts and commands, filled with the values of variables.
+// Texts and commands, filled with the values of variables.
 ghost use Rattle.std.specs.Prelude.{◌≡◌, ◌<◌, ◌++◌, IfOk, OnOk, length, option_and_then, string_bytes};
 ghost use Rattle.cacao_json.specs.Tree.{data_of};
 ghost use Rattle.cacao_text.specs.Canon.{canon};

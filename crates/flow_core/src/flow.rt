@@ -1,4 +1,4 @@
-//! A run that goes on from record to record.
+// A run that goes on from record to record.
 ghost use Rattle.std.specs.Prelude.{◌≡◌, ◌+◌, ◌<◌, ◌≤◌, length, None, Some, IfOk, IfSome, IfErr, OnOk, OnErr, option_map, true};
 ghost use Rattle.flow_rules.specs.Runs.{begin_of};
 ghost use Rattle.flow_rules.specs.Moves.{record_of};

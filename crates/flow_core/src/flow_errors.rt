@@ -1,4 +1,4 @@
-//! Why a flow took no record.
+// Why a flow took no record.
 ghost use Rattle.std.specs.Prelude.{◌≡◌};
 ghost use Rattle.flow_core.specs.declared.flow_errors.FlowError.TheVariants as flow_error;
 

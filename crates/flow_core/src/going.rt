@@ -1,4 +1,4 @@
-//! Where tasks go once their steps are done (CACAO 2.0, section 4.1).
+// Where tasks go once their steps are done (CACAO 2.0, section 4.1).
 ghost use Rattle.std.specs.Prelude.{◌≡◌};
 ghost use Rattle.std.specs.Option.{option_copied};
 ghost use Rattle.flow_rules.specs.Tasks.{in_phase, go, is_call, stands_at_call, is_root, exception_of, fail, next_key, finish, child};

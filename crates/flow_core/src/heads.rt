@@ -1,4 +1,4 @@
-//! The branches that control steps take (CACAO 2.0, sections 4.8 to 4.10).
+// The branches that control steps take (CACAO 2.0, sections 4.8 to 4.10).
 ghost use Rattle.std.specs.Prelude.{◌≡◌, ◌<◌, Some, IfOk, length, codes};
 ghost use Rattle.std.specs.Option.{option_copied, option_to_list};
 ghost use Rattle.cacao_vars.specs.Names.{is_name_character};

@@ -1,4 +1,4 @@
-//! Commands and questions: the issues that tasks make.
+// Commands and questions: the issues that tasks make.
 ghost use Rattle.std.specs.Prelude.{◌≡◌, ◌==◌, ◌&&◌, ◌<◌, ◌≤◌, IfOk, IfSome, Some, length, option_map};
 ghost use Rattle.std.specs.Str.{IsUtf8, bytes_eq};
 ghost use Rattle.flow_rules.specs.declared.phases.Phase.TheVariants as phase;

@@ -1,4 +1,4 @@
-//! What a step does once the tasks that it waits for have ended (CACAO 2.0, section 4).
+// What a step does once the tasks that it waits for have ended (CACAO 2.0, section 4).
 ghost use Rattle.std.specs.Prelude.{◌≡◌, ◌<◌, ◌==◌, IfOk, OnOk, IfSome, length, option_map};
 ghost use Rattle.std.specs.List.{list_all, list_any, flat_map};
 ghost use Rattle.flow_rules.specs.declared.phases.Phase.TheVariants as phase;

@@ -1,4 +1,4 @@
-//! The limits of a record.
+// The limits of a record.
 ghost use Rattle.std.specs.Prelude.{◌≡◌, ◌≤◌, length, count_by};
 ghost use Rattle.std.specs.List.{list_any};
 ghost use Rattle.flow_rules.specs.State.{Shown};

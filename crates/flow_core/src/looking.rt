@@ -1,4 +1,4 @@
-//! Names as they are seen from a scope: where they are declared, and what they are worth.
+// Names as they are seen from a scope: where they are declared, and what they are worth.
 ghost use Rattle.std.specs.Prelude.{◌≡◌, ◌<◌, IfSome, Some, is_some, length, slice_get, option_and_then};
 ghost use Rattle.std.specs.Option.{option_copied};
 ghost use Rattle.cacao_vars.specs.Declarations.{IsInNameOrder, declared};

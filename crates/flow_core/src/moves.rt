@@ -1,4 +1,4 @@
-//! The moves that a flow makes by itself, and what it waits for. No call here takes memory but those that make a record.
+// The moves that a flow makes by itself, and what it waits for. No call here takes memory but those that make a record.
 ghost use Rattle.std.specs.Prelude.{◌≡◌, ◌<◌, IfOk, IfSome, true, is_some, slice_get, option_map};
 ghost use Rattle.flow_rules.specs.Moves.{enabled_move, record_of, due, asks, ready_set, deadlines, move_at};
 ghost use Rattle.flow_rules.specs.declared.moves.Move.TheVariants as does_move;

@@ -1,4 +1,4 @@
-//! Texts whose references were found once.
+// Texts whose references were found once.
 ghost use Rattle.std.specs.Prelude.{◌≡◌, ℕ, List, ◌++◌, IfOk, option_map};
 ghost use Rattle.std.specs.Option.{option_copied};
 ghost use Rattle.flow_rules.specs.Filled.{whole_reference};

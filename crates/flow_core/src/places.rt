@@ -1,4 +1,4 @@
-//! The places of an action: what it sends and asks, one after another.
+// The places of an action: what it sends and asks, one after another.
 ghost use Rattle.std.specs.Prelude.{◌≡◌, ◌≤◌, ℕ, List, suc, Some, None, IfSome, is_some, length, option_map, slice_get, if◌then◌else◌};
 ghost use Rattle.std.specs.Option.{option_copied};
 ghost use Rattle.std.specs.List.{flat_map};

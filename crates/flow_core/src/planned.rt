@@ -1,4 +1,4 @@
-//! Edits of the tables of a run that were made ready.
+// Edits of the tables of a run that were made ready.
 use crate::present::Present;
 use cacao_vars::{Name, Scope, Word};
 use flow_rules::{Issue, IssuePhase, Task};

@@ -1,4 +1,4 @@
-//! The edits of each record.
+// The edits of each record.
 ghost use Rattle.std.specs.Prelude.{◌≡◌, ◌≤◌, ◌&&◌, ◌==◌, ◌++◌, length, IfOk, IfSome, OnOk, map, nat_le, nat_eq, option_map};
 ghost use Rattle.std.specs.Str.{bytes_eq};
 ghost use Rattle.std.specs.Cmp.Lexicographic.{pointwise};

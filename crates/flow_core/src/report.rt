@@ -1,4 +1,4 @@
-//! The lines that tell of a run.
+// The lines that tell of a run.
 ghost use Rattle.std.specs.Prelude.{◌≡◌, ◌∷◌, ◌++◌, ◌≤◌, [], ℕ, IfOk, OnOk, codes, decimal, true, length, slice_get, unwrap_or, Some};
 ghost use Rattle.flow_rules.specs.Lines.{report, line_from, line, maybe_number, phase_words, issue_words, agent_word, maybe_text, outcome_words, well_words, key_of, task_lines, issue_lines, variable_lines};
 ghost use Rattle.flow_rules.specs.Changes.{outcome};

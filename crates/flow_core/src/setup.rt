@@ -1,4 +1,4 @@
-//! What a run is given: accepted playbooks and bindings.
+// What a run is given: accepted playbooks and bindings.
 ghost use Rattle.std.specs.Prelude.{◌≡◌, ◌≤◌, length, map, All, IfOk, IfErr, option_map, option_and_then, unwrap_or, position, find, slice_get};
 ghost use Rattle.std.specs.Option.{option_copied};
 ghost use Rattle.std.specs.Str.{bytes_eq};

@@ -1,4 +1,4 @@
-//! Why texts of playbooks and bindings give no setup.
+// Why texts of playbooks and bindings give no setup.
 ghost use Rattle.std.specs.Prelude.{◌≡◌};
 ghost use Rattle.flow_core.specs.declared.setup_errors.SetupError.TheVariants as setup_error;
 

@@ -1,4 +1,4 @@
-//! Laws of what is accepted. Each function does nothing; its contract is the law.
+// Laws of what is accepted. Each function does nothing; its contract is the law.
 ghost use Rattle.flow_core.specs.SetupLaws.{AcceptedIsRunnable, AcceptedAgain};
 
 use cacao_check::sound_gives;

@@ -1,4 +1,4 @@
-//! From texts of playbooks and bindings to their trees, and from trees to playbooks and canonical texts.
+// From texts of playbooks and bindings to their trees, and from trees to playbooks and canonical texts.
 ghost use Rattle.std.specs.Prelude.{◌≡◌, ◌≤◌, Some, IfOk, IfErr, OnOk, All, length, map};
 ghost use Rattle.cacao_json.specs.Tree.{data_of};
 ghost use Rattle.cacao_json.specs.Reading.{tree};

@@ -1,7 +1,7 @@
-//! How many bytes filled texts have, told before memory is taken for them.
-//!
-//! `left` are the bytes that are left of a limit. Each function takes from them the bytes of a part, and where there are
-//! fewer, all.
+// How many bytes filled texts have, told before memory is taken for them.
+//
+// `left` are the bytes that are left of a limit. Each function takes from them the bytes of a part, and where there are
+// fewer, all.
 ghost use Rattle.std.specs.Prelude.{◌≡◌, ◌-◌, ◌<◌, ◌==◌, length, flat_map, option_map, if◌then◌else◌};
 ghost use Rattle.serde_json.specs.Data.{array};
 ghost use Rattle.serde_json.specs.Find.{of_integer};

@@ -1,4 +1,4 @@
-//! The tables of a run.
+// The tables of a run.
 ghost use Rattle.std.specs.Prelude.{◌≡◌, ◌+◌, ◌<◌, ◌≤◌, ℕ, suc, length, OnOk};
 ghost use Rattle.flow_rules.specs.Givens.{Given};
 ghost use Rattle.flow_rules.specs.Edits.{shown_edited, all_shown_edited};

@@ -1,4 +1,4 @@
-//! The single edits of the tables of a run.
+// The single edits of the tables of a run.
 ghost use Rattle.std.specs.Prelude.{◌≡◌, ◌<◌, ℕ, suc, false, length};
 ghost use Rattle.flow_rules.specs.Givens.{Given};
 ghost use Rattle.flow_rules.specs.Edits.{opens, writes, makes, moves, issues, closes, upgrades, shown_edited, declared_texts};

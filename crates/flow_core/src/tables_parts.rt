@@ -1,4 +1,4 @@
-//! What an edit changes in the single tables of a run.
+// What an edit changes in the single tables of a run.
 ghost use Rattle.std.specs.Prelude.{◌≡◌, ℕ, ◌+◌, ◌<◌, ◌≤◌, ◌==◌, ◌++◌, ◌∷◌, [], length, Some, None, false, IfSome, slice_get, vec_len, vec_capacity, if◌then◌else◌};
 ghost use Rattle.std.specs.Option.{option_map_or};
 ghost use Rattle.run_records.specs.Ranges.{last_moment};

@@ -1,4 +1,4 @@
-//! What a flow tells of its run. No call here takes memory.
+// What a flow tells of its run. No call here takes memory.
 ghost use Rattle.std.specs.Prelude.{◌≡◌, ◌≢◌, ◌<◌, IfSome, Some, true, false, length, slice_get, option_map};
 ghost use Rattle.std.specs.Option.{option_map_or};
 ghost use Rattle.flow_rules.specs.declared.issues.Issue.{Issue};

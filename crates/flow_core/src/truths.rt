@@ -1,4 +1,4 @@
-//! Whether conditions hold where steps stand (CACAO 2.0, section 4.8).
+// Whether conditions hold where steps stand (CACAO 2.0, section 4.8).
 ghost use Rattle.std.specs.Prelude.{◌≡◌, ◌<◌, Some, IfOk, length};
 ghost use Rattle.flow_rules.specs.Givens.{step_at};
 ghost use Rattle.flow_core.specs.RunFacts.{IsWell};

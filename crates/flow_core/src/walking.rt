@@ -1,4 +1,4 @@
-//! Walks: a task goes on from its step (CACAO 2.0, section 4.1).
+// Walks: a task goes on from its step (CACAO 2.0, section 4.1).
 ghost use Rattle.std.specs.Prelude.{◌≡◌, ◌+◌, IfOk, IfSome, nat_le, option_map};
 ghost use Rattle.flow_rules.specs.Changes.{walk, walked};
 ghost use Rattle.flow_core.specs.Planned.{edits_of, AreDeclared};

@@ -1,4 +1,4 @@
-//! What commands say, read once: contents for filters, and texts for operators.
+// What commands say, read once: contents for filters, and texts for operators.
 ghost use Rattle.std.specs.Prelude.{◌≡◌, ◌<◌, IfOk, Some, length, map, option_map, slice_get};
 ghost use Rattle.cacao_json.specs.Tree.{data_of};
 ghost use Rattle.cacao_check.specs.Uses.{commands_of, content_tree};

@@ -1,4 +1,4 @@
-//! Edits that are added to a plan.
+// Edits that are added to a plan.
 ghost use Rattle.std.specs.Prelude.{◌≡◌, ◌<◌, ◌∷◌, [], OnOk, length};
 ghost use Rattle.flow_rules.specs.Changes.{written, binding};
 ghost use Rattle.flow_core.specs.Planned.{edit_of, IsDeclared};

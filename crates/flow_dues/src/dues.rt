@@ -1,4 +1,4 @@
-//! A set of numbers with moments.
+// A set of numbers with moments.
 ghost use Rattle.std.specs.Prelude.{◌≡◌, ℕ, ◌+◌, ◌<◌, ◌≤◌, ◌==◌, [], length, OnOk, Some, None, slice_get, if◌then◌else◌};
 ghost use Rattle.flow_dues.specs.Pairs.{at, with_due, without, least_by, IsFirstBy, IsQueue};
 

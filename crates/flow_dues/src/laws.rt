@@ -1,4 +1,4 @@
-//! Laws over lists of pairs. The function does nothing; its contract is the law.
+// Laws over lists of pairs. The function does nothing; its contract is the law.
 ghost use Rattle.flow_dues.specs.Laws.{DuesAreOne, RisingKeepsMoments};
 
 /// Two rising lists of pairs in which each number has the same moment are equal, and a list keeps the moments of its numbers

@@ -1,4 +1,4 @@
-//! The least moments of blocks of numbers.
+// The least moments of blocks of numbers.
 ghost use Rattle.std.specs.Prelude.{◌≡◌, ℕ, ◌+◌, ◌*◌, ◌<◌, ◌≤◌, ◌≢◌, length, slice_index_or, slice_set, None, is_some, IfSome, OnOk, if◌then◌else◌};
 ghost use Rattle.flow_dues.specs.Pairs.{is_by, IsFirstBy};
 ghost use Rattle.flow_dues.specs.Least.{sooner, IsLeast, AreLeast, IsFirstWithin};

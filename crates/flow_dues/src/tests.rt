@@ -1,4 +1,4 @@
-//! Sets of dues against what is plain to see.
+// Sets of dues against what is plain to see.
 use crate::{Dues, dues_are_one};
 use std::alloc::AllocError;
 use std::test::Fail;

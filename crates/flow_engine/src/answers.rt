@@ -1,4 +1,4 @@
-//! Answers of operators.
+// Answers of operators.
 ghost use Rattle.std.specs.Prelude.{◌≡◌, ◌==◌, ◌≤◌, ◌++◌, ◌∷◌, [], ℕ, All, Err, IfOk, IfSome, OnOk, find, length, option_copied};
 ghost use Rattle.flow_engine.specs.Answers.{Answers as TellAnswers, IsFirstBadLine, IsOperatorAnswer, of_run};
 ghost use Rattle.flow_engine.specs.AnswerLaws.{AnswersAreOne, FirstBadLineIsOne, BadLinesTellNothing, EachTextIsOneOfBoth};

@@ -1,4 +1,4 @@
-//! The parts of an append: all memory first, then the disk, then the run.
+// The parts of an append: all memory first, then the disk, then the run.
 ghost use Rattle.std.specs.Prelude.{◌≡◌, ◌++◌, ◌∷◌, ◌<◌, ◌≤◌, [], None, Err, true, false, IfErr, IfOk, IsSome, OnErr, OnOk, length, option_and_then, vec_capacity, vec_len};
 ghost use Rattle.cacao_site.specs.DiskCalls.{AllLeft};
 ghost use Rattle.run_journal.specs.Durable.{IsImage, MayAppend};

@@ -1,4 +1,4 @@
-//! The engine.
+// The engine.
 ghost use Rattle.std.specs.Prelude.{◌≡◌, ◌↔◌, ◌+◌, ◌/◌, ◌<◌, ◌≤◌, [], length, false, Some, slice_get, IsTrue, IsSome, IfOk, IfErr, IfSome};
 ghost use Rattle.cacao_site.specs.DiskCalls.{IsDurable, IsLeft, OnlyFile};
 ghost use Rattle.flow_dues.specs.Pairs.{is_by, IsFirstBy};

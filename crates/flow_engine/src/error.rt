@@ -1,4 +1,4 @@
-//! Why an engine refuses.
+// Why an engine refuses.
 ghost use Rattle.std.specs.Prelude.{◌≡◌};
 
 use flow_core::LimitKind;

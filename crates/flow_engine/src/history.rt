@@ -1,4 +1,4 @@
-//! A run and its journal.
+// A run and its journal.
 ghost use Rattle.std.specs.Prelude.{◌≡◌, ◌≤◌, IfOk, IfErr, OnOk, IsSome, length};
 ghost use Rattle.run_records.specs.Ranges.{InRange};
 ghost use Rattle.flow_rules.specs.Runs.{begin_of};

@@ -1,4 +1,4 @@
-//! The line of a record.
+// The line of a record.
 ghost use Rattle.std.specs.Prelude.{◌≡◌, ◌∷◌, ◌++◌, ◌<◌, [], Some, IfOk, OnOk, codes, decimal, length, slice_get};
 ghost use Rattle.run_records.specs.Ranges.{InRange};
 ghost use Rattle.cacao_text.specs.Canon.{string_text};

@@ -1,4 +1,4 @@
-//! The waiting issues that were put.
+// The waiting issues that were put.
 ghost use Rattle.std.specs.Prelude.{◌≡◌, ◌+◌, ◌<◌, ◌≤◌, ◌==◌, ℕ, min, nat_eq, false, [], IfSome, OnOk, OnErr, if◌then◌else◌};
 ghost use Rattle.indexmap.specs.IndexMap.{swap_remove_entry};
 ghost use Rattle.run_records.specs.Ranges.{last_moment};

@@ -1,4 +1,4 @@
-//! The opening of a run.
+// The opening of a run.
 ghost use Rattle.std.specs.Prelude.{◌≡◌, ◌≢◌, ◌⊎◌, ◌+◌, ◌/◌, ◌<◌, ◌≤◌, ◌↔◌, [], length, take, false, true, IsTrue, Ok, None, Some, IfOk, IfErr, IfSome, IfNone, OnOk, ℕ, slice_get};
 ghost use Rattle.std.specs.Option.{option_copied};
 ghost use Rattle.cacao_site.specs.DiskCalls.{IsDurable, IsLeft, OnlyFile};

@@ -1,4 +1,4 @@
-//! How an issue was put.
+// How an issue was put.
 
 /// The puts of an issue that waits since the opening of its engine.
 #[derive(Clone, Copy, Debug, Drop, PartialEq, Eq)]

@@ -1,4 +1,4 @@
-//! The calls that append a record.
+// The calls that append a record.
 ghost use Rattle.std.specs.Prelude.{◌≡◌, ◌≢◌, ◌≤◌, [], ℕ, None, Some, true, false, Ok, IfOk, IfErr, OnOk, IsSome, IfSome, MatchOption, length, slice_get};
 ghost use Rattle.cacao_site.specs.View.{SiteView};
 ghost use Rattle.oc2_msg.specs.declared.answers.Answer.{Answer};

@@ -1,4 +1,4 @@
-//! The sending of commands.
+// The sending of commands.
 ghost use Rattle.std.specs.Prelude.{◌≡◌, ◌≢◌, ◌⊎◌, ◌<◌, true, false, Some, IfOk, OnOk, OnErr, IsErrOf, length, slice_get};
 ghost use Rattle.flow_rules.specs.Changes.{is_in_time};
 ghost use Rattle.flow_rules.specs.declared.issues.Issue.{Issue};

@@ -1,4 +1,4 @@
-//! Issues: what was sent to a filter, and what an operator was asked.
+// Issues: what was sent to a filter, and what an operator was asked.
 use cacao_site::Bytes;
 
 /// How an issue stands.

@@ -1,4 +1,4 @@
-//! Laws over the definitions that the contracts of runs speak by. Each function does nothing; its contract is the law.
+// Laws over the definitions that the contracts of runs speak by. Each function does nothing; its contract is the law.
 ghost use Rattle.flow_rules.specs.Laws.{ValuesAreShown, EditsAreShown, RecordsAreShown, FirstRecordIsShown, ConditionsAreSpelled};
 ghost use Rattle.flow_rules.specs.Laws.{NextIsOne, EnabledHasNext, RunLeadsToOne, RunsAreOne, OneRecordIsBegin, RunsGoOn};
 ghost use Rattle.flow_rules.specs.Laws.{EndedIsOver, SaneIsNotStuck, RunsAreSane, WaitingCanEnd, EndedIsAllOver, EarlierRunsAreRuns};

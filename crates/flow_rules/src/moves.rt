@@ -1,4 +1,4 @@
-//! The moves that a run makes by itself.
+// The moves that a run makes by itself.
 
 /// What a run can do next by itself.
 #[derive(Clone, Copy, Debug, PartialEq, Eq)]

@@ -1,4 +1,4 @@
-//! Where tasks stand.
+// Where tasks stand.
 
 /// Where a task stands on its way. Moments are in milliseconds.
 #[derive(Clone, Copy, Debug, PartialEq, Eq)]

@@ -1,4 +1,4 @@
-//! Tasks.
+// Tasks.
 use crate::phases::Phase;
 
 /// A path through a playbook (CACAO 2.0, section 4). Tasks, scopes and issues are numbered from 0 in the order in which

@@ -1,4 +1,4 @@
-//! Laws of a session that goes on.
+// Laws of a session that goes on.
 
 ghost use Rattle.flow_steps.specs.Spent.{EachEnds, EachSpends, StepSpends};
 ghost use Rattle.flow_steps.specs.Stands.{EachAllPut, EachInTime, EachStands, EachUp};

@@ -1,4 +1,4 @@
-//! What a session asks of the clock.
+// What a session asks of the clock.
 ghost use Rattle.std.specs.Prelude.{◌≡◌, ◌≤◌, ◌<◌, IfOk, IfErr, MatchOption};
 ghost use Rattle.cacao_site.specs.SiteCalls.{Reaches};
 ghost use Rattle.run_records.specs.Ranges.{last_moment};

@@ -1,4 +1,4 @@
-//! How a session closes.
+// How a session closes.
 
 /// How a session closes that no call refused.
 #[derive(Clone, Copy, Debug, Drop, PartialEq, Eq)]

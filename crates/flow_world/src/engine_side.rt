@@ -1,4 +1,4 @@
-//! What a session does with its engine. These functions know nothing of the filters.
+// What a session does with its engine. These functions know nothing of the filters.
 ghost use Rattle.std.specs.Prelude.{◌≡◌, ◌≢◌, ◌+◌, ◌<◌, ◌≤◌, ℕ, [], None, true, false, Ok, OnOk, IfErr};
 ghost use Rattle.run_records.specs.Ranges.{last_moment};
 ghost use Rattle.flow_engine.specs.EngineCalls.{IsReplyTo, IsWaiting, Sends};

@@ -1,4 +1,4 @@
-//! Why a session refuses.
+// Why a session refuses.
 ghost use Rattle.std.specs.Prelude.{◌≡◌, ◌≢◌};
 ghost use Rattle.flow_engine.specs.declared.error.EngineError.TheVariants as engine_error;
 ghost use Rattle.flow_world.specs.Errors.{MayRefuseAppend, append_refusal, opening_refusal};

@@ -1,4 +1,4 @@
-//! The filters of a session. They know nothing of the engine.
+// The filters of a session. They know nothing of the engine.
 ghost use Rattle.std.specs.Prelude.{◌≡◌, ◌+◌, ◌≤◌, ℕ, true, false, MatchOption, IsTrue, IfOk, IfErr, OnOk, length};
 ghost use Rattle.run_records.specs.Ranges.{last_moment};
 ghost use Rattle.flow_laws.specs.Images.{HasBegun};

@@ -1,4 +1,4 @@
-//! Laws of the ends of a session.
+// Laws of the ends of a session.
 ghost use Rattle.flow_world.specs.Laws.{ClosesAreNoRefusals, ClosesAreOne};
 
 /// How a session stands in the end tells how it closes: no two closes hold of one world, and none where it refused. The function does

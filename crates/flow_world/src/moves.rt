@@ -1,5 +1,5 @@
-//! What an engine does in a turn whose take found no parcel, in this order: a move, what an operator told, an Expire, a resend.
-//! The first three are true exactly where they applied; else nothing changed, and the next one is tried. `soonest` tells what the resend is.
+// What an engine does in a turn whose take found no parcel, in this order: a move, what an operator told, an Expire, a resend.
+// The first three are true exactly where they applied; else nothing changed, and the next one is tried. `soonest` tells what the resend is.
 ghost use Rattle.std.specs.Prelude.{◌≡◌, ◌≢◌, ◌≤◌, ℕ, min, List, Some, None, true, false, Ok, OnOk, IfErr};
 ghost use Rattle.std.specs.Option.{option_map_or};
 ghost use Rattle.flow_rules.specs.Changes.{outcome};

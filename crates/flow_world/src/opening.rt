@@ -1,4 +1,4 @@
-//! The opening of a session's files, and what follows once they are open.
+// The opening of a session's files, and what follows once they are open.
 ghost use Rattle.std.specs.Prelude.{◌≡◌, ◌≤◌, ℕ, [], MatchOption, IfOk, IfErr, length};
 ghost use Rattle.flow_steps.specs.Sides.{AreFilters, IsWhole};
 ghost use Rattle.flow_steps.specs.Worlds.{Notes, opened};

@@ -1,4 +1,4 @@
-//! A session between its calls.
+// A session between its calls.
 ghost use Rattle.std.specs.Prelude.{◌≡◌, ◌+◌, ◌<◌, ◌≤◌, ℕ, List, [], Some, None, true, false, Ok, OnOk, IfSome};
 ghost use Rattle.run_records.specs.Ranges.{last_moment};
 ghost use Rattle.flow_rules.specs.Changes.{outcome};

@@ -1,4 +1,4 @@
-//! Sets of places, a bit for each.
+// Sets of places, a bit for each.
 ghost use Rattle.std.specs.Prelude.{◌≡◌, ◌<◌, ◌≤◌, [], length, replicate, slice_set, slice_index_or, IfOk, false, true};
 
 use std::alloc::{AllocError, Global};

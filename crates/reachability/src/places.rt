@@ -1,4 +1,4 @@
-//! Lists of places.
+// Lists of places.
 ghost use Rattle.std.specs.Prelude.{◌≡◌, [], ◌∷◌, ◌++◌, OnOk, OnErr};
 
 use std::alloc::{AllocError, Global};

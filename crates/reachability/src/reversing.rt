@@ -1,4 +1,4 @@
-//! Tables of edges, turned round.
+// Tables of edges, turned round.
 ghost use Rattle.std.specs.Prelude.{◌≡◌, ◌<◌, ◌≤◌, ◌^◌, [], ◌∷◌, ◌++◌, length, All, IfOk, OnOk, replicate, slice_set};
 ghost use Rattle.reachability.specs.Tables.{IsWithin, IsReverse, row as row_of};
 ghost use Rattle.reachability.specs.Reversing.{AddsEdges};

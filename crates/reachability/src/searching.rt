@@ -1,4 +1,4 @@
-//! The places that are reached along edges.
+// The places that are reached along edges.
 ghost use Rattle.std.specs.Prelude.{◌≡◌, ◌↔◌, ℕ, ◌<◌, ◌≤◌, ◌^◌, length, replicate, [], ◌∷◌, All, Contains, OnOk, IfOk, slice_index_or, false, true};
 ghost use Rattle.reachability.specs.Closure.{Closure};
 ghost use Rattle.reachability.specs.Tables.{IsMarked, IsWithin, IsOpen, Leads, row as row_of};

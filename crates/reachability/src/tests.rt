@@ -1,4 +1,4 @@
-//! Small graphs whose answers are plain to see.
+// Small graphs whose answers are plain to see.
 ghost use Rattle.std.specs.Prelude.{◌≡◌, ◌<◌, IfOk, length};
 ghost use Rattle.reachability.specs.Tables.{IsWithin};
 

@@ -1,4 +1,4 @@
-//! What was answered in a session.
+// What was answered in a session.
 ghost use Rattle.session_laws.specs.Answered.{EachReplyHasItsAct, EachSendIsActedOn, EachSendIsAnswered, NoTold, NoToldOfFilters};
 
 /// What was answered in a session that lost no parcel. The function does nothing; its contract is the law.

@@ -1,4 +1,4 @@
-//! How a session stands where it ends.
+// How a session stands where it ends.
 
 ghost use Rattle.session_laws.specs.Ends.{EachCountsShorts, EachEndsInTurn, EachInTurn, EachPassed, KeepsDiskOn, LacksOnly};
 

@@ -1,4 +1,4 @@
-//! What the bytes of the journal tell where a session closed.
+// What the bytes of the journal tell where a session closed.
 ghost use Rattle.session_laws.specs.Returned.{EachClosesOnRun, ReadsAsOneRun};
 
 /// How a session closed, by the bytes that its journal's file reads as on return. The function does nothing; its contract is the law.

@@ -1,4 +1,4 @@
-//! Playbooks.
+// Playbooks.
 ghost use Rattle.std.specs.Prelude.{◌≤◌, IfOk};
 ghost use Rattle.flow_core.specs.Setups.{IsReadable};
 

@@ -1,4 +1,4 @@
-//! What is outside the engine and the filters.
+// What is outside the engine and the filters.
 use cacao_site::{CallList, SitePlan, Weather, WeatherList};
 use std::alloc::{AllocError, Global};
 

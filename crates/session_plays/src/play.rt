@@ -1,4 +1,4 @@
-//! A site on which sessions are played.
+// A site on which sessions are played.
 use crate::books::{Book, cut, setup};
 use crate::outside::{Outside, plan};
 use cacao_site::{Bytes, Disk, MemorySite, Parcel};

@@ -1,4 +1,4 @@
-//! Whether the files of a run agree, made by the formats in `docs/FORMATS.md`.
+// Whether the files of a run agree, made by the formats in `docs/FORMATS.md`.
 use super::answer;
 use super::filters::ONE_ACT;
 use cacao_site::MemoryShelf;

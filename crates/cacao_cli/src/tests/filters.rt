@@ -1,4 +1,4 @@
-//! What the program says of filters, on files made by the formats in `docs/FORMATS.md`.
+// What the program says of filters, on files made by the formats in `docs/FORMATS.md`.
 ghost use Rattle.std.specs.Prelude.{◌≤◌, length};
 
 use super::said;

@@ -1,4 +1,4 @@
-//! Rehearsals, each on a site of its own.
+// Rehearsals, each on a site of its own.
 use super::{answer, site};
 use crate::top;
 use cacao_site::MemoryShelf;

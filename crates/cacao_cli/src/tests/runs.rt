@@ -1,4 +1,4 @@
-//! What `show` says of the run in the engine's file, made by the formats in `docs/FORMATS.md`.
+// What `show` says of the run in the engine's file, made by the formats in `docs/FORMATS.md`.
 ghost use Rattle.std.specs.Prelude.{◌≤◌, length};
 
 use super::said;

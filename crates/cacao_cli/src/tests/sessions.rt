@@ -1,4 +1,4 @@
-//! Runs of playbooks from their files to their ends.
+// Runs of playbooks from their files to their ends.
 use crate::top;
 use cacao_site::{CallList, MemoryShelf, MemorySite, SitePlan, WeatherList};
 use std::alloc::{AllocError, Global};
