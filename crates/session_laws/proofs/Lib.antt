@@ -2,7 +2,15 @@ pub mod Acted
 pub mod Answering
 pub mod Carried
 pub mod Closing
+pub mod Cutting
 pub mod Known
+pub mod NoOther
+pub mod Opening
 pub mod Returning
 pub mod Shown
 pub mod Telling
+pub mod Undamaged
+pub mod Undisturbed
+pub mod Used
+pub mod WholeActs
+pub mod WholeRuns

@@ -1,0 +1,16 @@
+// How far a session comes that nothing disturbs.
+ghost use Rattle.session_laws.specs.Complete.{Completes, NoneFindsAnother};
+ghost use Rattle.session_laws.specs.Undamaged.{GoodIsUndamaged, NoneFindsDamage};
+
+use flow_core::accepted_again;
+
+/// Where all agrees no file is damaged; so a session comes to the end of its run, its budget, or a question to an operator, where
+/// nothing disturbs it. The function does nothing of its own; its contract is the law.
+pub fn complete_laws()
+    ensures undamaged { GoodIsUndamaged }
+    ensures no_damage { NoneFindsDamage }
+    ensures no_other_run { NoneFindsAnother }
+    ensures completes { Completes }
+{
+    accepted_again();
+}
