@@ -167,10 +167,11 @@ module _ (a : Inside) (next : Record) (edits : List Edit) (kept : IsKept a) (fit
 
   pub adds : (j : JournalView) (b : Inside) (entry : List ℕ) (old new : SiteView) → IsSameJournal a.journal j → entry ≡ layout next → passed a.flow.seen edits ≡ None → a.journal.broken ≡ false
       → length_with_entry j entry ≤ 67_108_864 → MayAppend j entry old new → b.journal ≡ record j { items = j.items ++ entry ∷ []; prepared = true; spare = 0 }
-      → b.flow.seen ≡ shown_after (moment_of next) edits a.flow.seen → Adds (history_view a) (history_view b) (Is next) old new
+      → b.flow.seen ≡ shown_after (moment_of next) edits a.flow.seen → new.disk.faults ≡ old.disk.faults → Adds (history_view a) (history_view b) (Is next) old new
   unfolding comes offers
-  adds j b entry old new same is none whole le appends now seen = record {
+  adds j b entry old new same is none whole le appends now seen steady = record {
     offers = offers j entry old new same is none whole le appends;
+    steady = steady;
     view = view_more j b entry same is now whole seen;
   }
 

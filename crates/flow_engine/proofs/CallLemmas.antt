@@ -41,7 +41,7 @@ module _ (IsNext : Record → Type 0) (next : Record) (is_next : IsNext next) (o
   appends_as : (v w : EngineView) → Appends v w (Is next) old new → Appends v w IsNext old new
   unfolding comes_as offers_as
   appends_as v w a = record {
-    adds = record { offers = offers_as v.history (a.adds).offers; view = (a.adds).view };
+    adds = record { offers = offers_as v.history (a.adds).offers; steady = (a.adds).steady; view = (a.adds).view };
     puts = a.puts;
   }
 

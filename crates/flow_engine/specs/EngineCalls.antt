@@ -126,9 +126,10 @@ with_record h next edits = record {
   broken = false;
 }
 
--- it was added
+-- it was added, and no call of the disk failed
 pub record Adds (h k : HistoryView) (IsNext : Record → Type 0) (old new : SiteView) : Type 0 where
   pub offers : Offers h IsNext old new
+  pub steady : new.disk.faults ≡ old.disk.faults
   pub view : k ≡ with_record h offers.comes.next offers.comes.edits
 
 -- it was added, and the issue that it ends, if it ends one, is no longer open

@@ -1,5 +1,5 @@
 // The parts of an append: all memory first, then the disk, then the run.
-ghost use Rattle.std.specs.Prelude.{◌≡◌, ◌++◌, ◌∷◌, ◌<◌, ◌≤◌, [], None, Err, true, false, IfErr, IfOk, IsSome, OnErr, OnOk, length, option_and_then, vec_capacity, vec_len};
+ghost use Rattle.std.specs.Prelude.{◌≡◌, ◌≢◌, ◌++◌, ◌∷◌, ◌<◌, ◌≤◌, [], None, Err, true, false, IfErr, IfOk, IsSome, OnErr, OnOk, length, option_and_then, vec_capacity, vec_len};
 ghost use Rattle.cacao_site.specs.DiskCalls.{AllLeft};
 ghost use Rattle.run_journal.specs.Durable.{IsImage, MayAppend};
 ghost use Rattle.run_journal.specs.JournalView.{JournalView};
@@ -152,6 +152,7 @@ pub(crate) fn keep<D: Disk>(
     ensures items { OnErr result (journal.new.items ≡ journal.old.items) }
     ensures refused { IfErr result (λ error. RefusesEntry journal.old journal.new made.entry error
         (D.view disk.old) (D.view disk.new)) }
+    ensures steady { result ≢ Err EngineError.Disk → (D.view disk.new).disk.faults ≡ (D.view disk.old).disk.faults }
 {
     let Made { entry, stand } = made;
     match journal.append_durably(disk, entry) {

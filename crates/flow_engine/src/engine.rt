@@ -1,5 +1,5 @@
 // The engine.
-ghost use Rattle.std.specs.Prelude.{◌≡◌, ◌↔◌, ◌+◌, ◌/◌, ◌<◌, ◌≤◌, [], length, false, Some, slice_get, IsTrue, IsSome, IfOk, IfErr, IfSome};
+ghost use Rattle.std.specs.Prelude.{◌≡◌, ◌≢◌, ◌↔◌, ◌+◌, ◌/◌, ◌<◌, ◌≤◌, [], length, false, Some, Err, slice_get, IsTrue, IsSome, IfOk, IfErr, IfSome};
 ghost use Rattle.cacao_site.specs.DiskCalls.{IsDurable, IsLeft, OnlyFile};
 ghost use Rattle.flow_dues.specs.Pairs.{is_by, IsFirstBy};
 ghost use Rattle.flow_rules.specs.Moves.{deadline_of};
@@ -77,6 +77,8 @@ impl Engine {
         ensures no_puts { IfOk result (λ engine. engine.puts ≡ []) }
 
         ensures refused { IfErr result (λ error. IsRefusedOpening setup run error (D.view disk.old) (D.view disk.new)) }
+        // No answer but a failure of the disk counts a fault.
+        ensures steady { result ≢ Err EngineError.Disk → (D.view disk.new).disk.faults ≡ (D.view disk.old).disk.faults }
     {
         let history = History::open_on(alloc, disk, setup, run)?;
         Ok(Engine {

@@ -1,5 +1,5 @@
 // The opening of a run.
-ghost use Rattle.std.specs.Prelude.{◌≡◌, ◌≢◌, ◌⊎◌, ◌+◌, ◌/◌, ◌<◌, ◌≤◌, ◌↔◌, [], length, take, false, true, IsTrue, Ok, None, Some, IfOk, IfErr, IfSome, IfNone, OnOk, ℕ, slice_get};
+ghost use Rattle.std.specs.Prelude.{◌≡◌, ◌≢◌, ◌⊎◌, ◌+◌, ◌/◌, ◌<◌, ◌≤◌, ◌↔◌, [], length, take, false, true, IsTrue, Ok, Err, None, Some, IfOk, IfErr, IfSome, IfNone, OnOk, ℕ, slice_get};
 ghost use Rattle.std.specs.Option.{option_copied};
 ghost use Rattle.cacao_site.specs.DiskCalls.{IsDurable, IsLeft, OnlyFile};
 ghost use Rattle.run_records.specs.Ranges.{InRange};
@@ -51,6 +51,7 @@ impl History {
         ensures whole { IfOk result (λ history. history.broken ≡ false) }
 
         ensures refused { IfErr result (λ error. IsRefusedOpening setup run error (D.view disk.old) (D.view disk.new)) }
+        ensures steady { result ≢ Err EngineError.Disk → (D.view disk.new).disk.faults ≡ (D.view disk.old).disk.faults }
     {
         let journal = match Journal::open_on(alloc, disk, 0) {
             Ok(journal) => journal,

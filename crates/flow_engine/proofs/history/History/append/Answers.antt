@@ -78,4 +78,4 @@ returns-clause-ok g c =
     let seen = (seen_after h next takes.0 c.self.invariant c.requires.in_range takes.1 c.prepare.new.flow b.flow c.prepare.ensures.same_flow says.takes).1 in
     subst (λ (v : HistoryView). Adds v (history_view b) (Is next) old new) c.self.view_is
     (adds h next takes.0 c.self.invariant c.requires.in_range takes.1 c.prepare.new.journal b c.in-Ok.made.entry old new
-    c.prepare.ensures.same_journal c.in-Ok.ensures.entry within whole says.fits c.keep.ensures.appends says.ok seen)
+    c.prepare.ensures.same_journal c.in-Ok.ensures.entry within whole says.fits c.keep.ensures.appends says.ok seen (says.steady (λ e. cc)))
