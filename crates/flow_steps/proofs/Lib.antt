@@ -33,6 +33,7 @@ pub mod Sites
 pub mod Spending
 pub mod Spoken
 pub mod Standing
+pub mod Steady
 pub mod Timely
 pub mod Unbroken
 pub mod Unsure

@@ -1,5 +1,5 @@
 -- Why a session ended as it did.
-use Rattle.std.specs.Prelude.{◌≡◌, ◌⊎◌, ℕ, ◌+◌, ◌-◌, ◌<◌, ◌≤◌, true, [], ◌∷◌, ◌++◌, List, Some, slice_get, ⊤}
+use Rattle.std.specs.Prelude.{◌≡◌, ◌≢◌, ◌⊎◌, ℕ, ◌+◌, ◌-◌, ◌<◌, ◌≤◌, Bool, true, [], ◌∷◌, ◌++◌, List, Some, slice_get, ⊤}
 use Rattle.cacao_site.specs.Counts.{Rose}
 use Rattle.cacao_site.specs.declared.parcel.Parcel.{Parcel}
 use Rattle.run_records.specs.Ranges.{last_moment}
@@ -95,6 +95,10 @@ pub record HasCause (a b : World) : Type 0 where
 
 abbrev pub EachCause : Type 0
 EachCause = (a b : World) → a.phase ≡ opened → Steps a b → HasCause a b
+
+-- Where the session did not refuse because the disk failed, no call of the disk failed.
+abbrev pub EachSteady : Type 0
+EachSteady = (a b : World) → Steps a b → ((lacks : Bool) → b.phase ≢ refused disk_failed lacks) → b.site.disk.faults ≡ a.site.disk.faults
 
 -- the last step, from a world that went on
 pub record EndedByStep (a b : World) : Type 0 where

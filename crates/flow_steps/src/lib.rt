@@ -2,7 +2,7 @@
 #![tactic(auto)]
 
 ghost use Rattle.flow_steps.specs.Agreement.{StepsKeepAgreement};
-ghost use Rattle.flow_steps.specs.Causes.{EachActed, EachCause, EachEnded};
+ghost use Rattle.flow_steps.specs.Causes.{EachActed, EachCause, EachEnded, EachSteady};
 ghost use Rattle.flow_steps.specs.Complete.{EachComplete, EachReplyActed};
 ghost use Rattle.flow_steps.specs.Grown.{EachFiltersGrow};
 ghost use Rattle.flow_steps.specs.Handled.{EachHandles};
@@ -41,6 +41,7 @@ pub fn steps_laws()
     ensures under_way { EachUnderWay }
     ensures no_expiry { NoExpiry }
     ensures causes { EachCause }
+    ensures steady { EachSteady }
     ensures acted { EachActed }
     ensures written { EachWritesFew }
     ensures ended { EachEnded }

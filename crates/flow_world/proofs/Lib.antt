@@ -8,6 +8,7 @@ pub mod OpenSteps
 pub mod Quiet
 pub mod SessionSteps
 pub mod Standing
+pub mod Steady
 pub mod Told
 pub mod TurnSteps
 pub mod WaitSteps

@@ -1,5 +1,5 @@
 -- One file that is opened, and the list of the filters that are open.
-use Rattle.std.proofs.Common.{◌≡◌, ◌≢◌, inr, ℕ, false, List, [], ◌∷◌, ◌++◌, refl, ◌∙◌, subst, ap}
+use Rattle.std.proofs.Common.{◌≡◌, ◌≢◌, inl, inr, ℕ, false, List, [], ◌∷◌, ◌++◌, refl, ◌∙◌, subst, ap}
 use Rattle.std.specs.Prelude.{◌↔◌, ◌<◌, length, Option, Some, None, IfOk, IsTrue, IsErrOf, MatchOption, Result, Ok, Err}
 use Rattle.cacao_site.specs.Counts.{Rose}
 use Rattle.cacao_site.specs.DiskCalls.{IsDurable}
@@ -13,9 +13,12 @@ use Rattle.flow_engine.specs.EngineView.{EngineView, HoldsRecords}
 use Rattle.flow_engine.specs.EngineView as engine
 use Rattle.flow_engine.specs.Histories.{IsHistory}
 use Rattle.flow_engine.specs.OpenIssues.{ArePut}
+use Rattle.flow_engine.specs.Openings.{IsRefusedOpening}
+use Rattle.flow_engine.specs.declared.error.EngineError.{EngineError}
+use Rattle.flow_engine.specs.declared.error.EngineError.TheVariants as engine_error
 use Rattle.flow_rules.specs.Givens.{Given}
 use Rattle.flow_world.specs.Clock.{FallsShort, IsReached}
-use Rattle.flow_world.specs.Errors.{MayRefuseFile, file_refusal}
+use Rattle.flow_world.specs.Errors.{MayRefuseFile, file_refusal, opening_refusal}
 use Rattle.flow_world.specs.Openings.{IsJournalOpen, OpensFile, OpensNext, RefusesFile, RefusesFilters, RefusesOpening}
 use Rattle.flow_world.specs.declared.error.WorldError.{WorldError}
 
@@ -32,22 +35,24 @@ pub file_refuses : {T : Type 0} (agent : ℕ) (old new : SiteView) (r : Result T
     → ((place : ℕ) → IsErrOf r (act_error.Damaged place) → IsDurable agent new.disk)
     → ((place : ℕ) → IsErrOf r (act_error.Damaged place) → IsTrue old.disk.told → IsDamaged (new.disk.reads agent) place)
     → (IsErrOf r act_error.Disk → Rose old.disk.faults new.disk.faults)
+    → (r ≢ Err act_error.Disk → new.disk.faults ≡ old.disk.faults)
     → ((needed : ℕ) → (r ≢ Err act_error.Broken) × (r ≢ Err (act_error.Full needed))) → RefusesFile (file_refusal agent error) agent old new
-file_refuses agent old new r act_error.Disk is opens durable damaged disk no_other = record { opens = opens; why = disk is }
-file_refuses agent old new r (act_error.Damaged place) is opens durable damaged disk no_other =
-    record { opens = opens; why = (refl, durable place is, damaged place is) }
-file_refuses agent old new r act_error.Memory is opens durable damaged disk no_other = record { opens = opens; why = tt }
-file_refuses agent old new r (act_error.Full needed) is opens durable damaged disk no_other = absurd ((no_other needed).1 is)
-file_refuses agent old new r act_error.Broken is opens durable damaged disk no_other = absurd ((no_other 0).0 is)
+file_refuses agent old new r act_error.Disk is opens durable damaged disk steady no_other = record { opens = opens; why = disk is; steady = λ other. absurd (other refl) }
+file_refuses agent old new r (act_error.Damaged place) is opens durable damaged disk steady no_other =
+    record { opens = opens; why = (refl, durable place is, damaged place is); steady = λ other. steady (λ e. cc) }
+file_refuses agent old new r act_error.Memory is opens durable damaged disk steady no_other = record { opens = opens; why = tt; steady = λ other. steady (λ e. cc) }
+file_refuses agent old new r (act_error.Full needed) is opens durable damaged disk steady no_other = absurd ((no_other needed).1 is)
+file_refuses agent old new r act_error.Broken is opens durable damaged disk steady no_other = absurd ((no_other 0).0 is)
 
 told_then : (agent : ℕ) (old new : SiteView) → OpensFile agent old new → IsTrue new.disk.told → IsTrue old.disk.told
 told_then agent old new opens told = subst IsTrue opens.only.each.goes_on.told told
 
-pub next_opens : (agent : ℕ) (old new : SiteView) (v : ActuatorView) (fs gs : List ActuatorView) → OpensFile agent old new → filter.IsReady v new → IsDurable agent new.disk
+pub next_opens : (agent : ℕ) (old new : SiteView) (v : ActuatorView) (fs gs : List ActuatorView) → OpensFile agent old new → new.disk.faults ≡ old.disk.faults → filter.IsReady v new → IsDurable agent new.disk
     → (IsTrue old.disk.told → HoldsActs v.acts (new.disk.reads agent))
     → (IsTrue old.disk.told → IsTrue v.prepared ↔ (9 < length (new.disk.reads agent))) → v.agent ≡ agent → v.broken ≡ false → gs ≡ fs ++ v ∷ [] → OpensNext agent old new fs gs
-next_opens agent old new v fs gs opens ready durable stands prepared of_agent whole more = record {
+next_opens agent old new v fs gs opens steady ready durable stands prepared of_agent whole more = record {
   opens = opens;
+  steady = steady;
   v = v;
   is_open = record {
     filter = record { ready = ready; whole = whole; of_agent = of_agent };
@@ -60,12 +65,13 @@ next_opens agent old new v fs gs opens ready durable stands prepared of_agent wh
 
 -- ---- the journal
 
-pub journal_open : (given : Given) (run : ℕ) (old new : SiteView) (v : EngineView) → OpensFile 0 old new → engine.IsReady v.history new → IsHistory v.history
+pub journal_open : (given : Given) (run : ℕ) (old new : SiteView) (v : EngineView) → OpensFile 0 old new → new.disk.faults ≡ old.disk.faults → engine.IsReady v.history new → IsHistory v.history
     → ArePut v.history.seen v.puts → v.history.broken ≡ false → v.history.seen.given ≡ given → v.history.seen.run ≡ run → v.puts ≡ [] → IsDurable 0 new.disk
     → (IsTrue old.disk.told → HoldsRecords v.history.records (new.disk.reads 0))
     → (IsTrue old.disk.told → IsTrue v.history.prepared ↔ (9 < length (new.disk.reads 0))) → IsJournalOpen given run old new v
-journal_open given run old new v opens ready history put whole given_is of_run no_puts durable stands prepared = record {
+journal_open given run old new v opens steady ready history put whole given_is of_run no_puts durable stands prepared = record {
   opens = opens;
+  steady = steady;
   whole = record { engine = record { ready = ready; history = history; put = put }; whole = whole };
   given_is = given_is;
   of_run = of_run;
@@ -74,6 +80,11 @@ journal_open given run old new v opens ready history put whole given_is of_run n
   stands = stands;
   prepared = prepared;
 }
+
+pub journal_refused : (given : Given) (run : ℕ) (old new : SiteView) (error : WorldError) (why : EngineError) → OpensFile 0 old new → IsRefusedOpening given run why old new
+    → error ≡ opening_refusal why → (why ≢ engine_error.Disk → new.disk.faults ≡ old.disk.faults) → RefusesOpening error given run old new
+journal_refused given run old new error why opens refused_so is steady =
+    inl (record { opens = opens; why = why; refused = refused_so; is = is; steady = λ other. steady (λ e. other (is ∙ ap opening_refusal e)) })
 
 pub second_refused : (error : WorldError) (given : Given) (run : ℕ) (old mid new : SiteView) (v : EngineView) → IsJournalOpen given run old mid v → RefusesFilters error mid new
     → RefusesOpening error given run old new

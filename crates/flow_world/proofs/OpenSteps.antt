@@ -48,6 +48,7 @@ opens_none site = record {
   images = λ file low high. absurd (omega (arith, low, high));
   others = λ file other. record { reads = refl; images = λ beat image from to. ap (λ (n : ℕ). site.disk.left file n image) (omega (arith, from, to)) };
   rest = record { link = refl; clock = refl };
+  steady = refl;
   calls = λ told. omega arith;
   written = omega arith;
 }
@@ -130,6 +131,7 @@ module _ (n : ℕ) (old mid new : SiteView) (fs gs : List ActuatorView) (was : O
     images = images_were;
     others = λ file other. stays-trans was.goes_on on (was.others file (fewer file other)) (one.others file (apart file other));
     rest = rest_then old mid new was.rest one.rest;
+    steady = next.steady ∙ was.steady;
     calls = calls_so_far;
     written = omega (arith, was.written, next.opens.written);
   }

@@ -1,5 +1,5 @@
 -- The opening of a session's files: the journal first, then those of the filters in order.
-use Rattle.std.specs.Prelude.{◌≡◌, ◌⊎◌, ◌↔◌, ℕ, zero, suc, ◌+◌, ◌*◌, ◌-◌, ◌/◌, ◌<◌, ◌≤◌, IsTrue, List, [], ◌∷◌, ◌++◌, length, Any, Some, slice_get, ⊤}
+use Rattle.std.specs.Prelude.{◌≡◌, ◌≢◌, ◌⊎◌, ◌↔◌, ℕ, zero, suc, ◌+◌, ◌*◌, ◌-◌, ◌/◌, ◌<◌, ◌≤◌, IsTrue, List, [], ◌∷◌, ◌++◌, length, Any, Some, slice_get, ⊤}
 use Rattle.cacao_site.specs.Counts.{Rose}
 use Rattle.cacao_site.specs.DiskCalls.{GoesOn, IsDurable, IsLeft, OnlyFile, SameRest, StaysAt}
 use Rattle.cacao_site.specs.View.{DiskView, SiteView}
@@ -21,11 +21,16 @@ pub record OpensFile (file : ℕ) (old new : SiteView) : Type 0 where
   pub calls : IsTrue old.disk.told → new.disk.calls ≤ old.disk.calls + 3 + length (new.disk.reads file) / 4096
   pub written : new.disk.written ≤ old.disk.written
 
+-- no call of the disk failed, where that is not why
+abbrev pub IsSteady : WorldError → SiteView → SiteView → Type 0
+IsSteady why old new = why ≢ error.Disk → new.disk.faults ≡ old.disk.faults
+
 -- ---- the journal
 
--- the journal is open, and the one image of its file stands for the records
+-- the journal is open, no call of the disk failed, and the one image of its file stands for the records
 pub record IsJournalOpen (given : Given) (run : ℕ) (old new : SiteView) (v : EngineView) : Type 0 where
   pub opens : OpensFile 0 old new
+  pub steady : new.disk.faults ≡ old.disk.faults
   pub whole : IsWhole v new
   pub given_is : v.history.seen.given ≡ given
   pub of_run : v.history.seen.run ≡ run
@@ -40,6 +45,7 @@ pub record RefusesJournal (error : WorldError) (given : Given) (run : ℕ) (old 
   pub why : EngineError
   pub refused : IsRefusedOpening given run why old new
   pub is : error ≡ opening_refusal why
+  pub steady : IsSteady error old new
 
 -- ---- the filters
 
@@ -55,7 +61,7 @@ abbrev pub blocks_to : ℕ → DiskView → ℕ
 blocks_to zero disk = 0
 blocks_to (suc n) disk = length (disk.reads (suc n)) / 4096 + blocks_to n disk
 
--- the files of agents 1 to n were opened, in order; the journal's and those of the others stay
+-- the files of agents 1 to n were opened, in order; the journal's and those of the others stay, and no call of the disk failed
 pub record OpensFilters (n : ℕ) (old new : SiteView) (filters : List ActuatorView) : Type 0 where
   pub many : length filters ≡ n
   pub each : (k : ℕ) (v : ActuatorView) → slice_get filters k ≡ Some v → IsFilterOpen (suc k) new v
@@ -64,12 +70,14 @@ pub record OpensFilters (n : ℕ) (old new : SiteView) (filters : List ActuatorV
       → beat ≤ new.disk.beat → IsLeft new.disk file beat image → IsLeft old.disk file old.disk.beat image
   pub others : (file : ℕ) → (file ≡ 0) ⊎ (n < file) → StaysAt old.disk new.disk file
   pub rest : SameRest old new
+  pub steady : new.disk.faults ≡ old.disk.faults
   pub calls : IsTrue old.disk.told → new.disk.calls ≤ old.disk.calls + 3 * n + blocks_to n new.disk
   pub written : new.disk.written ≤ old.disk.written
 
 -- one more filter is open, behind the others
 pub record OpensNext (agent : ℕ) (old new : SiteView) (fs gs : List ActuatorView) : Type 0 where
   pub opens : OpensFile agent old new
+  pub steady : new.disk.faults ≡ old.disk.faults
   pub v : ActuatorView
   pub is_open : IsFilterOpen agent new v
   pub more : gs ≡ fs ++ v ∷ []
@@ -84,6 +92,7 @@ IsFileCause other agent old new = ⊥
 pub record RefusesFile (error : WorldError) (agent : ℕ) (old new : SiteView) : Type 0 where
   pub opens : OpensFile agent old new
   pub why : IsFileCause error agent old new
+  pub steady : IsSteady error old new
 
 -- the files of the agents before it were opened, and that of this one was not
 pub record RefusesFilters (error : WorldError) (old new : SiteView) : Type 0 where

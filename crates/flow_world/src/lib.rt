@@ -15,6 +15,6 @@ mod whole;
 pub use close::Close;
 pub use error::WorldError;
 pub use filters::Filters;
-pub use laws::closes_law;
+pub use laws::{closes_law, steady_law};
 pub use turns::Session;
 pub use whole::session;

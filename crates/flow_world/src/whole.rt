@@ -1,5 +1,5 @@
 // A whole session.
-ghost use Rattle.std.specs.Prelude.{◌≤◌, IfOk, IfErr};
+ghost use Rattle.std.specs.Prelude.{◌≡◌, ◌≢◌, ◌≤◌, Err, IfOk, IfErr};
 ghost use Rattle.flow_world.specs.Sessions.{HasClosed, HasRefused, IsStart, KeepsAgreement};
 
 use crate::close::Close;
@@ -23,6 +23,8 @@ pub fn session<S: Site>(
     requires some { 1 ≤ most }
     ensures closed { IfOk result (λ close. HasClosed close setup run most answers.now (S.view site.old) (S.view site.new)) }
     ensures refused { IfErr result (λ error. HasRefused error setup run most answers.now (S.view site.old) (S.view site.new)) }
+    // No answer but a failure of the disk counts a fault.
+    ensures steady { result ≢ Err WorldError.Disk → (S.view site.new).disk.faults ≡ (S.view site.old).disk.faults }
     ensures agreement { IsStart (S.view site.old) run → KeepsAgreement (S.view site.old) (S.view site.new) }
 {
     match open_files(alloc, site, setup, run) {

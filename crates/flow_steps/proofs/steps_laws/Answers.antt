@@ -17,6 +17,7 @@ use Rattle.flow_steps.proofs.Readiness.{steps_ready}
 use Rattle.flow_steps.proofs.Replied.{each_reply_acted}
 use Rattle.flow_steps.proofs.Resent.{steps_put_in_time}
 use Rattle.flow_steps.proofs.Spoken.{steps_speak}
+use Rattle.flow_steps.proofs.Steady.{steps_steady}
 use Rattle.flow_steps.proofs.Unbroken.{steps_unbroken}
 use Rattle.flow_steps.proofs.Unsure.{steps_unsure, steps_unsure_act}
 use Rattle.flow_steps.proofs.Waiting.{no_expiry, steps_wait}
@@ -83,6 +84,9 @@ returns-clause-no_expiry c = no_expiry
 
 pub returns-clause-causes : goal.returns-clause-causes
 returns-clause-causes c = steps_cause
+
+pub returns-clause-steady : goal.returns-clause-steady
+returns-clause-steady c = steps_steady
 
 pub returns-clause-acted : goal.returns-clause-acted
 returns-clause-acted c = steps_acted

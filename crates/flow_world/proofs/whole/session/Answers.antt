@@ -1,6 +1,9 @@
+use Rattle.std.proofs.Common.{Err, ap, inl}
 use Rattle.flow_steps.specs.Whole.{blank_notes}
+use Rattle.flow_world.specs.declared.error.WorldError.{WorldError}
 use Rattle.flow_world.proofs.OpenSteps.{filters_after, whole_after}
 use Rattle.flow_world.proofs.Quiet.{refused_agrees}
+use Rattle.flow_world.proofs.Steady.{refusals_steady, session_steady}
 use Rattle.flow_world.proofs.WholeSteps.{agrees, each_closed, each_refused, new_to}
 use Rattle.flow_world.proofs.whole.session.Goals as goal
 
@@ -26,6 +29,16 @@ returns-in-Ok-clause-refused g c =
     each_refused c.args.setup c.args.run c.args.most answers (g.S.Disk.view c.args.site.now) (g.S.Disk.view c.open_files.new.site) (g.S.Disk.view c.run_opened.new.site) c.in-Ok.engine c.in-Ok.filters c.in-Ok.ensures.opens
     c.run_opened.result (c.run_opened.ensures.ended (blank_notes c.args.most answers) (new_to answers c.args.most))
 
+pub returns-in-Ok-clause-steady : goal.returns-in-Ok-clause-steady
+returns-in-Ok-clause-steady g c =
+    let answers = c.args.answers.now in
+    let old = g.S.Disk.view c.args.site.now in
+    let new = g.S.Disk.view c.run_opened.new.site in
+    let ended = c.run_opened.ensures.ended (blank_notes c.args.most answers) (new_to answers c.args.most) in
+    session_steady c.args.setup c.args.run c.args.most answers old new c.run_opened.result
+    (each_closed c.args.setup c.args.run c.args.most answers old (g.S.Disk.view c.open_files.new.site) new c.in-Ok.engine c.in-Ok.filters c.in-Ok.ensures.opens c.run_opened.result ended)
+    (each_refused c.args.setup c.args.run c.args.most answers old (g.S.Disk.view c.open_files.new.site) new c.in-Ok.engine c.in-Ok.filters c.in-Ok.ensures.opens c.run_opened.result ended)
+
 pub returns-in-Ok-clause-agreement : goal.returns-in-Ok-clause-agreement
 returns-in-Ok-clause-agreement g c =
     let answers = c.args.answers.now in
@@ -35,3 +48,8 @@ returns-in-Ok-clause-agreement g c =
 pub returns-in-Err-clause-agreement : goal.returns-in-Err-clause-agreement
 returns-in-Err-clause-agreement g c =
     refused_agrees c.in-Err.error c.args.setup c.args.run (g.S.Disk.view c.args.site.now) (g.S.Disk.view c.open_files.new.site) (g.met.S.Disk.sound c.args.site.now) c.in-Err.ensures.refused
+
+pub returns-in-Err-clause-steady : goal.returns-in-Err-clause-steady
+returns-in-Err-clause-steady g c = λ other.
+    refusals_steady c.in-Err.error c.args.setup c.args.run c.args.most c.args.answers.now (g.S.Disk.view c.args.site.now) (g.S.Disk.view c.open_files.new.site) (inl c.in-Err.ensures.refused)
+    (λ e. other (ap (λ (x : WorldError). Err x) e))
