@@ -1,7 +1,7 @@
 #!/usr/bin/env python3
 """Plays the built program as a hostile world would, on real files in temporary folders, and prints what was tried and what was found.
 
-usage: hostile.py [PROGRAM] [--rounds N] [--seed N] [--only kill|stop|lies|memory|fault|disk|depth|rows].. [--examples FOLDER]
+usage: hostile.py [PROGRAM] [--rounds N] [--jobs N] [--seed N] [--only kill|stop|lies|memory|fault|disk|depth|rows].. [--examples FOLDER]
   kill    `run` is killed at random moments, and played again until it ends
   stop    `run` is stopped before each of its calls to the outside, also with torn writes
   lies    the same on a disk that syncs nothing: there something has to be found, or the comparison sees nothing
@@ -13,6 +13,7 @@ usage: hostile.py [PROGRAM] [--rounds N] [--seed N] [--only kill|stop|lies|memor
 PROGRAM is the one that `./cacao` builds, if none is named. It ends with status 1 where anything was found. docs/HOSTILE.md says what is compared.
 """
 import argparse
+import concurrent.futures
 import os
 import random
 import shutil
@@ -40,6 +41,7 @@ def words():
     parser = argparse.ArgumentParser(description=__doc__, formatter_class=argparse.RawDescriptionHelpFormatter)
     parser.add_argument("program", nargs="?")
     parser.add_argument("--rounds", type=int, default=100)
+    parser.add_argument("--jobs", type=int, default=1)
     parser.add_argument("--seed", type=int, default=1)
     parser.add_argument("--only", action="append", choices=PARTS)
     parser.add_argument("--examples", default=f"{TOP}/examples")
@@ -59,6 +61,13 @@ def shim(folder):
     return library if compiled and compiled.returncode == 0 else None
 
 
+def play_part(part, program, cases, rounds, seed):
+    """What was tried and found in one part."""
+    table = play.Table()
+    PARTS[part](program, cases, table, rounds, random.Random(seed))
+    return table
+
+
 def main():
     asked = words()
     table = play.Table()
@@ -67,8 +76,9 @@ def main():
         os.chmod(folder, 0o755)
         program = play.Program(shutil.copy(asked.program or built(), f"{folder}/cacao"), shim(folder))
         cases = [*books.example_cases(asked.examples), *books.made_cases()]
-        for part in asked.only or PARTS:
-            PARTS[part](program, cases, table, asked.rounds, random.Random(asked.seed))
+        with concurrent.futures.ProcessPoolExecutor(asked.jobs) as pool:
+            for played in [pool.submit(play_part, part, program, cases, asked.rounds, asked.seed) for part in asked.only or PARTS]:
+                table.add(played.result())
     table.print()
     return 1 if table.findings else 0
 

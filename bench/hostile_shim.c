@@ -38,7 +38,13 @@ static char writable[FILES];
 static long requests, calls, refuse, refuse_from, failing, failing_from, shortened, stopping, seed, lies;
 static int is_set, error_number;
 
-#define REAL(name) ((__typeof__(&name))dlsym(RTLD_NEXT, #name))
+// The function of the C library, looked up once.
+#define REAL(name) \
+    ({ \
+        static __typeof__(&name) found_##name; \
+        found_##name = found_##name ? found_##name : (__typeof__(&name))dlsym(RTLD_NEXT, #name); \
+        found_##name; \
+    })
 
 static long number(const char *name) {
     const char *text = getenv(name);
@@ -60,10 +66,14 @@ static void set_up(void) {
     error_number = number("HOSTILE_ERRNO") ? (int)number("HOSTILE_ERRNO") : EIO;
 }
 
+// Counts a request for memory; answers whether it gets none, and sets the error.
 static int is_refused(void) {
     set_up();
     ++requests;
-    return requests == refuse || (refuse_from && requests >= refuse_from);
+    if (requests != refuse && !(refuse_from && requests >= refuse_from))
+        return 0;
+    errno = ENOMEM;
+    return 1;
 }
 
 static unsigned draw(void) {
@@ -129,43 +139,23 @@ static void forget(int file) {
 }
 
 void *malloc(size_t size) {
-    static void *(*real)(size_t);
-    if (!real)
-        real = REAL(malloc);
-    if (is_refused()) {
-        errno = ENOMEM;
-        return 0;
-    }
-    return real(size);
+    __typeof__(&malloc) real = REAL(malloc);
+    return is_refused() ? 0 : real(size);
 }
 
 void *realloc(void *old, size_t size) {
-    static void *(*real)(void *, size_t);
-    if (!real)
-        real = REAL(realloc);
-    if (is_refused()) {
-        errno = ENOMEM;
-        return 0;
-    }
-    return real(old, size);
+    __typeof__(&realloc) real = REAL(realloc);
+    return is_refused() ? 0 : real(old, size);
 }
 
 int posix_memalign(void **found, size_t align, size_t size) {
-    static int (*real)(void **, size_t, size_t);
-    if (!real)
-        real = REAL(posix_memalign);
+    __typeof__(&posix_memalign) real = REAL(posix_memalign);
     return is_refused() ? ENOMEM : real(found, align, size);
 }
 
 void *aligned_alloc(size_t align, size_t size) {
-    static void *(*real)(size_t, size_t);
-    if (!real)
-        real = REAL(aligned_alloc);
-    if (is_refused()) {
-        errno = ENOMEM;
-        return 0;
-    }
-    return real(align, size);
+    __typeof__(&aligned_alloc) real = REAL(aligned_alloc);
+    return is_refused() ? 0 : real(align, size);
 }
 
 int open(const char *name, int flags, ...) {

@@ -2,11 +2,13 @@
 import json
 
 from .books import AGENTS, END, NUMBER, START, action, deny, identifier, loop, playbook, starts, text_of
-from .play import STACK, Folder, Limits, progress, put
+from .play import EVERY, STACK, Folder, Limits, progress, put
 
 STEPS = 4096
 STACKED = Limits(stack=STACK)
 LONG = 1800  # seconds that one run may take
+MOST_TASKS = 1_000_000
+MANY = 500  # records of a run, for each round
 
 
 def chain(count):
@@ -65,11 +67,27 @@ def nested_content(levels):
     return playbook({**starts(block), block: action(deny("10.0.0.0/8", actuator={"x": inner}), {"on_success": END})})
 
 
+def many_deep(width, depth):
+    """16 playbooks, each a nest of parallel steps whose innermost branch calls the next playbook; the outermost step of all has more branches."""
+    first, *others = callers(16, depth)
+    fork, steps = identifier("parallel", depth), first["workflow"]
+    steps[fork] = {"type": "parallel", "next_steps": [steps[START]["on_completion"]] * width, "on_completion": END}
+    steps[START]["on_completion"] = fork
+    return [first, *others]
+
+
+def many_records(width, depth):
+    """Records of a run of `many_deep` up to the limit of tasks: Begin; the Walks of the first start and of the outermost step, which makes `width`
+    tasks; a Walk for each further task; and, in each branch, one of the start of each playbook that was come to. The branches go on in turn."""
+    further = MOST_TASKS - 1 - width
+    return 3 + further + sum((further + width - 1 - branch) // width // (depth + 1) for branch in range(width))
+
+
 class Depth:
     """Trials of depth."""
 
-    def __init__(self, program, table):
-        self.program, self.table = program, table
+    def __init__(self, program, table, rounds):
+        self.program, self.table, self.rounds = program, table, rounds
 
     def play(self, folder, row, words, status, count=None, last=None, limits=STACKED):
         """One run: its status, how many lines it says, and the last of them."""
@@ -81,7 +99,9 @@ class Depth:
         return played
 
     def run(self, what, books, records, last="ended ok", status=0):
-        """`canon` of the first playbook, `check`, `run`, the same words again, `show`."""
+        """`canon` of the first playbook, `check`, `run`, the same words again, `show`. A run of many records is played where there are many rounds."""
+        if self.rounds < EVERY and records > MANY * self.rounds:
+            return self.table.note(f"depth: too few rounds for {what}")
         row = self.table.row("depth", what)
         progress(f"depth: {what}")
         names = [f"b{place:02}.json" for place in range(len(books))]
@@ -91,7 +111,7 @@ class Depth:
             self.play(folder, row, ["run", "--run", "7", *names], status, records + 1, last)
             self.play(folder, row, ["run", "--run", "7", *names], status, 1, last)
             shown = self.play(folder, row, ["show"], 0)
-            row.expect(f"records {records}" in shown.lines[:3], f"{shown}, where {records} records are right")
+            return row.expect(f"records {records}" in shown.lines[:3], f"{shown}, where {records} records are right")
 
     def refused(self, what, book, line):
         row = self.table.row("depth", what)
@@ -123,7 +143,7 @@ class Depth:
 
 
 def depth(program, cases, table, rounds, draw):
-    trials = Depth(program, table)
+    trials = Depth(program, table, rounds)
     trials.texts()
     trials.run("4,096 steps one after another", [chain(STEPS - 2)], STEPS + 1)
     for kind in ("parallel", "if-condition", "switch-condition"):
@@ -136,8 +156,9 @@ def depth(program, cases, table, rounds, draw):
     trials.run("16 playbooks, each called by the one before", callers(16, 0), deep_records(16, 0))
     trials.run("16 playbooks of 4,000 nested parallel steps, each called in the innermost of the one before", callers(16, 4000), deep_records(16, 4000))
     trials.run("a loop of 4,000 turns, 20,005 records", [loop(4000)], 5 * 4000 + 4)
-    limit = "limit: tasks 1000000"
+    limit = f"limit: tasks {MOST_TASKS}"
     trials.run("four parallel steps of 64 equal branches, one in another", [wide()], 15_626, limit, 11)
+    trials.run("1,000,000 tasks: 16 branches of those 16 playbooks", many_deep(16, 4000), many_records(16, 4000), limit, 11)
 
 
 def deep_records(count, levels):

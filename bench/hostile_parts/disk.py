@@ -8,7 +8,7 @@ from .books import short
 from .journal import ENGINE, MOST, agent_file
 from .play import Folder, Limits, Played, bytes_of, progress, put
 from .reference import FAULTS, Reference
-from .stops import numbers
+from .stops import NO_MEMORY, numbers
 
 NOBODY = 65534
 DISK_FAILED = (8, ["disk failed"])
@@ -134,7 +134,7 @@ def little_memory(program, case, table):
         least = next(at for at in range(1, 4096) if program.play(folder, [], limits=Limits(space=at << 14)).status == 2)
     for pages in range(least, least + 320, 5):
         # The loader, and not the program, may be what wants memory right past the least.
-        trials.once(f"with {pages << 14} bytes", (10, 8, 3) if pages > least + 8 else (10, 8, 3, 127, -11), limits=Limits(space=pages << 14))
+        trials.once(f"with {pages << 14} bytes", (NO_MEMORY,) if pages > least + 8 else (NO_MEMORY, 127, -11), limits=Limits(space=pages << 14))
 
 
 # -- permission ----------------------------------------------------------------------------------------------------------------------------
@@ -252,7 +252,7 @@ def closed_and_failing(program, case, table, rounds, draw):
             if steps:
                 program.play(folder, [*case.stages[0], "--steps", str(steps)])
             counts = program.counts(folder, case.stages[0])
-        for number in numbers(draw, counts[1] if counts else 0, rounds):
+        for number in numbers(draw, counts["calls"] if counts else 0, rounds):
             for closed in ((1,), (0, 1, 2)):
                 how = f"call {number} fails, from {steps} records on, with {closed} closed"
                 with Folder(case.files) as folder:

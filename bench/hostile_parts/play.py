@@ -10,6 +10,7 @@ import time
 
 SECONDS = 300  # that one run may take
 STACK = 8 * 1024 * 1024
+EVERY = 1000  # rounds from which on all is tried, and nothing drawn by chance or left out
 
 
 class Played:
@@ -92,7 +93,7 @@ class Program:
                 return None
             with open(f"{place}/tell") as told:
                 requests, calls = map(int, told.read().split())
-        return (requests, calls) if requests and calls else None
+        return {"requests": requests, "calls": calls} if requests and calls else None
 
     def has(self, words):
         """Whether the program understands these words, in an empty folder."""
@@ -105,6 +106,7 @@ class Table:
 
     def __init__(self, is_silent=False):
         self.rows, self.findings, self.notes, self.is_silent = [], 0, [], is_silent
+        self.begun = time.monotonic()
 
     def row(self, part, what):
         row = Row(self, part, what)
@@ -114,29 +116,40 @@ class Table:
     def note(self, text):
         self.notes.append(text)
 
+    def add(self, other):
+        """Takes in the rows and notes of another table."""
+        self.rows += other.rows
+        self.notes += other.notes
+        self.findings += other.findings
+
     def print(self):
         print(f"\n{'part':7} {'what':92} {'tries':>6} {'stopped':>7} {'midway':>6} {'findings':>8}")
         for row in self.rows:
             print(f"{row.part:7} {row.what:92} {row.tries:6} {row.stopped or '':>7} {row.midway or '':>6} {row.found:8}")
         for text in self.notes:
             print(f"note: {text}")
-        for part in dict.fromkeys(row.part for row in self.rows):
-            self.print_sum(part, [row for row in self.rows if row.part == part])
-        self.print_sum("all", self.rows)
+        self.print_sums()
 
-    @staticmethod
-    def print_sum(part, rows):
-        sums = [sum(getattr(row, name) for row in rows) for name in ("tries", "stopped", "midway", "found")]
-        print("{:7} {:92} {:6} {:7} {:6} {:8}".format(part, "in all", *sums))
+    def print_sums(self):
+        """The sums of each part, as the table of `docs/HOSTILE.md` has them."""
+        print(f"\nOn {time.strftime('%d %B %Y')}, after {self.seconds():,} seconds:\n")
+        print("| Part | Tries | Killed, stopped or refused | Of these with a part of the records kept | Findings |\n|---|---|---|---|---|")
+        for part in dict.fromkeys(row.part for row in self.rows):
+            rows = [row for row in self.rows if row.part == part]
+            sums = [sum(getattr(row, name) for row in rows) for name in ("tries", "stopped", "midway", "found")]
+            print("| `{}` | {:,} | {:,} | {:,} | {:,} |".format(part, *sums))
+
+    def seconds(self):
+        return round(time.monotonic() - self.begun)
 
 
 class Row:
     """One kind of trial: how often it was tried, how many runs were stopped in it, how many of these with a part of their records kept, and
-    what was found; and, where memory was refused, how often a file failed for it, and how often a parcel was lost for it."""
+    what was found; and, where memory was refused, how often a parcel was lost for it."""
 
     def __init__(self, table, part, what):
         self.table, self.part, self.what = table, part, what
-        self.tries = self.stopped = self.midway = self.found = self.faults = self.late = 0
+        self.tries = self.stopped = self.midway = self.found = self.late = 0
 
     def find(self, text):
         self.found += 1

@@ -6,6 +6,7 @@ from .books import RUN, short
 from .depth import condition, identifier, text_of
 from .journal import ENGINE, HEADER, Damaged, Kept, agent_file, disagreement, entries, gates
 from .play import Folder, bytes_of, progress, put
+from .stops import numbers
 
 # The statuses that a command may end with, whatever it is given, where no fault is met.
 CANON, CHECK, RUNS = {0, 5, 11}, {0, 1, 5, 11}, {0, 1, 5, 6, 7, 11, 12, 13, 15, 16}
@@ -40,6 +41,10 @@ class Rows:
         progress(f"rows: {what}")
         return self.table.row("rows", what)
 
+    def lengths(self, most):
+        """0 to `most`, or some of them, and `most`, by the number of rounds."""
+        return sorted({0, most, *numbers(self.draw, most, self.rounds)})
+
     # -- cut files ---------------------------------------------------------------------------------------------------------------------
 
     def prefixes(self):
@@ -47,25 +52,24 @@ class Rows:
         text = self.case.files[self.book]
         unread = ["not readable: x.json not json"]
         with Folder() as folder:
-            for length in range(text.rindex(b"}") + 1):
+            for length in self.lengths(text.rindex(b"}")):
                 put(folder, "x.json", text[:length])
                 self.says(row, folder, ["canon", "x.json"], 5, unread)
-            for length in range(0, text.rindex(b"}"), 50):
-                put(folder, "x.json", text[:length])
-                self.says(row, folder, ["check", "x.json"], 5, unread)
-                self.says(row, folder, ["run", "--run", str(RUN), "x.json"], 5, unread)
+                if length % 50 == 0:
+                    self.says(row, folder, ["check", "x.json"], 5, unread)
+                    self.says(row, folder, ["run", "--run", str(RUN), "x.json"], 5, unread)
             row.expect(not os.path.exists(f"{folder}/{ENGINE}"), "a file was written")
 
     def cut_files(self):
         row = self.row("engine.journal cut to each length, and `show`")
         with Folder(self.case.files) as folder:
             put(folder, agent_file(1), self.filter)
-            for length in range(len(self.engine) + 1):
+            for length in self.lengths(len(self.engine)):
                 put(folder, ENGINE, self.engine[:length])
                 self.cut_engine(row, folder, length)
         row = self.row("agent-01.journal cut to each length, and `rules 1`")
         with Folder() as folder:
-            for length in range(len(self.filter) + 1):
+            for length in self.lengths(len(self.filter)):
                 put(folder, agent_file(1), self.filter[:length])
                 status, lines = (13, [f"damaged: file 1 place {place_of(self.filter[:length])}"]) if 9 < length < len(self.filter) else (0, [])
                 self.says(row, folder, ["rules", "1"], status, self.rules.lines if length == len(self.filter) else lines)
@@ -112,7 +116,7 @@ class Rows:
             with Folder(self.case.files) as folder:
                 put(folder, ENGINE, self.engine)
                 put(folder, agent_file(1), self.filter)
-                for place in range(len(image)):
+                for place in self.lengths(len(image) - 1):
                     for mask in (1, 0xFF, self.draw.randrange(1, 256)):
                         broken = image[:place] + bytes([image[place] ^ mask]) + image[place + 1 :]
                         put(folder, name, broken)

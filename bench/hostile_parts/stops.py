@@ -7,7 +7,7 @@ import time
 
 from .books import short
 from .journal import ENGINE
-from .play import Folder, Table, progress, put
+from .play import EVERY, Folder, Table, progress, put
 from .reference import FAULTS, Reference
 
 KILLED = -signal.SIGKILL
@@ -25,9 +25,31 @@ def references(program, cases, table, part):
     return found
 
 
-def numbers(draw, count, most):
-    """1 to `count`, or `most` of them by chance where they are more than twice as many."""
-    return range(1, count + 1) if count <= 2 * most else sorted(draw.sample(range(1, count + 1), most))
+def numbers(draw, count, rounds):
+    """1 to `count`; with fewer than `EVERY` rounds, a fifth as many of them as there are rounds, by chance."""
+    most = count if rounds >= EVERY else max(1, rounds // 5)
+    return range(1, count + 1) if count <= most else sorted(draw.sample(range(1, count + 1), most))
+
+
+def counts_of(program, case, table, part):
+    """What `Program.counts` tells of the first session of a case; None, and a note, where it can't tell."""
+    with Folder(case.files) as folder:
+        counts = program.counts(folder, case.stages[0])
+    if counts is None:
+        table.note(f"{part}: the library can't stand between this program and the C library, so nothing was tried")
+    else:
+        progress(f"{part}: {case.name}: {counts['requests']} requests, {counts['calls']} calls")
+    return counts
+
+
+def counted(program, cases, table, part, what):
+    """Each undisturbed run, with how many requests for memory, or calls to the outside, its first session makes."""
+    for reference in references(program, cases, table, part):
+        counts = counts_of(program, reference.case, table, part)
+        if counts is None:
+            return
+        reference.row.what += f" ({counts[what]} {what})"
+        yield reference, counts[what]
 
 
 # -- killed at a random moment ------------------------------------------------------------------------------------------------------------
@@ -108,53 +130,37 @@ def stop_once(reference, shims, how):
 def stop(program, cases, table, rounds, draw):
     """Each run is stopped before its Nth call, for every N; and again, with what was not synced yet torn by chance; and the session after that
     is stopped and torn as well."""
-    for reference in references(program, cases, table, "stop"):
-        with Folder(reference.case.files) as folder:
-            counts = program.counts(folder, reference.case.stages[0])
-        if counts is None:
-            return table.note("stop: the library can't stand between this program and the C library, so nothing was tried")
-        progress(f"stop: {reference.case.name}: {counts[1]} calls")
-        reference.row.what += f" ({counts[1]} calls)"
-        for number in numbers(draw, counts[1], rounds):
+    for reference, calls in counted(program, cases, table, "stop", "calls"):
+        for number in numbers(draw, calls, rounds):
             stop_once(reference, [{"STOP": number}], f"stopped before call {number}")
-            torn = [{"STOP": at, "TEAR": draw.getrandbits(40) | 1} for at in (number, draw.randrange(1, counts[1] + 1))]
+            torn = [{"STOP": at, "TEAR": draw.getrandbits(40) | 1} for at in (number, draw.randrange(1, calls + 1))]
             stop_once(reference, torn[:1], f"stopped as {torn[:1]}")
             stop_once(reference, torn, f"stopped as {torn}")
-    return None
 
 
 def lies(program, cases, table, rounds, draw):
     """The comparison itself: on a disk that syncs nothing a run that is stopped loses what it said, and that has to be found."""
     hidden, row = Table(is_silent=True), table.row("lies", "a disk that syncs nothing, where something has to be found")
     reference = Reference(program, short(cases), hidden.row("lies", "hidden"))
-    with Folder(reference.case.files) as folder:
-        counts = program.counts(folder, reference.case.stages[0])
+    counts = counts_of(program, reference.case, table, "lies")
     if counts is None:
-        return table.note("lies: the library can't stand between this program and the C library, so nothing was tried")
-    progress(f"lies: {reference.case.name}: {counts[1]} calls")
-    for number in numbers(draw, counts[1], min(rounds, 40)):
+        return
+    for number in numbers(draw, counts["calls"], max(100, min(rounds, 200))):
         stop_once(reference, [{"STOP": number, "TEAR": draw.getrandbits(40) | 1, "LIES": 1}], "stopped")
     row.tries, row.stopped, row.midway = reference.row.tries, reference.row.stopped, reference.row.midway
     row.expect(hidden.findings > 0, "nothing was found")
-    return table.note(f"lies: {hidden.findings} findings, as there have to be some; they are not counted")
+    table.note(f"lies: {hidden.findings} findings, as there have to be some; they are not counted")
 
 
 # -- memory refused ------------------------------------------------------------------------------------------------------------------------
 
 
 def as_refused(played, right, row):
-    """Whether a run whose memory was refused ended as it may: with status 10, or as it would have; or with a fault of a file whose call found no
-    memory, for which the calls of files have no other answer. What it said is the front of what is right."""
+    """Whether a run whose memory was refused ended as it may: as it would have, or with status 10, where what it said is the front of what is right."""
     if (played.status, played.said) == (right.status, right.said):
         return True
     row.stopped += 1
-    row.faults += played.status in (3, 8)
-    said = played.said
-    if played.status in (3, 8):
-        said, _, last = said[:-1].rpartition(b"\n")
-        if not last.startswith(FAULTS[played.status].encode()):
-            return False
-    return played.status in (3, 8, NO_MEMORY) and right.said.startswith(said)
+    return played.status == NO_MEMORY and right.said.startswith(played.said)
 
 
 def refuse_in_run(reference, shim, how):
@@ -183,19 +189,12 @@ def refusals(number):
 
 def memory(program, cases, table, rounds, draw):
     """Every request for memory of each run is refused, alone and with all later ones; and those of the commands that only read."""
-    for reference in references(program, cases, table, "memory"):
-        with Folder(reference.case.files) as folder:
-            counts = program.counts(folder, reference.case.stages[0])
-        if counts is None:
-            return table.note("memory: the library can't stand between this program and the C library, so nothing was tried")
-        progress(f"memory: {reference.case.name}: {counts[0]} requests")
-        reference.row.what += f" ({counts[0]} requests)"
-        for number in numbers(draw, counts[0], rounds):
+    for reference, requests in counted(program, cases, table, "memory", "requests"):
+        for number in numbers(draw, requests, rounds):
             for shim, how in refusals(number):
                 refuse_in_run(reference, shim, how)
     memory_of_reports(program, short(cases), table, rounds, draw)
-    rows = [row for row in table.rows if row.part == "memory"]
-    table.note(f"memory: {sum(row.faults for row in rows)} refusals were told as a failed file, {sum(row.late for row in rows)} lost a parcel")
+    table.note(f"memory: {sum(row.late for row in table.rows)} refusals lost a parcel, which was put again later")
 
 
 def reading_words(case):
@@ -215,8 +214,9 @@ def memory_of_reports(program, case, table, rounds, draw):
         for words in reading_words(case):
             row = table.row("memory", f"`{' '.join(words)}`")
             right, counts = program.play(folder, words), program.counts(folder, words)
-            row.what += f" ({counts[0]} requests, status {right.status})"
-            for number in numbers(draw, counts[0], rounds):
+            requests = counts["requests"] if counts else 0
+            row.what += f" ({requests} requests, status {right.status})"
+            for number in numbers(draw, requests, rounds):
                 for shim, how in refusals(number):
                     refuse_in_report(program, folder, words, row, shim, right, how)
             after = {name: os.path.getmtime(f"{folder}/{name}") for name in os.listdir(folder)}
@@ -243,16 +243,9 @@ def fault_once(reference, shim, how, may_fail):
 
 def faults(program, cases, table, rounds, draw):
     """The Nth call to the outside fails, for every N, with each of three errors; or it fails with all later ones; or it moves only one byte."""
-    for reference in references(program, cases, table, "fault"):
-        with Folder(reference.case.files) as folder:
-            counts = program.counts(folder, reference.case.stages[0])
-        if counts is None:
-            return table.note("fault: the library can't stand between this program and the C library, so nothing was tried")
-        progress(f"fault: {reference.case.name}: {counts[1]} calls")
-        reference.row.what += f" ({counts[1]} calls)"
-        for number in numbers(draw, counts[1], rounds):
+    for reference, calls in counted(program, cases, table, "fault", "calls"):
+        for number in numbers(draw, calls, rounds):
             for code in (errno.EIO, errno.ENOSPC, errno.EINTR):
                 fault_once(reference, {"FAIL": number, "ERRNO": code}, f"call {number} fails with {errno.errorcode[code]}", True)
             fault_once(reference, {"FAIL_FROM": number}, f"all calls from {number} on fail", True)
             fault_once(reference, {"SHORT": number}, f"call {number} moves one byte", False)
-    return None
