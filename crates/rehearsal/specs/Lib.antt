@@ -1,4 +1,5 @@
 pub mod Books
 pub mod Counts
+pub mod NewSites
 pub mod Rehearsals
 pub mod Settings

@@ -1,6 +1,8 @@
 // One rehearsal.
 ghost use Rattle.std.specs.Prelude.{◌≡◌, IfOk, IfErr};
 ghost use Rattle.cacao_site.specs.MemorySite.{view_of};
+ghost use Rattle.rehearsal.specs.NewSites.{MayComeOfNew};
+ghost use Rattle.rehearsal.specs.Settings.{IsNewSite};
 ghost use Rattle.rehearsal.specs.Rehearsals.{FailsToRehearse, FailsToRun, Rehearsed, RunsWell, is_well};
 
 use crate::book::rehearsal_text;
@@ -56,7 +58,8 @@ fn run(alloc: Global, site: &mut MemorySite, setup: Setup) -> Result<Summary, Re
 }
 
 /// Makes the playbook with so many positions, and holds one session of it on a site in memory, as `new_site` makes one: run 1, with
-/// at most 1,000,000,000 records. Then the records, the acts and the rules are counted.
+/// at most 1,000,000,000 records. Then the records, the acts and the rules are counted. On a new site no file is damaged, of another
+/// run, or of a filter that acted for the run.
 pub fn rehearse(
     alloc: Global,
     site: &mut MemorySite,
@@ -64,6 +67,7 @@ pub fn rehearse(
 ) -> Result<Summary, RehearsalError>
     ensures ok { IfOk result (Rehearsed positions (view_of site.old) (view_of site.new)) }
     ensures err { IfErr result (FailsToRehearse positions (view_of site.old) (view_of site.new)) }
+    ensures new_site { IsNewSite site.old → IfErr result MayComeOfNew }
 {
     let text = rehearsal_text(alloc, positions)?;
     if text.len() > MOST_BYTES {

@@ -94,12 +94,17 @@ pub fn cut(alloc: Global, text: &str) -> Result<String, AllocError> {
 }
 
 /// The text with its members and its identifiers whole.
-fn made_whole(alloc: Global, text: &str) -> Result<String, AllocError> {
+pub fn spelled_out(alloc: Global, text: &str) -> Result<String, AllocError> {
     let text = text.replace(alloc, "HEAD", HEAD)?;
     let text = text.as_str().replace(alloc, "VARIABLES", VARIABLES)?;
     let text = text.as_str().replace(alloc, "STEPS", STEPS)?;
     let text = text.as_str().replace(alloc, "DENY", DENY)?;
     text.as_str().replace(alloc, "--", MIDDLE)
+}
+
+/// A playbook's text.
+pub fn text(alloc: Global, book: Book) -> Result<String, AllocError> {
+    spelled_out(alloc, text_of(book))
 }
 
 /// The bytes of a text; none where it is too long to be read.
@@ -115,7 +120,7 @@ fn bytes_of(alloc: Global, text: &str) -> Result<Bytes, AllocError>
 /// The setup of a playbook, without bindings.
 pub(crate) fn setup(alloc: Global, book: Book) -> Result<Setup, SetupError> {
     let bind = Bytes::from_slice(alloc, b"")?;
-    let text = made_whole(alloc, text_of(book))?;
+    let text = text(alloc, book)?;
     let texts = [bytes_of(alloc, text.as_str())?];
     Setup::read(alloc, &texts, &bind)
 }

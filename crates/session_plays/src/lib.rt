@@ -6,6 +6,6 @@ mod books;
 mod outside;
 mod play;
 
-pub use books::{Book, cut};
+pub use books::{Book, cut, spelled_out, text};
 pub use outside::{LATE, Outside, fair};
 pub use play::{Asked, Came, Files, Held, Play, whole};

@@ -1,5 +1,8 @@
 use Rattle.std.proofs.Common.{arith}
+use Rattle.std.specs.Prelude.{Err}
 use Rattle.cacao_site.specs.MemorySite.{view_of}
+use Rattle.cacao_site.specs.MemorySound.{site-sound}
+use Rattle.rehearsal.proofs.Blank.{comes_of_new}
 use Rattle.rehearsal.proofs.Running.{fails_then, not_read, runs_then}
 use Rattle.rehearsal.proofs.rehearsing.rehearse.Goals as goal
 
@@ -13,3 +16,9 @@ returns-clause-ok c =
 pub returns-clause-err : goal.returns-clause-err
 returns-clause-err c =
     fails_then c.args.positions c.in_ok-text.text c.in-Ok.setup (view_of c.args.site.now) (view_of c.run.new.site) c.run.result c.in_ok-text.ensures.text c.in-Ok.ensures.ok c.run.ensures.err
+
+pub returns-in-Err-clause-new_site : goal.returns-in-Err-clause-new_site
+returns-in-Err-clause-new_site c = comes_of_new c.args.positions c.args.site.now (view_of c.args.site.now) (Err c.in-Err.error) (site-sound c.args.site.now) (returns-in-Err-clause-err c)
+
+pub returns-clause-new_site : goal.returns-clause-new_site
+returns-clause-new_site c = comes_of_new c.args.positions c.args.site.now (view_of c.run.new.site) c.run.result (site-sound c.run.new.site) (returns-clause-err c)
