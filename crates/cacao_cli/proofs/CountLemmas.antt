@@ -1,5 +1,5 @@
 -- Which counts a call raises, and which statuses come of which work.
-use Rattle.std.proofs.Common.{◌≡◌, ◌⊎◌, inl, inr, ◌∙◌, refl, sym, ap, subst, arith, ℕ, ◌≤◌, ◌==◌, Bool, true, false, List, [], ◌∷◌, map, Option, Some, None, Result, Ok, Err}
+use Rattle.std.proofs.Common.{◌≡◌, ◌⊎◌, inl, inr, ◌∙◌, refl, sym, ap, subst, arith, ℕ, ◌==◌, Bool, true, false, List, [], ◌∷◌, map, Option, Some, None, Result, Ok, Err}
 use Rattle.std.specs.Prelude.{if◌then◌else◌}
 use Rattle.std.proofs.lemmas.Bool.{true≢false}
 use Rattle.serde_json.specs.Data.{Data}
@@ -16,47 +16,23 @@ use Rattle.cacao_cli.specs.Lines.{SaysWork, Tells}
 use Rattle.cacao_cli.specs.Work.{Work, ends, judges, opens_filter, opens_run, compares, rehearsals, at_decisions, or_end, packets_or_end, trees_of, canon_line, work, work_on, starts, start_of, trees_wanted}
 use Rattle.cacao_cli.specs.Ended.{Performs, Performed, Ended}
 use Rattle.cacao_cli.specs.Exact.{IsOneOf, session_statuses}
-use Rattle.cacao_cli.specs.Leaves.{CountsDisk, CountsUnsaid, NoDiskFault, NoFault}
+use Rattle.cacao_cli.specs.Leaves.{CountsDisk, CountsUnsaid, NoFault}
 use Rattle.cacao_cli.specs.declared.limit.Limit.TheVariants.{BookCount}
-use Rattle.cacao_cli.proofs.AuditLemmas.{compares-disk, compares-failed, compares-said, compares-unsaid, has-other}
-use Rattle.cacao_cli.proofs.RehearseLemmas.{rehearsed-other, rehearses-disk, rehearses-failed, rehearses-said, rehearses-unsaid}
+use Rattle.cacao_cli.proofs.AuditLemmas.{compares-failed, compares-said, compares-unsaid, has-other}
+use Rattle.cacao_cli.proofs.RehearseLemmas.{rehearsed-other, rehearses-failed, rehearses-said, rehearses-unsaid}
 use Rattle.cacao_cli.proofs.CauseLemmas.{TreesCase, all_trees, one_treeless, trees_case}
-use Rattle.cacao_cli.proofs.ExactLemmas.{Comes, IsPlain, performs-comes}
-use Rattle.cacao_cli.proofs.EndCases.{not-among}
+use Rattle.cacao_cli.proofs.ExactLemmas.{Comes, performs-comes}
+use Rattle.cacao_cli.proofs.StatusLists.{not-among}
 use Rattle.cacao_cli.proofs.JudgedLemmas.{settled-listed}
 use Rattle.cacao_cli.proofs.EndLemmas.{end-failed, no-more, no_cons}
-use Rattle.cacao_cli.proofs.LeaveLemmas.{IsBrief, silent, one_line, judged, brief-audit, brief-canon, brief-check, brief-rehearse, compared, rehearse-performed, rehearsed}
-use Rattle.cacao_cli.proofs.OpenLemmas.{opens-grows, opens-said, opens-unsaid, opens-failed}
-use Rattle.cacao_cli.proofs.RunLemmas.{run-failed, run-grows, run-said, run-unsaid, shown-other}
-use Rattle.cacao_cli.proofs.StartLemmas.{start-failed, start-grows, start-said, start-unsaid}
-use Rattle.cacao_cli.proofs.UnsaidLemmas.{last-disk, last-said, last-unsaid, works-disk, works-said, works-unsaid}
+use Rattle.cacao_cli.proofs.LeaveLemmas.{rehearse-performed}
+use Rattle.cacao_cli.proofs.OpenLemmas.{opens-said, opens-unsaid, opens-failed}
+use Rattle.cacao_cli.proofs.RunLemmas.{run-failed, run-said, run-unsaid, shown-other}
+use Rattle.cacao_cli.proofs.StartLemmas.{start-failed, start-said, start-unsaid}
+use Rattle.cacao_cli.proofs.SteadyLemmas.{disk-steady-ended}
+use Rattle.cacao_cli.proofs.UnsaidLemmas.{last-said, last-unsaid, works-said, works-unsaid}
 use Rattle.cacao_cli.proofs.LineLemmas.{IsCutOff, tells-status}
 use Rattle.cacao_cli.proofs.ReadLemmas.{Read, empty-read}
-
-performs-disk : (w : Work) (old mid : SiteView) (last : End) → IsPlain w → Performs w old mid last → mid.disk.faults ≡ old.disk.faults
-performs-disk (ends lines end) old mid last plain h = works-disk lines end old mid last h
-performs-disk (judges trees mode kept) old mid last plain (inl h) = performs-disk kept old mid last plain h.1
-performs-disk (judges trees mode kept) old mid last plain (inr (inl h)) = ap (λ (s : SiteView). s.disk.faults) h.same
-performs-disk (judges trees mode kept) old mid last plain (inr (inr h)) = ap (λ (s : SiteView). s.disk.faults) h.same
-performs-disk (opens_filter agent look) old mid last plain h = absurd plain
-performs-disk opens_run old mid last plain h = absurd plain
-performs-disk (compares files) old mid last plain h = compares-disk files old mid last h
-performs-disk (rehearsals positions) old mid last plain h = rehearses-disk positions old mid last h
-performs-disk (starts start) old mid last plain h = absurd plain
-
-same-grows : (n m : ℕ) → m ≡ n → n ≤ m
-same-grows n m e = omega (arith, e)
-
-performs-grows : (w : Work) (old mid : SiteView) (last : End) → Performs w old mid last → old.disk.faults ≤ mid.disk.faults
-performs-grows (ends lines end) old mid last h = same-grows old.disk.faults mid.disk.faults (works-disk lines end old mid last h)
-performs-grows (judges trees mode kept) old mid last (inl h) = performs-grows kept old mid last h.1
-performs-grows (judges trees mode kept) old mid last (inr (inl h)) = same-grows old.disk.faults mid.disk.faults (ap (λ (s : SiteView). s.disk.faults) h.same)
-performs-grows (judges trees mode kept) old mid last (inr (inr h)) = same-grows old.disk.faults mid.disk.faults (ap (λ (s : SiteView). s.disk.faults) h.same)
-performs-grows (opens_filter agent look) old mid last h = opens-grows agent look old mid last h
-performs-grows opens_run old mid last h = run-grows old mid mid last 0 h
-performs-grows (compares files) old mid last h = same-grows old.disk.faults mid.disk.faults (compares-disk files old mid last h)
-performs-grows (rehearsals positions) old mid last h = same-grows old.disk.faults mid.disk.faults (rehearses-disk positions old mid last h)
-performs-grows (starts start) old mid last h = start-grows start old mid mid last 0 h
 
 performs-said : (w : Work) (old mid new : SiteView) (last : End) (answer : ℕ) → Performs w old mid last → Tells last mid new answer → (answer ≡ 9 → ⊥) → new.clock.unsaid ≡ old.clock.unsaid
 performs-said (ends lines end) old mid new last answer h tells unlike = works-said lines end old mid new last answer h tells unlike
@@ -186,7 +162,7 @@ content-status file too_long end e = let is : end ≡ past file.limit = cc in in
 content-status file failed end e = let is : end ≡ shelf_failed file.name = cc in inl (ap status_of is)
 content-status file no_room end e = let is : end ≡ no_memory = cc in inr (inr (inl (ap status_of is)))
 
-read-status : (told : Option Files) (list : List File) (count : ℕ) (read : Read) (end : End) → Reads told list count read → read ≡ Err end → IsOneOf (status_of end) (3 ∷ 4 ∷ 10 ∷ 11 ∷ [])
+pub read-status : (told : Option Files) (list : List File) (count : ℕ) (read : Read) (end : End) → Reads told list count read → read ≡ Err end → IsOneOf (status_of end) (3 ∷ 4 ∷ 10 ∷ 11 ∷ [])
 read-status told list count read end all_read e = absurd (cc)
 read-status told list count read end (wants_memory file behind) e = let is : end ≡ no_memory = cc in inr (inr (inl (ap status_of is)))
 read-status told list count read end (stops file behind content stop gives is) e = let same : end ≡ stop = cc in subst (λ (x : End). IsOneOf (status_of x) (3 ∷ 4 ∷ 10 ∷ 11 ∷ [])) (sym same) (content-status file content stop is)
@@ -425,40 +401,9 @@ disk-ended (Some (shadows agent)) shelf old new answer h e = rose-disk (Some (sh
 disk-ended (Some (audits engine filters)) shelf old new answer h e = rose-disk (Some (audits engine filters)) shelf old new answer tt h e
 disk-ended (Some (rehearses positions)) shelf old new answer h e = rehearses-failed positions old h.between new h.last answer (rehearse-performed positions shelf old h.between h.last h.performed) h.tells e
 
-brief-plain : (w : Work) → IsBrief w → IsPlain w
-brief-plain w (silent end) = tt
-brief-plain w (one_line line) = tt
-brief-plain w (judged trees mode kept brief) = brief-plain kept brief
-brief-plain w (compared files) = tt
-brief-plain w (rehearsed positions) = tt
-
-no-disk-fault : (asked : Option Asked) (shelf : ShelfCall) (old new : SiteView) (answer : ℕ) → Ended asked shelf old new answer → NoDiskFault asked old new
-no-disk-fault asked shelf old new answer h = by asked h.performed
-  where
-    later : new.disk.faults ≡ h.between.disk.faults
-    later = last-disk h.last (text_of h.last) h.between new answer h.tells
-
-    plain : (a : Option Asked) (p : Performed a shelf old h.between h.last) → IsPlain (work a p.read) → new.disk.faults ≡ old.disk.faults
-    plain a p is = later ∙ performs-disk (work a p.read) old h.between h.last is p.performs
-
-    grows : (a : Option Asked) (p : Performed a shelf old h.between h.last) → old.disk.faults ≤ new.disk.faults
-    grows a p = omega (arith, later, performs-grows (work a p.read) old h.between h.last p.performs)
-
-    by : (a : Option Asked) → Performed a shelf old h.between h.last → NoDiskFault a old new
-    by None p = plain None p tt
-    by (Some (canonises book)) p = plain (Some (canonises book)) p (brief-plain (work (Some (canonises book)) p.read) (brief-canon book shelf.told p.reads.count p.read p.reads.reads))
-    by (Some (checks books)) p = plain (Some (checks books)) p (brief-plain (work (Some (checks books)) p.read) (brief-check books p.read))
-    by (Some (runs wanted)) p = grows (Some (runs wanted)) p
-    by (Some shows) p = grows (Some shows) p
-    by (Some (lists_rules agent)) p = grows (Some (lists_rules agent)) p
-    by (Some (decides agent packets)) p = grows (Some (decides agent packets)) p
-    by (Some (shadows agent)) p = grows (Some (shadows agent)) p
-    by (Some (rehearses positions)) p = plain (Some (rehearses positions)) p (brief-plain (work (Some (rehearses positions)) p.read) (brief-rehearse positions p.read))
-    by (Some (audits engine filters)) p = plain (Some (audits engine filters)) p (brief-plain (work (Some (audits engine filters)) p.read) (brief-audit engine filters p.read))
-
-pub memory-ended : (asked : Option Asked) (shelf : ShelfCall) (old new : SiteView) (answer : ℕ) → Ended asked shelf old new answer → answer ≡ 10 → NoFault asked shelf.before shelf.after old new
+pub memory-ended : (asked : Option Asked) (shelf : ShelfCall) (old new : SiteView) (answer : ℕ) → Ended asked shelf old new answer → answer ≡ 10 → NoFault shelf.before shelf.after old new
 memory-ended asked shelf old new answer h e = record {
   shelf = steady-ended asked shelf old new answer h (λ f. omega (arith, e, f)) (λ f. omega (arith, e, f));
-  disk = no-disk-fault asked shelf old new answer h;
+  disk = disk-steady-ended asked shelf old new answer h (λ f. omega (arith, e, f)) (λ f. omega (arith, e, f));
   say = said-ended asked shelf old new answer h (λ f. omega (arith, e, f));
 }

@@ -1,8 +1,5 @@
 -- Which ends have which status.
-use Rattle.std.proofs.Common.{◌≡◌, ◌⊎◌, inl, inr, ◌∙◌, refl, sym, arith, ℕ, ◌||◌, Bool, true, false, List, [], ◌∷◌}
-use Rattle.std.specs.Prelude.{nat_eq}
-use Rattle.std.specs.List.{list_any}
-use Rattle.std.proofs.lemmas.Bool.{true≢false}
+use Rattle.std.proofs.Common.{◌≡◌, ◌⊎◌, inl, inr, refl, arith, ℕ, List, [], ◌∷◌}
 use Rattle.cacao_cli.specs.Exact.{IsOneOf}
 use Rattle.cacao_cli.specs.declared.limit.Limit.{Limit}
 use Rattle.cacao_cli.specs.Ends.{End, status_of, done, accepted, agrees, disagrees, refused, bind_refused, ended_ok, ended_failed, paused, waiting, flooded, asked_for, other_run, other_book, run_used, not_understood, past, shelf_failed, no_such_file, not_readable, rehearsed, damaged, disk_failed, unsaid, no_memory}
@@ -101,23 +98,7 @@ session-end disk_failed = record { failed = λ e. absurd (omega (arith, e)); pau
 session-end unsaid = record { failed = λ e. absurd (omega (arith, e)); pauses = λ e. absurd (omega (arith, e)); another = λ e. absurd (omega (arith, e)); waits = λ e. absurd (omega (arith, e)); floods = λ e. absurd (omega (arith, e)); asks = λ e. absurd (omega (arith, e)); passes = λ e. absurd (omega (arith, e)); damage = λ e. absurd (omega (arith, e)) }
 session-end no_memory = record { failed = λ e. absurd (omega (arith, e)); pauses = λ e. absurd (omega (arith, e)); another = λ e. absurd (omega (arith, e)); waits = λ e. absurd (omega (arith, e)); floods = λ e. absurd (omega (arith, e)); asks = λ e. absurd (omega (arith, e)); passes = λ e. absurd (omega (arith, e)); damage = λ e. absurd (omega (arith, e)) }
 
--- ---- statuses in lists
-
-abbrev is_among : ℕ → List ℕ → Bool
-is_among n ms = list_any (nat_eq n) ms
-
-among-true : (n : ℕ) (ms : List ℕ) → IsOneOf n ms → is_among n ms ≡ true
-among-true n [] h = absurd h
-among-true n (m ∷ ms) (inl e) = let same : nat_eq n m ≡ true = grind (arith, e) in rw same refl
-among-true n (m ∷ ms) (inr h) = rest (nat_eq n m) (among-true n ms h)
-  where
-    rest : (b : Bool) → is_among n ms ≡ true → (b || is_among n ms) ≡ true
-    rest true e = refl
-    rest false e = e
-
--- a number is not in a list that has others alone
-pub not-among : (n : ℕ) (ms : List ℕ) → list_any (nat_eq n) ms ≡ false → IsOneOf n ms → ⊥
-not-among n ms none h = true≢false (sym (among-true n ms h) ∙ none)
+-- ---- statuses of sessions
 
 -- the statuses that sessions alone give
 abbrev pub session_only : List ℕ

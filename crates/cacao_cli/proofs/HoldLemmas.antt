@@ -63,7 +63,7 @@ error-done (error.RunUsed agent) e = omega (arith, e)
 error-done (error.Damaged file place) e = omega (arith, e)
 
 -- no close is a fault
-close-nine : (how : Close) → close_end how ≡ unsaid → ⊥
+pub close-nine : (how : Close) → close_end how ≡ unsaid → ⊥
 close-nine (close.Ended true) e = cc
 close-nine (close.Ended false) e = cc
 close-nine close.Paused e = cc
@@ -71,7 +71,7 @@ close-nine (close.Waiting moment) e = cc
 close-nine close.Flooded e = cc
 close-nine (close.Asked issue) e = cc
 
-close-eight : (how : Close) → close_end how ≡ disk_failed → ⊥
+pub close-eight : (how : Close) → close_end how ≡ disk_failed → ⊥
 close-eight (close.Ended true) e = cc
 close-eight (close.Ended false) e = cc
 close-eight close.Paused e = cc
@@ -79,7 +79,7 @@ close-eight (close.Waiting moment) e = cc
 close-eight close.Flooded e = cc
 close-eight (close.Asked issue) e = cc
 
-error-nine : (why : WorldError) → error_end why ≡ unsaid → why ≡ error.Say
+pub error-nine : (why : WorldError) → error_end why ≡ unsaid → why ≡ error.Say
 error-nine error.Disk e = absurd (cc)
 error-nine error.Say e = refl
 error-nine error.Memory e = absurd (cc)
@@ -89,7 +89,7 @@ error-nine (error.OtherBook index) e = absurd (cc)
 error-nine (error.RunUsed agent) e = absurd (cc)
 error-nine (error.Damaged file place) e = absurd (cc)
 
-error-eight : (why : WorldError) → error_end why ≡ disk_failed → why ≡ error.Disk
+pub error-eight : (why : WorldError) → error_end why ≡ disk_failed → why ≡ error.Disk
 error-eight error.Disk e = refl
 error-eight error.Say e = absurd (cc)
 error-eight error.Memory e = absurd (cc)
@@ -138,7 +138,7 @@ opening-disk (engine_error.Limit what) e = absurd (cc)
 opening-disk engine_error.Broken e = absurd (cc)
 opening-disk engine_error.Memory e = absurd (cc)
 
-rose-later : (a b c : ℕ) → a ≤ b → Rose b c → Rose a c
+pub rose-later : (a b c : ℕ) → a ≤ b → Rose b c → Rose a c
 rose-later a b c le rose = omega (arith, le, rose)
 
 module _ (given : Given) (run : ℕ) (old new : SiteView) where
@@ -147,10 +147,6 @@ module _ (given : Given) (run : ℕ) (old new : SiteView) where
 
   open-clock : (start : World) → AreOpen given run old start.site start.engine start.filters → start.site.clock.unsaid ≡ old.clock.unsaid
   open-clock start h = ap (λ (c : ClockView). c.unsaid) (h.others.rest.clock ∙ h.journal.opens.only.rest.clock)
-
-  refused-faults : (why : WorldError) → RefusesOpening why given run old new → old.disk.faults ≤ new.disk.faults
-  refused-faults why (inl h) = h.opens.only.each.goes_on.faults
-  refused-faults why (inr h) = omega (arith, h.journal.opens.only.each.goes_on.faults, h.refuses.before.goes_on.faults, h.refuses.refuses.opens.only.each.goes_on.faults)
 
   refused-clock : (why : WorldError) → RefusesOpening why given run old new → new.clock.unsaid ≡ old.clock.unsaid
   refused-clock why (inl h) = ap (λ (c : ClockView). c.unsaid) h.opens.only.rest.clock
@@ -168,24 +164,13 @@ module _ (given : Given) (run : ℕ) (old new : SiteView) where
 -- ---- the session
 
 module _ (given : Given) (run most : ℕ) (answers : List OperatorAnswer) (old new : SiteView) where
-  went-faults : Went given run most answers old new → old.disk.faults ≤ new.disk.faults
+  pub went-faults : Went given run most answers old new → old.disk.faults ≤ new.disk.faults
   went-faults h =
       let last : h.to.site.disk.faults ≡ new.disk.faults = ap (λ (s : SiteView). s.disk.faults) h.to_is in
       omega (arith, open-faults given run old new h.start h.files, h.cause.faults, last)
 
   went-same : (h : Went given run most answers old new) → h.to.site.clock.unsaid ≡ h.start.site.clock.unsaid → new.clock.unsaid ≡ old.clock.unsaid
   went-same h e = ap (λ (s : SiteView). s.clock.unsaid) (sym h.to_is) ∙ e ∙ open-clock given run old new h.start h.files
-
-  pub holds-faults : (last : End) → HoldsSo given run most answers old new last → old.disk.faults ≤ new.disk.faults
-  holds-faults last h = go h.held
-    where
-      go : ClosesSo given run most answers old new last ⊎ RefusesSo given run most answers old new last → old.disk.faults ≤ new.disk.faults
-      go (inl c) = went-faults c.closed.went
-      go (inr r) = by r.why
-        where
-          by : HasRefused r.error given run most answers old new → old.disk.faults ≤ new.disk.faults
-          by (inl o) = refused-faults given run old new r.error o
-          by (inr l) = went-faults l.went
 
   -- a line that could not be said ends the session so
   pub holds-said : (last : End) → HoldsSo given run most answers old new last → (new.clock.unsaid ≡ old.clock.unsaid) ⊎ (last ≡ unsaid)
@@ -214,44 +199,40 @@ module _ (given : Given) (run most : ℕ) (answers : List OperatorAnswer) (old n
           by (inr l) = later l (steps_unsaid l.went.start l.went.to l.went.steps)
 
   -- and then the count of such lines rose
+  pub refuses-unsaid : HasRefused error.Say given run most answers old new → Rose old.clock.unsaid new.clock.unsaid
+  refuses-unsaid (inl o) = absurd (refused-say given run old new o)
+  refuses-unsaid (inr l) =
+      let cause : l.refuses.cause ≡ not_said = cause-say l.refuses.cause (sym l.refuses.is) in
+      let phase : l.went.to.phase ≡ refused_by not_said l.refuses.lacks = l.refuses.phase ∙ ap (λ (c : Cause). refused_by c l.refuses.lacks) cause in
+      let rose : Rose l.went.start.site.clock.unsaid l.went.to.site.clock.unsaid =
+      (shown-as l.went.to.phase (refused_by not_said l.refuses.lacks) l.went.start l.went.to phase l.went.cause.shows).0 in
+      subst (λ (s : SiteView). Rose old.clock.unsaid s.clock.unsaid) l.went.to_is
+      (subst (λ (n : ℕ). Rose n l.went.to.site.clock.unsaid) (open-clock given run old new l.went.start l.went.files) rose)
+
   pub holds-unsaid : (last : End) → last ≡ unsaid → HoldsSo given run most answers old new last → Rose old.clock.unsaid new.clock.unsaid
   holds-unsaid last is h = go h.held
     where
       go : ClosesSo given run most answers old new last ⊎ RefusesSo given run most answers old new last → Rose old.clock.unsaid new.clock.unsaid
       go (inl c) = absurd (close-nine c.close (sym c.ends ∙ is))
-      go (inr r) = by (error-nine r.error (sym r.ends ∙ is)) r.why
-        where
-          later : error.Say ≡ r.error → (l : RefusesLater r.error given run most answers old new) → Rose old.clock.unsaid new.clock.unsaid
-          later say l =
-              let cause : l.refuses.cause ≡ not_said = cause-say l.refuses.cause (sym l.refuses.is ∙ sym say) in
-              let phase : l.went.to.phase ≡ refused_by not_said l.refuses.lacks = l.refuses.phase ∙ ap (λ (c : Cause). refused_by c l.refuses.lacks) cause in
-              let rose : Rose l.went.start.site.clock.unsaid l.went.to.site.clock.unsaid = (shown-as l.went.to.phase (refused_by not_said l.refuses.lacks) l.went.start l.went.to phase l.went.cause.shows).0 in
-              subst (λ (s : SiteView). Rose old.clock.unsaid s.clock.unsaid) l.went.to_is
-              (subst (λ (n : ℕ). Rose n l.went.to.site.clock.unsaid) (open-clock given run old new l.went.start l.went.files) rose)
-
-          by : r.error ≡ error.Say → HasRefused r.error given run most answers old new → Rose old.clock.unsaid new.clock.unsaid
-          by say (inl o) = absurd (refused-say given run old new (subst (λ (e : WorldError). RefusesOpening e given run old new) say o))
-          by say (inr l) = later (sym say) l
+      go (inr r) = refuses-unsaid (subst (λ (e : WorldError). HasRefused e given run most answers old new) (error-nine r.error (sym r.ends ∙ is)) r.why)
 
   -- where the disk failed, so did the count of its faults
+  pub refuses-failed : HasRefused error.Disk given run most answers old new → Rose old.disk.faults new.disk.faults
+  refuses-failed (inl o) = refused-disk given run old new o
+  refuses-failed (inr l) =
+      let cause : l.refuses.cause ≡ failed_disk = cause-disk l.refuses.cause (sym l.refuses.is) in
+      let phase : l.went.to.phase ≡ refused_by failed_disk l.refuses.lacks = l.refuses.phase ∙ ap (λ (c : Cause). refused_by c l.refuses.lacks) cause in
+      let rose : Rose l.went.start.site.disk.faults l.went.to.site.disk.faults =
+      shown-as l.went.to.phase (refused_by failed_disk l.refuses.lacks) l.went.start l.went.to phase l.went.cause.shows in
+      subst (λ (s : SiteView). Rose old.disk.faults s.disk.faults) l.went.to_is
+      (rose-later old.disk.faults l.went.start.site.disk.faults l.went.to.site.disk.faults (open-faults given run old new l.went.start l.went.files) rose)
+
   pub holds-failed : (last : End) → last ≡ disk_failed → HoldsSo given run most answers old new last → Rose old.disk.faults new.disk.faults
   holds-failed last is h = go h.held
     where
       go : ClosesSo given run most answers old new last ⊎ RefusesSo given run most answers old new last → Rose old.disk.faults new.disk.faults
       go (inl c) = absurd (close-eight c.close (sym c.ends ∙ is))
-      go (inr r) = by (error-eight r.error (sym r.ends ∙ is)) r.why
-        where
-          later : error.Disk ≡ r.error → (l : RefusesLater r.error given run most answers old new) → Rose old.disk.faults new.disk.faults
-          later disk l =
-              let cause : l.refuses.cause ≡ failed_disk = cause-disk l.refuses.cause (sym l.refuses.is ∙ sym disk) in
-              let phase : l.went.to.phase ≡ refused_by failed_disk l.refuses.lacks = l.refuses.phase ∙ ap (λ (c : Cause). refused_by c l.refuses.lacks) cause in
-              let rose : Rose l.went.start.site.disk.faults l.went.to.site.disk.faults = shown-as l.went.to.phase (refused_by failed_disk l.refuses.lacks) l.went.start l.went.to phase l.went.cause.shows in
-              subst (λ (s : SiteView). Rose old.disk.faults s.disk.faults) l.went.to_is
-              (rose-later old.disk.faults l.went.start.site.disk.faults l.went.to.site.disk.faults (open-faults given run old new l.went.start l.went.files) rose)
-
-          by : r.error ≡ error.Disk → HasRefused r.error given run most answers old new → Rose old.disk.faults new.disk.faults
-          by disk (inl o) = refused-disk given run old new (subst (λ (e : WorldError). RefusesOpening e given run old new) disk o)
-          by disk (inr l) = later (sym disk) l
+      go (inr r) = refuses-failed (subst (λ (e : WorldError). HasRefused e given run most answers old new) (error-eight r.error (sym r.ends ∙ is)) r.why)
 
   pub holds-status : (last : End) → HoldsSo given run most answers old new last → IsOneOf (status_of last) session_statuses
   holds-status last h = go h.held

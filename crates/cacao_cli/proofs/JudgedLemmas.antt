@@ -17,7 +17,7 @@ use Rattle.cacao_cli.specs.Files.{NamedText}
 use Rattle.cacao_cli.specs.Holding.{CameTo, HasAnswers, HasBadAnswer, IsAcceptedStart, IsRefusedStart}
 use Rattle.cacao_cli.specs.Work.{Start, bytes_of, starts}
 use Rattle.cacao_cli.proofs.CauseLemmas.{Roots, Treeless}
-use Rattle.cacao_cli.proofs.EndCases.{not-among}
+use Rattle.cacao_cli.proofs.StatusLists.{not-among}
 use Rattle.cacao_cli.proofs.HoldLemmas.{holds-done, holds-status}
 
 -- ---- trees
@@ -35,11 +35,11 @@ roots-lack (text ∷ texts) (root ∷ roots) r (inr h) = roots-lack texts roots 
 
 -- ---- no two of the causes hold
 
-bad-answers : (start : Start) → HasBadAnswer start → HasAnswers start → ⊥
+pub bad-answers : (start : Start) → HasBadAnswer start → HasAnswers start → ⊥
 bad-answers start (text, is, number, bad) (answers, are) =
     bad_lines_tell_nothing text.bytes start.run number answers bad (subst (λ (b : Text). told.Answers b start.run answers) (ap bytes_of is) are)
 
-refused-accepted : (start : Start) → IsRefusedStart start → IsAcceptedStart start → ⊥
+pub refused-accepted : (start : Start) → IsRefusedStart start → IsAcceptedStart start → ⊥
 refused-accepted start (answers, inl (broken, h)) (others, (given, a)) = not-accepted start.books start.bind (setup_error.Broken broken) h (λ e. no-broken e) given a
   where
     no-broken : setup_error.Broken broken ≡ setup_error.Memory → ⊥

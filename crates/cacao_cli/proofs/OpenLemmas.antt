@@ -17,7 +17,7 @@ use Rattle.cacao_cli.specs.Work.{Look, opens_filter}
 use Rattle.cacao_cli.proofs.EndLemmas.{no-more}
 use Rattle.cacao_cli.proofs.LineLemmas.{IsCutOff, says-status, tells-status}
 use Rattle.cacao_cli.proofs.SayingLemmas.{SaysSome, Tallies, keeps-refl, some-all, some-failed, some-same, some-trans, tells-some}
-use Rattle.cacao_cli.proofs.UnsaidLemmas.{last-disk, last-said, last-unsaid, works-disk, works-said, works-unsaid}
+use Rattle.cacao_cli.proofs.UnsaidLemmas.{last-disk, last-said, last-unsaid, works-said, works-unsaid}
 
 -- ---- what is said changes the disk and the link no more than that
 
@@ -122,12 +122,6 @@ opens-comes agent look old mid new last answer (inr (inr (inr h))) tells = inr (
     go (inl e) = inr (inl e)
 
 -- ---- the counts
-
-pub opens-grows : (agent : ℕ) (look : Look) (old mid : SiteView) (last : End) → Performs (opens_filter agent look) old mid last → old.disk.faults ≤ mid.disk.faults
-opens-grows agent look old mid last (inl h) = omega (arith, h.opens.only.each.goes_on.faults, works-disk h.lines done h.between mid last h.says)
-opens-grows agent look old mid last (inr (inl h)) = h.opens.only.each.goes_on.faults
-opens-grows agent look old mid last (inr (inr (inl h))) = h.opens.only.each.goes_on.faults
-opens-grows agent look old mid last (inr (inr (inr h))) = h.opens.only.each.goes_on.faults
 
 cut-eight : (answer : ℕ) → IsCutOff answer → answer ≡ 8 → ⊥
 cut-eight answer (inl f) e = omega (arith, e, f)

@@ -79,9 +79,9 @@ performed-memory (Some (runs wanted)) shelf site same steady = go (has_too_many 
       reads = subst (λ (b : Bool). ReadsTo shelf (if b then [] else map book_file (run_names wanted)) p.0) (sym few) p.1.0;
       performs = subst (λ (b : Bool). Performs (if b then ends [] (past BookCount) else or_end p.0 (work_on (runs wanted))) site site no_memory) (sym few) p.1.1;
     }
-performed-memory (Some shows) shelf site same steady = record { read = Ok []; reads = none-read shelf same steady; performs = inr (inr (inr (inr (record { opens = opens-refl 0 site; ends = refl })))) }
-performed-memory (Some (lists_rules agent)) shelf site same steady = record { read = Ok []; reads = none-read shelf same steady; performs = inr (inr (inr (record { opens = opens-refl agent site; ends = refl }))) }
-performed-memory (Some (shadows agent)) shelf site same steady = record { read = Ok []; reads = none-read shelf same steady; performs = inr (inr (inr (record { opens = opens-refl agent site; ends = refl }))) }
+performed-memory (Some shows) shelf site same steady = record { read = Ok []; reads = none-read shelf same steady; performs = inr (inr (inr (inr (record { opens = opens-refl 0 site; steady = refl; ends = refl })))) }
+performed-memory (Some (lists_rules agent)) shelf site same steady = record { read = Ok []; reads = none-read shelf same steady; performs = inr (inr (inr (record { opens = opens-refl agent site; steady = refl; ends = refl }))) }
+performed-memory (Some (shadows agent)) shelf site same steady = record { read = Ok []; reads = none-read shelf same steady; performs = inr (inr (inr (record { opens = opens-refl agent site; steady = refl; ends = refl }))) }
 performed-memory (Some (decides agent packets)) shelf site same steady = record {
   read = Err no_memory;
   reads = wanted-before shelf (packet_file packets) [] same steady;
@@ -148,7 +148,7 @@ decide-bad agent packets shelf text site end reads (inr is) = record {
 }
   where
     go : (r : Result (List (ℕ × Packet)) ℕ) → Performs (or_end (packets_or_end text.name r) (λ found. opens_filter agent (at_decisions found))) site site no_memory
-    go (Ok found) = inr (inr (inr (record { opens = opens-refl agent site; ends = refl })))
+    go (Ok found) = inr (inr (inr (record { opens = opens-refl agent site; steady = refl; ends = refl })))
     go (Err number) = inr (inr (record { same = refl; no_fault = refl; ends = refl }))
 
 -- the packets were decided

@@ -11,8 +11,11 @@ use Rattle.flow_core.specs.declared.setup_errors.SetupError.TheVariants as setup
 use Rattle.flow_rules.specs.Givens.{Given}
 use Rattle.flow_world.specs.declared.close.Close.{Close}
 use Rattle.flow_world.specs.declared.close.Close.TheVariants as close
+use Rattle.flow_world.specs.declared.error.WorldError.{WorldError}
+use Rattle.flow_world.specs.declared.error.WorldError.TheVariants as refusal
 use Rattle.rehearsal.specs.Books.{rehearsal_text}
-use Rattle.rehearsal.specs.Rehearsals.{FailsToRehearse, Rehearsed, is_well}
+use Rattle.rehearsal.specs.NewSites.{MayComeOfNew, TellsOfBefore}
+use Rattle.rehearsal.specs.Rehearsals.{FailsToRehearse, Refuses, Rehearsed, is_well, most_records, run_number}
 use Rattle.rehearsal.specs.Settings.{IsAccepted, IsNewSite}
 use Rattle.rehearsal.specs.declared.error.RehearsalError.{RehearsalError}
 use Rattle.rehearsal.specs.declared.error.RehearsalError.TheVariants as rehearsal_error
@@ -20,11 +23,13 @@ use Rattle.rehearsal.specs.declared.summary.Summary.{Summary}
 use Rattle.run_reports.proofs.AcceptLemmas.{not-accepted}
 use Rattle.cacao_cli.specs.Ends.{End, disk_failed, rehearsed, status_of, text_of, unsaid}
 use Rattle.cacao_cli.specs.Exact.{HasRehearsed, IsOneOf, IsRehearsed, session_statuses}
-use Rattle.cacao_cli.specs.Holding.{close_end}
+use Rattle.cacao_cli.specs.Holding.{close_end, error_end}
 use Rattle.cacao_cli.specs.Lines.{Tells}
-use Rattle.cacao_cli.specs.Rehearsing.{EndsRun, IsBrokenRehearsal, IsLongRehearsal, RehearsalTo, Rehearses, TellsRehearsal, failed_end}
-use Rattle.cacao_cli.proofs.EndCases.{eight-is, nine-or-not, not-among}
-use Rattle.cacao_cli.proofs.HoldLemmas.{close-status, error-done, error-status}
+use Rattle.cacao_cli.specs.OwnSites.{CountsOwn}
+use Rattle.cacao_cli.specs.Rehearsing.{ComesOfBlank, EndsRun, IsBrokenRehearsal, IsLongRehearsal, RehearsalTo, Rehearses, TellsRehearsal, failed_end}
+use Rattle.cacao_cli.proofs.EndCases.{eight-is, nine-or-not}
+use Rattle.cacao_cli.proofs.StatusLists.{not-among}
+use Rattle.cacao_cli.proofs.HoldLemmas.{close-eight, close-nine, close-status, error-done, error-eight, error-nine, error-status, refuses-failed, refuses-unsaid, rose-later, went-faults}
 use Rattle.cacao_cli.proofs.LineLemmas.{IsCutOff, tells-status}
 use Rattle.cacao_cli.proofs.UnsaidLemmas.{last-said, last-unsaid}
 
@@ -39,36 +44,58 @@ has-summary positions site after summary new h = inr (inr (inl (record {
   given = h.given;
   accepted = h.accepted;
   runs = inl (record { summary = summary; well = h.runs; ends = refl });
+  of_blank = tt;
 })))
 
-pub has-failed : (positions : ℕ) (site : MemorySite) (after : SiteView) (why : RehearsalError) → IsNewSite site → FailsToRehearse positions (view_of site) after why → TellsRehearsal positions (failed_end why)
-has-failed positions site after rehearsal_error.TooLong new h = inl (h.long, refl)
-has-failed positions site after (rehearsal_error.Broken broken) new h = inr (inl (broken, (h.short, h.breaks), refl))
-has-failed positions site after (rehearsal_error.Closed how) new h = inr (inr (inl (record {
+close-blank : (how : Close) → ComesOfBlank (close_end how)
+close-blank (close.Ended true) = tt
+close-blank (close.Ended false) = tt
+close-blank close.Paused = tt
+close-blank (close.Waiting moment) = tt
+close-blank close.Flooded = tt
+close-blank (close.Asked issue) = tt
+
+error-blank : (why : WorldError) → (TellsOfBefore why → ⊥) → ComesOfBlank (error_end why)
+error-blank refusal.Disk new = tt
+error-blank refusal.Say new = tt
+error-blank refusal.Memory new = tt
+error-blank (refusal.Limit what) new = tt
+error-blank (refusal.OtherRun held asked) new = new tt
+error-blank (refusal.OtherBook index) new = new tt
+error-blank (refusal.RunUsed agent) new = new tt
+error-blank (refusal.Damaged file place) new = new tt
+
+pub has-failed : (positions : ℕ) (site : MemorySite) (after : SiteView) (why : RehearsalError) → IsNewSite site → MayComeOfNew why → FailsToRehearse positions (view_of site) after why → TellsRehearsal positions (failed_end why)
+has-failed positions site after rehearsal_error.TooLong new may h = inl (h.long, refl)
+has-failed positions site after (rehearsal_error.Broken broken) new may h = inr (inl (broken, (h.short, h.breaks), refl))
+has-failed positions site after (rehearsal_error.Closed how) new may h = inr (inr (inl (record {
   site = site;
   is_new = new;
   after = after;
   given = h.given;
   accepted = h.accepted;
   runs = inr (inl (record { how = how; closes = h.fails; ends = refl }));
+  of_blank = close-blank how;
 })))
-has-failed positions site after (rehearsal_error.Refused why) new h = inr (inr (inl (record {
+has-failed positions site after (rehearsal_error.Refused why) new may h = inr (inr (inl (record {
   site = site;
   is_new = new;
   after = after;
   given = h.given;
   accepted = h.accepted;
   runs = inr (inr (inl (record { why = why; refuses = h.fails; ends = refl })));
+  of_blank = error-blank why may;
 })))
-has-failed positions site after rehearsal_error.Disk new h = inr (inr (inl (record {
+has-failed positions site after rehearsal_error.Disk new may h = inr (inr (inl (record {
   site = site;
   is_new = new;
   after = after;
   given = h.given;
   accepted = h.accepted;
   runs = inr (inr (inr (record { fails = h.fails; ends = refl })));
+  of_blank = tt;
 })))
-has-failed positions site after rehearsal_error.Memory new h = inr (inr (inr refl))
+has-failed positions site after rehearsal_error.Memory new may h = inr (inr (inr refl))
 
 -- ---- which status comes
 
@@ -86,7 +113,7 @@ rehearses-comes positions old mid new last answer h tells = go (tells-status las
     go (inr c) = inr c
 
 -- a run has the status of a session
-run-listed : (positions : ℕ) (given : Given) (old new : SiteView) (last : End) → EndsRun positions given old new last → IsOneOf (status_of last) session_statuses
+pub run-listed : (positions : ℕ) (given : Given) (old new : SiteView) (last : End) → EndsRun positions given old new last → IsOneOf (status_of last) session_statuses
 run-listed positions given old new last (inl h) = subst (λ (e : End). IsOneOf (status_of e) session_statuses) (sym h.ends) (inl refl)
 run-listed positions given old new last (inr (inl h)) = subst (λ (e : End). IsOneOf (status_of e) session_statuses) (sym h.ends) (close-status h.how)
 run-listed positions given old new last (inr (inr (inl h))) = subst (λ (e : End). IsOneOf (status_of e) session_statuses) (sym h.ends) (error-status h.why)
@@ -177,21 +204,49 @@ ran positions last (inr (inr (inr is))) a b c = absurd (c (ap status_of is))
 rose-next : (n m : ℕ) → m ≡ next_count n → Rose n m
 rose-next n m e = omega (arith, e)
 
+-- the count of its own site that rose
+module _ (positions : ℕ) (h : RehearsalTo positions disk_failed) where
+  fault-rose : EndsRun positions h.given (view_of h.site) h.after disk_failed → Rose (view_of h.site).disk.faults h.after.disk.faults
+  fault-rose (inl r) = let e = r.ends in absurd (cc)
+  fault-rose (inr (inl r)) = absurd (close-eight r.how (sym r.ends))
+  fault-rose (inr (inr (inl r))) =
+      refuses-failed h.given run_number most_records [] (view_of h.site) h.after
+      (subst (λ (w : WorldError). Refuses h.given w (view_of h.site) h.after) (error-eight r.why (sym r.ends)) r.refuses)
+  fault-rose (inr (inr (inr r))) =
+      rose-later (view_of h.site).disk.faults r.fails.after.disk.faults h.after.disk.faults
+      (went-faults h.given run_number most_records [] (view_of h.site) r.fails.after r.fails.closed.went) r.fails.rose
+
+  counts-fault : CountsOwn positions disk_failed (λ (s : SiteView). s.disk.faults)
+  counts-fault = record { came = h; rose = fault-rose h.runs }
+
+module _ (positions : ℕ) (h : RehearsalTo positions unsaid) where
+  unsaid-rose : EndsRun positions h.given (view_of h.site) h.after unsaid → Rose (view_of h.site).clock.unsaid h.after.clock.unsaid
+  unsaid-rose (inl r) = let e = r.ends in absurd (cc)
+  unsaid-rose (inr (inl r)) = absurd (close-nine r.how (sym r.ends))
+  unsaid-rose (inr (inr (inl r))) =
+      refuses-unsaid h.given run_number most_records [] (view_of h.site) h.after
+      (subst (λ (w : WorldError). Refuses h.given w (view_of h.site) h.after) (error-nine r.why (sym r.ends)) r.refuses)
+  unsaid-rose (inr (inr (inr r))) = let e = r.ends in absurd (cc)
+
+  counts-unsaid : CountsOwn positions unsaid (λ (s : SiteView). s.clock.unsaid)
+  counts-unsaid = record { came = h; rose = unsaid-rose h.runs }
+
 pub rehearses-unsaid : (positions : ℕ) (old mid new : SiteView) (last : End) (answer : ℕ) → Rehearses positions old mid last → Tells last mid new answer → answer ≡ 9
-    → Rose old.clock.unsaid new.clock.unsaid ⊎ RehearsalTo positions unsaid
+    → Rose old.clock.unsaid new.clock.unsaid ⊎ CountsOwn positions unsaid (λ (s : SiteView). s.clock.unsaid)
 rehearses-unsaid positions old mid new last answer h tells e = go (nine-or-not last)
   where
-    go : (last ≡ unsaid) ⊎ (status_of last ≡ 9 → ⊥) → Rose old.clock.unsaid new.clock.unsaid ⊎ RehearsalTo positions unsaid
+    go : (last ≡ unsaid) ⊎ (status_of last ≡ 9 → ⊥) → Rose old.clock.unsaid new.clock.unsaid ⊎ CountsOwn positions unsaid (λ (s : SiteView). s.clock.unsaid)
     go (inl is) = let k : status_of last ≡ 9 = ap status_of is in
-        inr (subst (RehearsalTo positions) is (ran positions last h.tells (λ f. omega (arith, k, f)) (λ f. omega (arith, k, f)) (λ f. omega (arith, k, f))))
+        inr (counts-unsaid positions (subst (RehearsalTo positions) is (ran positions last h.tells (λ f. omega (arith, k, f)) (λ f. omega (arith, k, f)) (λ f. omega (arith, k, f)))))
     go (inr other) = inl (rose-next old.clock.unsaid new.clock.unsaid (last-unsaid last (text_of last) mid new answer other tells e ∙ ap (λ (s : SiteView). next_count s.clock.unsaid) h.same))
 
-pub rehearses-failed : (positions : ℕ) (old mid new : SiteView) (last : End) (answer : ℕ) → Rehearses positions old mid last → Tells last mid new answer → answer ≡ 8 → RehearsalTo positions disk_failed
+pub rehearses-failed : (positions : ℕ) (old mid new : SiteView) (last : End) (answer : ℕ) → Rehearses positions old mid last → Tells last mid new answer → answer ≡ 8
+    → CountsOwn positions disk_failed (λ (s : SiteView). s.disk.faults)
 rehearses-failed positions old mid new last answer h tells e = go (tells-status last mid new answer tells)
   where
-    go : (answer ≡ status_of last) ⊎ IsCutOff answer → RehearsalTo positions disk_failed
+    go : (answer ≡ status_of last) ⊎ IsCutOff answer → CountsOwn positions disk_failed (λ (s : SiteView). s.disk.faults)
     go (inl is) = let k : status_of last ≡ 8 = sym is ∙ e in
-        subst (RehearsalTo positions) (eight-is last k) (ran positions last h.tells (λ f. omega (arith, k, f)) (λ f. omega (arith, k, f)) (λ f. omega (arith, k, f)))
+        counts-fault positions (subst (RehearsalTo positions) (eight-is last k) (ran positions last h.tells (λ f. omega (arith, k, f)) (λ f. omega (arith, k, f)) (λ f. omega (arith, k, f))))
     go (inr (inl f)) = absurd (omega (arith, e, f))
     go (inr (inr (inl f))) = absurd (omega (arith, e, f))
     go (inr (inr (inr f))) = absurd f

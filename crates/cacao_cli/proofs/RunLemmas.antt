@@ -1,7 +1,8 @@
 -- The engine's file is opened, and something is said of it.
-use Rattle.std.proofs.Common.{◌≡◌, ◌⊎◌, ◌∙◌, inl, inr, refl, sym, ap, subst, arith, ℕ, ◌≤◌, List, []}
+use Rattle.std.proofs.Common.{◌≡◌, ◌⊎◌, ◌∙◌, inl, inr, refl, sym, ap, subst, arith, ℕ, List, []}
 use Rattle.std.specs.Prelude.{IsTrue}
 use Rattle.cacao_site.specs.Counts.{Rose, next_count}
+use Rattle.cacao_site.specs.DiskCalls.{IsDurable}
 use Rattle.cacao_site.specs.View.{SiteView}
 use Rattle.run_journal.specs.Layout.{Stands}
 use Rattle.run_journal.specs.declared.error.JournalError.{JournalError}
@@ -22,29 +23,32 @@ use Rattle.cacao_cli.specs.Work.{opens_run}
 use Rattle.cacao_cli.specs.declared.limit.Limit.TheVariants.{TaskCount}
 use Rattle.cacao_cli.proofs.LineLemmas.{IsCutOff, says-status}
 use Rattle.cacao_cli.proofs.OpenLemmas.{nothing-written, work-some}
-use Rattle.cacao_cli.proofs.UnsaidLemmas.{last-disk, works-disk, works-said, works-unsaid}
+use Rattle.cacao_cli.proofs.UnsaidLemmas.{last-disk, works-said, works-unsaid}
 
 -- ---- the file was not opened, or has no report
 
 pub not-opened : (old new : SiteView) (error : JournalError) → Opens 0 old new
     → ((place : ℕ) → error ≡ journal_error.Damaged place → IsTrue old.disk.told → run.IsDamaged (new.disk.reads 0) place)
+    → ((place : ℕ) → error ≡ journal_error.Damaged place → IsDurable 0 new.disk)
     → (error ≡ journal_error.Disk → Rose old.disk.faults new.disk.faults)
+    → ((error ≡ journal_error.Disk → ⊥) → new.disk.faults ≡ old.disk.faults)
     → (error ≡ journal_error.Broken → ⊥) → ((needed : ℕ) → error ≡ journal_error.Full needed → ⊥)
     → Performs opens_run old new (journal_end error)
-not-opened old new journal_error.Disk opens bad failed broken full = inr (inr (inr (inl (record { opens = opens; cause = failed refl; ends = refl }))))
-not-opened old new (journal_error.Damaged place) opens bad failed broken full = inr (inl (record { opens = opens; place = place; is_damaged = bad place refl; ends = refl }))
-not-opened old new (journal_error.Full needed) opens bad failed broken full = absurd (full needed refl)
-not-opened old new journal_error.Broken opens bad failed broken full = absurd (broken refl)
-not-opened old new journal_error.Memory opens bad failed broken full = inr (inr (inr (inr (record { opens = opens; ends = refl }))))
+not-opened old new journal_error.Disk opens bad durable failed steady broken full = inr (inr (inr (inl (record { opens = opens; cause = failed refl; ends = refl }))))
+not-opened old new (journal_error.Damaged place) opens bad durable failed steady broken full = inr (inl (record { opens = opens; durable = durable place refl; steady = steady (λ e. cc); place = place; is_damaged = bad place refl; ends = refl }))
+not-opened old new (journal_error.Full needed) opens bad durable failed steady broken full = absurd (full needed refl)
+not-opened old new journal_error.Broken opens bad durable failed steady broken full = absurd (broken refl)
+not-opened old new journal_error.Memory opens bad durable failed steady broken full = inr (inr (inr (inr (record { opens = opens; steady = steady (λ e. cc); ends = refl }))))
 
-pub no-report : (old new : SiteView) (entries : List (List ℕ)) (error : ReportError) → Opens 0 old new → (IsTrue old.disk.told → Stands (new.disk.reads 0) entries)
+pub no-report : (old new : SiteView) (entries : List (List ℕ)) (error : ReportError) → Opens 0 old new → IsDurable 0 new.disk → new.disk.faults ≡ old.disk.faults
+    → (IsTrue old.disk.told → Stands (new.disk.reads 0) entries)
     → ((place : ℕ) → error ≡ report_error.Damaged place → run.BreaksOff entries place) → (error ≡ report_error.TooManyTasks → run.Overgrows entries)
     → Performs opens_run old new (report_end error)
-no-report old new entries (report_error.Damaged place) opens stands breaks grows =
-    inr (inl (record { opens = opens; place = place; is_damaged = λ told. inr (entries, stands told, breaks place refl); ends = refl }))
-no-report old new entries report_error.TooManyTasks opens stands breaks grows =
-    inr (inr (inl (record { opens = opens; is_large = λ told. (entries, stands told, grows refl); ends = refl })))
-no-report old new entries report_error.Memory opens stands breaks grows = inr (inr (inr (inr (record { opens = opens; ends = refl }))))
+no-report old new entries (report_error.Damaged place) opens durable steady stands breaks grows =
+    inr (inl (record { opens = opens; durable = durable; steady = steady; place = place; is_damaged = λ told. inr (entries, stands told, breaks place refl); ends = refl }))
+no-report old new entries report_error.TooManyTasks opens durable steady stands breaks grows =
+    inr (inr (inl (record { opens = opens; durable = durable; steady = steady; is_large = λ told. (entries, stands told, grows refl); ends = refl })))
+no-report old new entries report_error.Memory opens durable steady stands breaks grows = inr (inr (inr (inr (record { opens = opens; steady = steady; ends = refl }))))
 
 -- ---- what came of the opening, however it went
 
@@ -93,9 +97,6 @@ module _ (lines : List Text) (end : End) (Holds : List ℕ → Type 0) (old mid 
       go : (answer ≡ status_of end) ⊎ IsCutOff answer → ((IsTrue old.disk.told → Holds (new.disk.reads 0)) × (answer ≡ status_of end)) ⊎ IsCutOff answer
       go (inr c) = inr c
       go (inl e) = inl ((λ told. subst Holds (sym same) (h.holds told)), e)
-
-  went-grows : Went lines end Holds old mid last → old.disk.faults ≤ mid.disk.faults
-  went-grows h = omega (arith, h.opens.only.each.goes_on.faults, works-disk lines end h.between mid last h.says)
 
   went-steady : Went lines end Holds old mid last → (status_of end ≡ 8 → ⊥) → Tells last mid new answer → answer ≡ 8 → ⊥
   went-steady h other tells e = go (says-status lines end h.between mid new last answer h.says tells)
@@ -154,13 +155,6 @@ module _ (old mid new : SiteView) (last : End) (answer : ℕ) where
       go : ((IsTrue old.disk.told → Unit {0}) × (answer ≡ 10)) ⊎ IsCutOff answer → ComesShown old new answer ⊎ IsCutOff answer
       go (inl c) = inr (inr (inl c.1))
       go (inr c) = inr c
-
-  pub run-grows : Performs opens_run old mid last → old.disk.faults ≤ mid.disk.faults
-  run-grows (inl h) = went-grows (lines_of h.text) done IsReport old mid new last answer (of-said old mid last h)
-  run-grows (inr (inl h)) = h.opens.only.each.goes_on.faults
-  run-grows (inr (inr (inl h))) = h.opens.only.each.goes_on.faults
-  run-grows (inr (inr (inr (inl h)))) = h.opens.only.each.goes_on.faults
-  run-grows (inr (inr (inr (inr h)))) = h.opens.only.each.goes_on.faults
 
   pub run-failed : Performs opens_run old mid last → Tells last mid new answer → answer ≡ 8 → Rose old.disk.faults new.disk.faults
   run-failed (inl h) tells e = absurd (went-steady (lines_of h.text) done IsReport old mid new last answer (of-said old mid last h) (λ f. omega (arith, f)) tells e)

@@ -1,5 +1,5 @@
 -- A session, from the texts that were read.
-use Rattle.std.proofs.Common.{◌≡◌, ◌⊎◌, inl, inr, ◌∙◌, refl, sym, ap, subst, arith, ℕ, ◌≤◌, Option, Some, None}
+use Rattle.std.proofs.Common.{◌≡◌, ◌⊎◌, inl, inr, ◌∙◌, refl, sym, ap, subst, arith, ℕ, Option, Some, None}
 use Rattle.cacao_site.specs.Counts.{Rose, next_count}
 use Rattle.cacao_site.specs.View.{SiteView}
 use Rattle.flow_laws.specs.Held.{plain}
@@ -13,12 +13,9 @@ use Rattle.cacao_cli.specs.Lines.{SaysAtMostALine, Tells, TellsText}
 use Rattle.cacao_cli.specs.Work.{Start, starts}
 use Rattle.cacao_cli.proofs.EndCases.{eight-is, nine-or-not}
 use Rattle.cacao_cli.proofs.EndLemmas.{no-more}
-use Rattle.cacao_cli.proofs.HoldLemmas.{holds-failed, holds-faults, holds-said, holds-unsaid}
+use Rattle.cacao_cli.proofs.HoldLemmas.{holds-failed, holds-said, holds-unsaid}
 use Rattle.cacao_cli.proofs.LineLemmas.{IsCutOff, tells-status}
 use Rattle.cacao_cli.proofs.UnsaidLemmas.{last-disk, last-said, last-unsaid}
-
-same-faults : (old new : SiteView) → new ≡ old → old.disk.faults ≤ new.disk.faults
-same-faults old new e = let f : new.disk.faults ≡ old.disk.faults = ap (λ (s : SiteView). s.disk.faults) e in omega (arith, f)
 
 next-rose : (n m k : ℕ) → m ≡ n → k ≡ next_count m → Rose n k
 next-rose n m k e f = omega (arith, e, f)
@@ -41,13 +38,6 @@ pub tells-line : (last : End) (mid new : SiteView) (answer : ℕ) → Tells last
 tells-line last mid new answer h = line-at-last last (text_of last) mid new answer h
 
 module _ (start : Start) (old mid new : SiteView) (last : End) (answer : ℕ) where
-  pub start-grows : Performs (starts start) old mid last → old.disk.faults ≤ mid.disk.faults
-  start-grows (inl h) = same-faults old mid h.same
-  start-grows (inr (inl h)) = same-faults old mid h.same
-  start-grows (inr (inr (inl h))) = same-faults old mid h.same
-  start-grows (inr (inr (inr (inl h)))) = holds-faults h.given start.run start.most h.answers old mid last h.holds
-  start-grows (inr (inr (inr (inr h)))) = same-faults old mid h.same
-
   -- ---- lines that could not be said
 
   still-said : mid ≡ old → Tells last mid new answer → (answer ≡ 9 → ⊥) → new.clock.unsaid ≡ old.clock.unsaid

@@ -22,7 +22,8 @@ use Rattle.cacao_words.specs.Requests.{RunRequest}
 use Rattle.cacao_cli.proofs.CountLemmas.{understood-ended, not_understood-ended}
 use Rattle.cacao_cli.proofs.ExactLemmas.{Comes, status-seen, status-told, if-told, if-asked}
 use Rattle.cacao_cli.proofs.RunLemmas.{damaged-run, done-run, large-run, run-damaged, run-done, run-large, shown-other}
-use Rattle.cacao_cli.proofs.EndCases.{IsPlainEnd, not-among, session-end, session_only}
+use Rattle.cacao_cli.proofs.EndCases.{IsPlainEnd, session-end, session_only}
+use Rattle.cacao_cli.proofs.StatusLists.{not-among}
 use Rattle.cacao_cli.proofs.ReadLemmas.{Read as WasRead}
 use Rattle.cacao_cli.proofs.PacketLemmas.{PacketWork, packet_work, packet_work_case, is_missing, is_too_long, is_bad, is_read, long-apart}
 use Rattle.cacao_cli.proofs.StatusKinds.{Called, FileStatuses, ToldStatuses, SessionEnds, SessionStatuses}

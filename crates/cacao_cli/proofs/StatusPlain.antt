@@ -25,7 +25,8 @@ use Rattle.cacao_cli.proofs.ExactLemmas.{Comes}
 use Rattle.cacao_cli.proofs.OpenLemmas.{ComesOpened}
 use Rattle.cacao_cli.proofs.ReadLemmas.{Read}
 use Rattle.cacao_cli.proofs.RehearseLemmas.{broken-rehearsed, came-counted, long-listed, rehearsal-listed, rehearsed-broken, rehearsed-other, rehearsed-ran}
-use Rattle.cacao_cli.proofs.EndCases.{not-among, session-end, session_only}
+use Rattle.cacao_cli.proofs.EndCases.{session-end, session_only}
+use Rattle.cacao_cli.proofs.StatusLists.{not-among}
 use Rattle.cacao_cli.proofs.PacketLemmas.{PacketWork, packet_work, packet_work_case, is_missing, is_too_long, is_bad, is_read, missing-apart, long-apart, bad-apart, holds-or-damaged}
 use Rattle.cacao_cli.proofs.StatusKinds.{Called, FileStatuses, ToldStatuses, SessionEnds, SessionStatuses, Statuses}
 

@@ -20,7 +20,8 @@ use Rattle.cacao_cli.specs.declared.reason.Reason.{Reason}
 use Rattle.cacao_words.specs.Requests.{RunRequest}
 use Rattle.cacao_cli.proofs.ExactLemmas.{Comes}
 use Rattle.cacao_cli.proofs.JudgedLemmas.{bad-start, came-accepted, came-done, lacks-tree, refused-start, roots-lack, start-among, start-bad, start-listed, start-other, start-refused, start-settled}
-use Rattle.cacao_cli.proofs.EndCases.{not-among, session-end, session_only}
+use Rattle.cacao_cli.proofs.EndCases.{session-end, session_only}
+use Rattle.cacao_cli.proofs.StatusLists.{not-among}
 use Rattle.cacao_cli.proofs.ReadLemmas.{Read as WasRead}
 use Rattle.cacao_cli.proofs.StatusKinds.{Called, FileStatuses, ToldStatuses, SessionEnds, SessionStatuses}
 

@@ -39,7 +39,9 @@ verdict_end (verdict.No file place) = disagrees file place
 
 -- the verdict on the files; or that a record makes too many tasks; or memory was wanted
 abbrev pub TellsFiles : List Text → End → Type 0
-TellsFiles files end = ((told : Verdict17) × IsOnlyVerdict files told × (end ≡ verdict_end told)) ⊎ ((PassTasks files × (end ≡ past TaskCount)) ⊎ (end ≡ no_memory))
+TellsFiles files end =
+    ((told : Verdict17) × IsOnlyVerdict files told × (end ≡ verdict_end told))
+    ⊎ ((PassTasks files × (end ≡ past TaskCount)) ⊎ (end ≡ no_memory))
 
 -- the end tells of the files, and nothing was said before
 pub record Compares (files : List Text) (old new : SiteView) (last : End) : Type 0 where

@@ -47,7 +47,8 @@ abbrev pub Trees : Files → List File → List Data → Type 0
 Trees files [] [] = Unit {0}
 Trees files [] (root ∷ roots) = ⊥
 Trees files (file ∷ more) [] = ⊥
-Trees files (file ∷ more) (root ∷ roots) = (IsWithin files file × IsSomeAnd (files file.name) (λ bytes. tree bytes ≡ Some root)) × Trees files more roots
+Trees files (file ∷ more) (root ∷ roots) =
+    (IsWithin files file × IsSomeAnd (files file.name) (λ bytes. tree bytes ≡ Some root)) × Trees files more roots
 
 -- a file has no tree
 abbrev pub SomeTreeless : Files → List File → Type 0
@@ -67,7 +68,8 @@ HasBadLine files file = IsSomeAnd (files file.name) (λ bytes. (number : ℕ) ×
 
 -- the files that an audit reads are there within their limits, and of what they hold as the files of a run P holds
 abbrev pub IsAuditOf : Files → Text → List (ℕ × Text) → (List Text → Type 0) → Type 0
-IsAuditOf files engine filters P = IsOkAnd (reading files (files_of (Some (audits engine filters)))) (λ texts. P (run_files filters texts))
+IsAuditOf files engine filters P =
+    IsOkAnd (reading files (files_of (Some (audits engine filters)))) (λ texts. P (run_files filters texts))
 
 -- ---- the files of `run`
 
@@ -109,7 +111,8 @@ EndsAs (Some (audits engine filters)) files last old new = ⊥
 abbrev pub EndsAsAnother : Option Asked → Files → SiteView → SiteView → Type 0
 EndsAsAnother asked files old new =
     ((held : ℕ) × (number : ℕ) × EndsAs asked files (other_run held number) old new)
-    ⊎ (((index : ℕ) × EndsAs asked files (other_book index) old new) ⊎ ((agent : ℕ) × EndsAs asked files (run_used agent) old new))
+    ⊎ (((index : ℕ) × EndsAs asked files (other_book index) old new)
+    ⊎ ((agent : ℕ) × EndsAs asked files (run_used agent) old new))
 
 -- it waits for a moment, or for an operator's answer
 abbrev pub EndsAsWaiting : Option Asked → Files → SiteView → SiteView → Type 0
@@ -121,10 +124,13 @@ EndsAsAsked asked files old new = (issue : ℕ) × EndsAs asked files (asked_for
 -- a file of the words has no reading, and all are there within their limits
 abbrev pub IsUnreadable : Option Asked → Files → Type 0
 IsUnreadable None files = ⊥
-IsUnreadable (Some (canonises book)) files = AllWithin files (files_of (Some (canonises book))) × SomeTreeless files (files_of (Some (canonises book)))
-IsUnreadable (Some (checks books)) files = AllWithin files (files_of (Some (checks books))) × SomeTreeless files (files_of (Some (checks books)))
+IsUnreadable (Some (canonises book)) files =
+    AllWithin files (files_of (Some (canonises book))) × SomeTreeless files (files_of (Some (canonises book)))
+IsUnreadable (Some (checks books)) files =
+    AllWithin files (files_of (Some (checks books))) × SomeTreeless files (files_of (Some (checks books)))
 IsUnreadable (Some (runs wanted)) files =
-    (texts : List NamedText) × HasTexts files wanted texts × (LacksTree (trees_wanted wanted texts) ⊎ HasBadAnswer (start_of wanted texts))
+    (texts : List NamedText) × HasTexts files wanted texts
+    × (LacksTree (trees_wanted wanted texts) ⊎ HasBadAnswer (start_of wanted texts))
 IsUnreadable (Some shows) files = ⊥
 IsUnreadable (Some (lists_rules agent)) files = ⊥
 IsUnreadable (Some (decides agent packets)) files = IsWithin files (packet_file packets) × HasBadLine files (packet_file packets)
@@ -141,7 +147,8 @@ pub record BreaksRule (files : Files) (list : List File) (mode : Mode) : Type 0 
 abbrev pub IsRefused : Option Asked → Files → Type 0
 IsRefused None files = ⊥
 IsRefused (Some (canonises book)) files = ⊥
-IsRefused (Some (checks books)) files = (has_too_many (checks books) ≡ false) × BreaksRule files (files_of (Some (checks books))) Read
+IsRefused (Some (checks books)) files =
+    (has_too_many (checks books) ≡ false) × BreaksRule files (files_of (Some (checks books))) Read
 IsRefused (Some (runs wanted)) files =
     (texts : List NamedText) × HasTexts files wanted texts × HasTrees wanted texts × IsRefusedStart (start_of wanted texts)
 IsRefused (Some shows) files = ⊥
@@ -159,16 +166,21 @@ NamesTooMuch (Some command) files = (has_too_many command ≡ true) ⊎ IsTooLon
 -- a quantity passes its limit
 abbrev pub IsPastLimit : Option Asked → Files → SiteView → SiteView → Type 0
 IsPastLimit None files old new = ⊥
-IsPastLimit (Some (canonises book)) files old new = (has_too_many (canonises book) ≡ true) ⊎ IsTooLong files (files_of (Some (canonises book)))
-IsPastLimit (Some (checks books)) files old new = (has_too_many (checks books) ≡ true) ⊎ IsTooLong files (files_of (Some (checks books)))
+IsPastLimit (Some (canonises book)) files old new =
+    (has_too_many (canonises book) ≡ true) ⊎ IsTooLong files (files_of (Some (canonises book)))
+IsPastLimit (Some (checks books)) files old new =
+    (has_too_many (checks books) ≡ true) ⊎ IsTooLong files (files_of (Some (checks books)))
 IsPastLimit (Some (runs wanted)) files old new =
-    ((has_too_many (runs wanted) ≡ true) ⊎ IsTooLong files (files_of (Some (runs wanted)))) ⊎ ((limit : Limit) × SessionTo wanted files (past limit) old new)
+    ((has_too_many (runs wanted) ≡ true) ⊎ IsTooLong files (files_of (Some (runs wanted))))
+    ⊎ ((limit : Limit) × SessionTo wanted files (past limit) old new)
 IsPastLimit (Some shows) files old new = IsTooLargeRun new
 IsPastLimit (Some (lists_rules agent)) files old new = ⊥
 IsPastLimit (Some (decides agent packets)) files old new = IsTooLong files (files_of (Some (decides agent packets)))
 IsPastLimit (Some (shadows agent)) files old new = ⊥
-IsPastLimit (Some (rehearses positions)) files old new = IsLongRehearsal positions ⊎ ((limit : Limit) × RehearsalTo positions (past limit))
-IsPastLimit (Some (audits engine filters)) files old new = IsTooLong files (files_of (Some (audits engine filters))) ⊎ IsAuditOf files engine filters PassTasks
+IsPastLimit (Some (rehearses positions)) files old new =
+    IsLongRehearsal positions ⊎ ((limit : Limit) × RehearsalTo positions (past limit))
+IsPastLimit (Some (audits engine filters)) files old new =
+    IsTooLong files (files_of (Some (audits engine filters))) ⊎ IsAuditOf files engine filters PassTasks
 
 -- no rule is broken, by playbooks each of which is there within its limit and has a tree
 pub record KeepsRules (files : Files) (list : List File) (mode : Mode) : Type 0 where
@@ -180,13 +192,15 @@ pub record KeepsRules (files : Files) (list : List File) (mode : Mode) : Type 0 
 abbrev pub CanBeDone : Option Asked → Files → SiteView → SiteView → Type 0
 CanBeDone None files old new = ⊥
 CanBeDone (Some (canonises book)) files old new = (root : Data) × Trees files (files_of (Some (canonises book))) (root ∷ [])
-CanBeDone (Some (checks books)) files old new = (has_too_many (checks books) ≡ false) × KeepsRules files (files_of (Some (checks books))) Read
+CanBeDone (Some (checks books)) files old new =
+    (has_too_many (checks books) ≡ false) × KeepsRules files (files_of (Some (checks books))) Read
 CanBeDone (Some (runs wanted)) files old new = SessionTo wanted files ended_ok old new
 CanBeDone (Some shows) files old new = HoldsRun new
 CanBeDone (Some (lists_rules agent)) files old new = HoldsFilter agent new
 CanBeDone (Some (decides agent packets)) files old new = IsPacketFile files (packet_file packets) × HoldsFilter agent new
 CanBeDone (Some (shadows agent)) files old new = HoldsFilter agent new
-CanBeDone (Some (rehearses positions)) files old new = (records : ℕ) × (acts : ℕ) × (rules : ℕ) × RehearsalTo positions (rehearsed positions records acts rules)
+CanBeDone (Some (rehearses positions)) files old new =
+    (records : ℕ) × (acts : ℕ) × (rules : ℕ) × RehearsalTo positions (rehearsed positions records acts rules)
 CanBeDone (Some (audits engine filters)) files old new = IsAuditOf files engine filters Agree
 
 -- the file of the disk that the command opens holds nothing that the program wrote, and nothing else stops the command before

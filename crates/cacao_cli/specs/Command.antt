@@ -77,7 +77,9 @@ bytes_read name (Err end) = Err (end_of end)
 
 -- The files of a run were read, and each stands at its number; or one gave none, and the end tells why.
 abbrev pub ReadsRun : ShelfCall → Text → List (ℕ × Text) → Result (List Text) End → Type 0
-ReadsRun shelf engine filters (Ok files) = (texts : List NamedText) × ReadsTo shelf (files_of (Some (audits engine filters))) (Ok texts) × (files ≡ run_files filters texts)
+ReadsRun shelf engine filters (Ok files) =
+    (texts : List NamedText) × ReadsTo shelf (files_of (Some (audits engine filters))) (Ok texts)
+    × (files ≡ run_files filters texts)
 ReadsRun shelf engine filters (Err end) = ReadsTo shelf (files_of (Some (audits engine filters))) (Err (end_of end))
 
 abbrev pub reads_of : Result (Vec FileText Global) End → Result (List NamedText) as_said.End
@@ -92,7 +94,8 @@ IsTreeOrMemory text (Err end) = (tree_of text ≡ Err (end_of end)) ⊎ (end_of 
 -- the packets of the text, or which line is none; or memory was wanted
 abbrev pub ArePacketsOrMemory : NamedText → Result (Vec (ℕ × Packet) Global) End → Type 0
 ArePacketsOrMemory text (Ok packets) = packets_or_end text.name (packets_of text.bytes) ≡ Ok packets.items
-ArePacketsOrMemory text (Err end) = (packets_or_end text.name (packets_of text.bytes) ≡ Err (end_of end)) ⊎ (end_of end ≡ as_said.no_memory)
+ArePacketsOrMemory text (Err end) =
+    (packets_or_end text.name (packets_of text.bytes) ≡ Err (end_of end)) ⊎ (end_of end ≡ as_said.no_memory)
 
 -- how a call ends where the file of this agent was not opened
 abbrev pub open_end : ℕ → ActError → as_said.End
@@ -122,7 +125,9 @@ AreTreesOrMemory texts (Err end) = (trees_of texts ≡ Err (end_of end)) ⊎ (en
 
 -- the playbooks are accepted, or this is their first break; or memory was wanted
 abbrev pub IsJudgement : List Data → Mode → as_said.End → Type 0
-IsJudgement trees mode end = (IsAccepted trees mode × (end ≡ as_said.accepted)) ⊎ (((broken : Break) × IsFirstBreak trees mode broken × (end ≡ as_said.refused broken)) ⊎ (end ≡ as_said.no_memory))
+IsJudgement trees mode end =
+    (IsAccepted trees mode × (end ≡ as_said.accepted))
+    ⊎ (((broken : Break) × IsFirstBreak trees mode broken × (end ≡ as_said.refused broken)) ⊎ (end ≡ as_said.no_memory))
 
 abbrev pub IsJudgedOrMemory : List Data → Mode → End → Type 0
 IsJudgedOrMemory trees mode end = IsJudgement trees mode (end_of end)

@@ -30,12 +30,20 @@ pub record IsNotJudged (old new : SiteView) (last : End) : Type 0 where
 -- the work was done, from the one site to the other, all but the last line
 abbrev pub Performs : Work → SiteView → SiteView → End → Type 0
 Performs (ends lines end) old new last = SaysWork lines end old new last
-Performs (opens_filter agent look) old new last = SaysFilter agent look old new last ⊎ (FindsDamage agent old new last ⊎ (FailsToOpen agent old new last ⊎ WantsToOpen agent old new last))
-Performs opens_run old new last = SaysRun old new last ⊎ (FindsNoRun old new last ⊎ (FindsTooMany old new last ⊎ (FailsToOpen 0 old new last ⊎ WantsToOpen 0 old new last)))
+Performs (opens_filter agent look) old new last =
+    SaysFilter agent look old new last
+    ⊎ (FindsDamage agent old new last ⊎ (FailsToOpen agent old new last ⊎ WantsToOpen agent old new last))
+Performs opens_run old new last =
+    SaysRun old new last
+    ⊎ (FindsNoRun old new last ⊎ (FindsTooMany old new last ⊎ (FailsToOpen 0 old new last ⊎ WantsToOpen 0 old new last)))
 Performs (compares files) old new last = Compares files old new last
 Performs (rehearsals positions) old new last = Rehearses positions old new last
-Performs (starts start) old new last = TellsBadLine start old new last ⊎ (TellsBookBreak start old new last ⊎ (TellsBindBreak start old new last ⊎ (HoldsSession start old new last ⊎ WantsToStart old new last)))
-Performs (judges trees mode accepted) old new last = (IsAccepted trees mode × Performs accepted old new last) ⊎ (TellsBreak trees mode old new last ⊎ IsNotJudged old new last)
+Performs (starts start) old new last =
+    TellsBadLine start old new last
+    ⊎ (TellsBookBreak start old new last
+    ⊎ (TellsBindBreak start old new last ⊎ (HoldsSession start old new last ⊎ WantsToStart old new last)))
+Performs (judges trees mode accepted) old new last =
+    (IsAccepted trees mode × Performs accepted old new last) ⊎ (TellsBreak trees mode old new last ⊎ IsNotJudged old new last)
 
 -- the files were read, and the work that they come to was done
 pub record Performed (asked : Option Asked) (shelf : ShelfCall) (old new : SiteView) (last : End) : Type 0 where

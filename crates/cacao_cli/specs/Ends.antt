@@ -119,7 +119,8 @@ text_of (no_such_file name) = Some (codes "no such file: " ++ name)
 text_of (not_readable name reason) = Some (codes "not readable: " ++ (name ++ (codes " " ++ reason_text reason)))
 text_of (agrees records acts) = Some (codes "audit ok " ++ (decimal records ++ (codes " " ++ decimal acts)))
 text_of (disagrees file place) = Some (codes "audit no file " ++ (decimal file ++ (codes " place " ++ decimal place)))
-text_of (rehearsed positions records acts rules) = Some (codes "rehearsed " ++ (decimal positions ++ (codes ": " ++ (decimal records ++ (codes " records, "
+text_of (rehearsed positions records acts rules) =
+    Some (codes "rehearsed " ++ (decimal positions ++ (codes ": " ++ (decimal records ++ (codes " records, "
     ++ (decimal acts ++ (codes " acts, " ++ (decimal rules ++ codes " rules, ended ok"))))))))
 text_of (damaged file place) = Some (codes "damaged: file " ++ (decimal file ++ (codes " place " ++ decimal place)))
 text_of disk_failed = Some (codes "disk failed")

@@ -41,7 +41,8 @@ IfTold (Some (checks books)) told old P = IfFilesTold (files_of (Some (checks bo
 IfTold (Some (runs wanted)) told old P = IfFilesTold (files_of (Some (runs wanted))) told P
 IfTold (Some shows) told old P = IfDiskTold old P
 IfTold (Some (lists_rules agent)) told old P = IfDiskTold old P
-IfTold (Some (decides agent packets)) told old P = IsTrue old.disk.told → IfFilesTold (files_of (Some (decides agent packets))) told P
+IfTold (Some (decides agent packets)) told old P =
+    IsTrue old.disk.told → IfFilesTold (files_of (Some (decides agent packets))) told P
 IfTold (Some (shadows agent)) told old P = IfDiskTold old P
 IfTold (Some (rehearses positions)) told old P = IfFilesTold [] told P
 IfTold (Some (audits engine filters)) told old P = IfFilesTold (files_of (Some (audits engine filters))) told P
@@ -68,7 +69,8 @@ faults_of (Some (shadows agent)) = 8 ∷ 9 ∷ 10 ∷ []
 faults_of (Some (rehearses positions)) = file_faults []
 faults_of (Some (audits engine filters)) = file_faults (files_of (Some (audits engine filters)))
 
--- the statuses that may stand in the place of one that a session settles: where several causes hold, the earlier in the order of a session decides
+-- The statuses that may stand in the place of one that a session settles: where several causes hold, the earlier in the order
+-- of a session decides.
 abbrev pub stands_for : Option Asked → List ℕ
 stands_for None = faults_of None
 stands_for (Some (canonises book)) = faults_of (Some (canonises book))
@@ -88,7 +90,8 @@ IsBroken trees mode = (demand : Demand) × ¬ Keeps trees mode demand
 -- the status is that of what is told of the files of a run
 abbrev pub HasVerdict : List Text → ℕ → Type 0
 HasVerdict files answer = (((records : ℕ) × (acts : ℕ) × IsOnlyVerdict files (verdict.Yes records acts)) × (answer ≡ 0))
-    ⊎ ((((file : ℕ) × (place : ℕ) × IsOnlyVerdict files (verdict.No file place)) × (answer ≡ 18)) ⊎ (PassTasks files × (answer ≡ 11)))
+    ⊎ ((((file : ℕ) × (place : ℕ) × IsOnlyVerdict files (verdict.No file place)) × (answer ≡ 18))
+    ⊎ (PassTasks files × (answer ≡ 11)))
 
 -- a session was held with what the texts give, and the status is that of the end to which it came
 pub record IsSettled (start : Start) (old new : SiteView) (answer : ℕ) : Type 0 where
@@ -110,11 +113,14 @@ HasRehearsed positions answer =
 -- the status is that of the work; a file of the disk is as it reads on return
 abbrev pub HasStatus : Work → SiteView → SiteView → ℕ → Type 0
 HasStatus (ends lines end) old new answer = answer ≡ status_of end
-HasStatus (judges trees mode accepted) old new answer = (IsAccepted trees mode × HasStatus accepted old new answer) ⊎ (IsBroken trees mode × (answer ≡ 1))
-HasStatus (opens_filter agent look) old new answer = (HoldsFilter agent new × (answer ≡ 0)) ⊎ (IsDamagedFilter agent new × (answer ≡ 13))
+HasStatus (judges trees mode accepted) old new answer =
+    (IsAccepted trees mode × HasStatus accepted old new answer) ⊎ (IsBroken trees mode × (answer ≡ 1))
+HasStatus (opens_filter agent look) old new answer =
+    (HoldsFilter agent new × (answer ≡ 0)) ⊎ (IsDamagedFilter agent new × (answer ≡ 13))
 HasStatus (starts start) old new answer =
     (HasBadAnswer start × (answer ≡ 5)) ⊎ ((IsRefusedStart start × (answer ≡ 1)) ⊎ IsSettled start old new answer)
-HasStatus opens_run old new answer = (HoldsRun new × (answer ≡ 0)) ⊎ ((IsDamagedRun new × (answer ≡ 13)) ⊎ (IsTooLargeRun new × (answer ≡ 11)))
+HasStatus opens_run old new answer =
+    (HoldsRun new × (answer ≡ 0)) ⊎ ((IsDamagedRun new × (answer ≡ 13)) ⊎ (IsTooLargeRun new × (answer ≡ 11)))
 HasStatus (compares files) old new answer = HasVerdict files answer
 HasStatus (rehearsals positions) old new answer = HasRehearsed positions answer
 

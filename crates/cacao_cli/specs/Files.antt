@@ -81,7 +81,8 @@ pub record ShelfCall : Type 0 where
   pub reads_after : Option ℕ
 
 abbrev pub shelf_call : Option Files → ℕ → ℕ → Option ℕ → Option ℕ → ShelfCall
-shelf_call told before after reads_before reads_after = record { told = told; before = before; after = after; reads_before = reads_before; reads_after = reads_after }
+shelf_call told before after reads_before reads_after =
+    record { told = told; before = before; after = after; reads_before = reads_before; reads_after = reads_after }
 
 -- what a read gives of a file
 pub data Content : Type 0 where
@@ -125,9 +126,11 @@ item_then (Ok item) (Ok items) = Ok (item ∷ items)
 pub data Reads (told : Option Files) : List File → ℕ → Result (List NamedText) End → Type 0 where
   all_read : Reads told [] 0 (Ok [])
   wants_memory : (file : File) (behind : List File) → Reads told (file ∷ behind) 0 (Err no_memory)
-  stops : (file : File) (behind : List File) (content : Content) (end : End) → Gives told file content → text_in file content ≡ Err end
+  stops : (file : File) (behind : List File) (content : Content) (end : End) → Gives told file content
+      → text_in file content ≡ Err end
       → Reads told (file ∷ behind) 1 (Err end)
-  goes_on : (file : File) (behind : List File) (bytes : Text) (count : ℕ) (read : Result (List NamedText) End) → Gives told file (whole bytes)
+  goes_on : (file : File) (behind : List File) (bytes : Text) (count : ℕ) (read : Result (List NamedText) End)
+      → Gives told file (whole bytes)
       → Reads told behind count read → Reads told (file ∷ behind) (suc count) (item_then (Ok (named file.name bytes)) read)
 
 -- a count after so many more, one by one

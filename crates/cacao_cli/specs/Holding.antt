@@ -94,12 +94,14 @@ pub record WantsToStart (old new : SiteView) (last : End) : Type 0 where
 -- ---- the session
 
 -- it closed, or a call refused
-pub record ClosesSo (given : Given) (run most : ℕ) (answers : List OperatorAnswer) (old new : SiteView) (last : End) : Type 0 where
+pub record ClosesSo (given : Given) (run most : ℕ) (answers : List OperatorAnswer) (old new : SiteView)
+    (last : End) : Type 0 where
   pub close : Close
   pub closed : HasClosed close given run most answers old new
   pub ends : last ≡ close_end close
 
-pub record RefusesSo (given : Given) (run most : ℕ) (answers : List OperatorAnswer) (old new : SiteView) (last : End) : Type 0 where
+pub record RefusesSo (given : Given) (run most : ℕ) (answers : List OperatorAnswer) (old new : SiteView)
+    (last : End) : Type 0 where
   pub error : WorldError
   pub why : HasRefused error given run most answers old new
   pub ends : last ≡ error_end error
@@ -136,7 +138,8 @@ HasAnswers start = (answers : List OperatorAnswer) × AreAnswers start answers
 -- and a rule of playbooks or bindings is broken, or none is
 abbrev pub IsRefusedStart : Start → Type 0
 IsRefusedStart start =
-    HasAnswers start × (((broken : Break) × BreaksRule start.books start.bind broken) ⊎ ((rule : ℕ) × BreaksBindRule start.books start.bind rule))
+    HasAnswers start
+    × (((broken : Break) × BreaksRule start.books start.bind broken) ⊎ ((rule : ℕ) × BreaksBindRule start.books start.bind rule))
 
 abbrev pub IsAcceptedStart : Start → Type 0
 IsAcceptedStart start = HasAnswers start × ((given : Given) × Accepted AreAccepted FitsKind start.books start.bind given)

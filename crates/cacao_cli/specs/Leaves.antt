@@ -10,7 +10,7 @@ use Rattle.cacao_cli.specs.Ends.{End, disk_failed, unsaid}
 use Rattle.cacao_cli.specs.Exact.{IsOneOf}
 use Rattle.cacao_cli.specs.Holding.{CameTo}
 use Rattle.cacao_cli.specs.Lines.{SaysAtMostALine}
-use Rattle.cacao_cli.specs.Rehearsing.{RehearsalTo}
+use Rattle.cacao_cli.specs.OwnSites.{CountsOwn}
 use Rattle.cacao_cli.specs.Work.{Start}
 use Rattle.cacao_words.specs.Requests.{RunRequest}
 
@@ -27,14 +27,14 @@ pub record SaysAtMost (old new : LinkView) : Type 0 where
   pub empty_takes : new.empty_takes ≡ old.empty_takes
   pub pending : new.pending ≡ old.pending
 
--- The calls of a command that opens a file of so many bytes: three, one for each 4,096 bytes, one for each line said and one that may
--- have failed to say a line.
+-- The calls of a command that opens a file of so many bytes: three, one for each 4,096 bytes, one for each line said and one that
+-- may have failed to say a line.
 abbrev pub CallsFew : ℕ → SiteView → SiteView → Type 0
 CallsFew bytes old new = IsTrue old.disk.told → IfSome old.link.said (λ before. IfSome new.link.said (λ after.
     new.disk.calls + length before ≤ old.disk.calls + length after + 4 + bytes / 4096))
 
--- No file was written, nothing was put or taken, and no time went by: each image that a crash may leave of a file at each beat of the call is
--- one that it could leave before.
+-- No file was written, nothing was put or taken, and no time went by: each image that a crash may leave of a file at each beat of
+-- the call is one that it could leave before.
 pub record WritesNothing (file : ℕ) (old new : SiteView) : Type 0 where
   pub reads_only : (other : ℕ) → EachBeat other old.disk new.disk (IsLeft old.disk other old.disk.beat)
   pub written : new.disk.written ≤ old.disk.written
@@ -70,23 +70,10 @@ LeavesAll old new answer = IsOneOf answer (1 ∷ 2 ∷ 3 ∷ 4 ∷ 5 ∷ []) →
 abbrev pub ReadsAtMost : ℕ → Option ℕ → Option ℕ → Type 0
 ReadsAtMost most old new = (count : ℕ) × (count ≤ most) × Counts old count new
 
--- no fault of the disk was counted by a command that opens no file of it
-abbrev pub NoDiskFault : Option Asked → SiteView → SiteView → Type 0
-NoDiskFault None old new = new.disk.faults ≡ old.disk.faults
-NoDiskFault (Some (canonises book)) old new = new.disk.faults ≡ old.disk.faults
-NoDiskFault (Some (checks books)) old new = new.disk.faults ≡ old.disk.faults
-NoDiskFault (Some (runs wanted)) old new = old.disk.faults ≤ new.disk.faults
-NoDiskFault (Some shows) old new = old.disk.faults ≤ new.disk.faults
-NoDiskFault (Some (lists_rules agent)) old new = old.disk.faults ≤ new.disk.faults
-NoDiskFault (Some (decides agent packets)) old new = old.disk.faults ≤ new.disk.faults
-NoDiskFault (Some (shadows agent)) old new = old.disk.faults ≤ new.disk.faults
-NoDiskFault (Some (rehearses positions)) old new = new.disk.faults ≡ old.disk.faults
-NoDiskFault (Some (audits engine filters)) old new = new.disk.faults ≡ old.disk.faults
-
--- no fault was counted
-pub record NoFault (asked : Option Asked) (faults_before faults_after : ℕ) (old new : SiteView) : Type 0 where
+-- no fault was counted: of the shelf, of the disk, or of `say`
+pub record NoFault (faults_before faults_after : ℕ) (old new : SiteView) : Type 0 where
   pub shelf : faults_after ≡ faults_before
-  pub disk : NoDiskFault asked old new
+  pub disk : new.disk.faults ≡ old.disk.faults
   pub say : new.clock.unsaid ≡ old.clock.unsaid
 
 -- A fault of the disk was counted; for `rehearse` it is one of the site of its own.
@@ -99,7 +86,7 @@ CountsDisk (Some shows) old new = Rose old.disk.faults new.disk.faults
 CountsDisk (Some (lists_rules agent)) old new = Rose old.disk.faults new.disk.faults
 CountsDisk (Some (decides agent packets)) old new = Rose old.disk.faults new.disk.faults
 CountsDisk (Some (shadows agent)) old new = Rose old.disk.faults new.disk.faults
-CountsDisk (Some (rehearses positions)) old new = RehearsalTo positions disk_failed
+CountsDisk (Some (rehearses positions)) old new = CountsOwn positions disk_failed (λ site. site.disk.faults)
 CountsDisk (Some (audits engine filters)) old new = Rose old.disk.faults new.disk.faults
 
 -- a line was counted that could not be said; or `rehearse` could not say one on the site of its own
@@ -112,5 +99,6 @@ CountsUnsaid (Some shows) old new = Rose old.clock.unsaid new.clock.unsaid
 CountsUnsaid (Some (lists_rules agent)) old new = Rose old.clock.unsaid new.clock.unsaid
 CountsUnsaid (Some (decides agent packets)) old new = Rose old.clock.unsaid new.clock.unsaid
 CountsUnsaid (Some (shadows agent)) old new = Rose old.clock.unsaid new.clock.unsaid
-CountsUnsaid (Some (rehearses positions)) old new = Rose old.clock.unsaid new.clock.unsaid ⊎ RehearsalTo positions unsaid
+CountsUnsaid (Some (rehearses positions)) old new =
+    Rose old.clock.unsaid new.clock.unsaid ⊎ CountsOwn positions unsaid (λ site. site.clock.unsaid)
 CountsUnsaid (Some (audits engine filters)) old new = Rose old.clock.unsaid new.clock.unsaid

@@ -3,6 +3,7 @@ pub mod Asked
 pub mod Audited
 pub mod Causes
 pub mod Command
+pub mod Completing
 pub mod Ended
 pub mod Ends
 pub mod Exact
@@ -11,7 +12,9 @@ pub mod Holding
 pub mod Leaves
 pub mod Lines
 pub mod Openings
+pub mod OwnSites
 pub mod Rehearsing
 pub mod Returning
 pub mod Starting
+pub mod Usage
 pub mod Work

@@ -66,7 +66,8 @@ pub record WantsMemory (end : End) (old new : SiteView) (last : End) : Type 0 wh
 
 -- these lines and this end, but for a line that could not be said and want of memory
 abbrev pub SaysWork : List Text → End → SiteView → SiteView → End → Type 0
-SaysWork lines end old new last = SaysWhole lines end old new last ⊎ (StopsSaying lines old new last ⊎ WantsMemory end old new last)
+SaysWork lines end old new last =
+    SaysWhole lines end old new last ⊎ (StopsSaying lines old new last ⊎ WantsMemory end old new last)
 
 -- the last line was said, and its status answered
 pub record SaysLast (line : Text) (status : ℕ) (old new : SiteView) (answer : ℕ) : Type 0 where
@@ -94,7 +95,8 @@ pub record SaysNoMore (status : ℕ) (old new : SiteView) (answer : ℕ) : Type 
 
 abbrev pub TellsText : End → Option Text → SiteView → SiteView → ℕ → Type 0
 TellsText end None old new answer = SaysNoMore (status_of end) old new answer
-TellsText end (Some text) old new answer = SaysOrFails (text ++ codes "\n") (status_of end) old new answer ⊎ WantsAtLast end old new answer
+TellsText end (Some text) old new answer =
+    SaysOrFails (text ++ codes "\n") (status_of end) old new answer ⊎ WantsAtLast end old new answer
 
 -- the last line, if the end has one, and its status
 abbrev pub Tells : End → SiteView → SiteView → ℕ → Type 0

@@ -1,5 +1,5 @@
 -- What is told of a rehearsal.
-use Rattle.std.specs.Prelude.{◌≡◌, ◌⊎◌, ◌<◌, ◌≤◌, ℕ, [], ◌∷◌, length}
+use Rattle.std.specs.Prelude.{◌≡◌, ◌⊎◌, ◌<◌, ◌≤◌, ℕ, [], ◌∷◌, length, ⊤}
 use Rattle.cacao_site.specs.MemorySite.{view_of}
 use Rattle.cacao_site.specs.View.{SiteView}
 use Rattle.cacao_site.specs.declared.memory_site.MemorySite.{MemorySite}
@@ -14,7 +14,7 @@ use Rattle.rehearsal.specs.Settings.{IsAccepted, IsNewSite}
 use Rattle.rehearsal.specs.declared.error.RehearsalError.{RehearsalError}
 use Rattle.rehearsal.specs.declared.error.RehearsalError.TheVariants as rehearsal_error
 use Rattle.rehearsal.specs.declared.summary.Summary.{Summary}
-use Rattle.cacao_cli.specs.Ends.{End, disk_failed, no_memory, past, refused, rehearsed}
+use Rattle.cacao_cli.specs.Ends.{End, damaged, disk_failed, no_memory, other_book, other_run, past, refused, rehearsed, run_used}
 use Rattle.cacao_cli.specs.Holding.{close_end, error_end}
 use Rattle.cacao_cli.specs.declared.limit.Limit.TheVariants.{FileBytes}
 
@@ -59,6 +59,14 @@ abbrev pub EndsRun : ℕ → Given → SiteView → SiteView → End → Type 0
 EndsRun positions given old new last =
     EndsWell positions given old new last ⊎ (EndsOtherwise given old new last ⊎ (EndsRefused given old new last ⊎ EndsUncounted given old new last))
 
+-- an end that comes of blank files: none is of another run, no filter acted for this one, and none is damaged
+abbrev pub ComesOfBlank : End → Type 0
+ComesOfBlank (other_run held asked) = ⊥
+ComesOfBlank (other_book index) = ⊥
+ComesOfBlank (run_used agent) = ⊥
+ComesOfBlank (damaged file place) = ⊥
+ComesOfBlank other = ⊤
+
 -- The playbook with so many positions is accepted, and its run on a new site of its own came to this end.
 pub record RehearsalTo (positions : ℕ) (last : End) : Type 0 where
   pub site : MemorySite
@@ -67,6 +75,7 @@ pub record RehearsalTo (positions : ℕ) (last : End) : Type 0 where
   pub given : Given
   pub accepted : IsAccepted (rehearsal_text positions) given
   pub runs : EndsRun positions given (view_of site) after last
+  pub of_blank : ComesOfBlank last
 
 -- the end that says why there is no summary
 abbrev pub failed_end : RehearsalError → End

@@ -93,4 +93,5 @@ pub record IsBegun (wanted : RunRequest) (texts : RunTexts) (old new : SiteView)
 -- what came of the texts
 abbrev pub BeginsSo : RunRequest → RunTexts → SiteView → SiteView → End → Type 0
 BeginsSo wanted texts old new last =
-    IsUnread wanted texts old new last ⊎ (IsUnbound wanted texts old new last ⊎ (IsBegun wanted texts old new last ⊎ WantsToStart old new last))
+    IsUnread wanted texts old new last
+    ⊎ (IsUnbound wanted texts old new last ⊎ (IsBegun wanted texts old new last ⊎ WantsToStart old new last))

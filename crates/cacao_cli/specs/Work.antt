@@ -23,8 +23,8 @@ pub data Look : Type 0 where
   at_decisions : (packets : List (ℕ × Packet)) → Look
   at_shadows : Look
 
--- what a session is given, before it is judged: the run's number, the most records, the texts of the playbooks and of bindings, and the
--- file of answers, if one is named
+-- What a session is given, before it is judged: the run's number, the most records, the texts of the playbooks and of bindings,
+-- and the file of answers, if one is named.
 pub record Start : Type 0 where
   pub run : ℕ
   pub most : ℕ
@@ -32,10 +32,10 @@ pub record Start : Type 0 where
   pub bind : Text
   pub answers : Option NamedText
 
--- What is left to be done where nothing was refused before: to say these lines and end so; to tell the first break of the playbooks with
--- these trees, and where there is none to do this work; to open the filter of an agent and say this of it; to open the engine's file and say
--- how its run stands; to tell whether these files of a run agree; to tell of a
--- rehearsal with so many positions; to hold a session.
+-- What is left to be done where nothing was refused before: to say these lines and end so; to tell the first break of the
+-- playbooks with these trees, and where there is none to do this work; to open the filter of an agent and say this of it; to open
+-- the engine's file and say how its run stands; to tell whether these files of a run agree; to tell of a rehearsal with so many
+-- positions; to hold a session.
 pub data Work : Type 0 where
   ends : (lines : List Text) (end : End) → Work
   judges : (trees : List Data) (mode : Mode) (accepted : Work) → Work
@@ -86,7 +86,8 @@ placed files [] texts = files
 placed files (number ∷ numbers) [] = files
 placed files (number ∷ numbers) (text ∷ texts) = placed (slice_set files number text.bytes) numbers texts
 
--- The files of a run: file 0 is the engine's, and the others have the numbers of their agents. One that is not named has no bytes.
+-- The files of a run: file 0 is the engine's, and the others have the numbers of their agents. One that is not named has no
+-- bytes.
 abbrev pub run_files : List (ℕ × Text) → List NamedText → List Text
 run_files filters texts = placed (replicate 17 []) (0 ∷ map (λ filter. filter.0) filters) texts
 

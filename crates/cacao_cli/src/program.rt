@@ -6,12 +6,15 @@ ghost use Rattle.cacao_cli.specs.Agreement.{MayBegin};
 ghost use Rattle.cacao_cli.specs.Asked.{asked};
 ghost use Rattle.cacao_cli.specs.Causes.{CanBeDone, FindsDisagreement, FindsItDamaged, IsMissing, IsPastLimit, IsRefused, IsUnreadable, NamesTooMuch, EndsAs, EndsAsAnother, EndsAsAsked, EndsAsWaiting};
 ghost use Rattle.cacao_cli.specs.Command.{asked_by, end_of};
+ghost use Rattle.cacao_cli.specs.Completing.{Completes, TellsNoDamage};
 ghost use Rattle.cacao_cli.specs.Ended.{Ended, Performed};
 ghost use Rattle.cacao_cli.specs.Ends.{ended_failed, flooded, paused};
 ghost use Rattle.cacao_cli.specs.Exact.{IsOneOf, Answers, ComesExactly, IfFilesTold, IfTold, stands_for};
 ghost use Rattle.cacao_cli.specs.Files.{files_of, shelf_call};
 ghost use Rattle.cacao_cli.specs.Leaves.{Leaves, LeavesAll, NoFault, ReadsAtMost, CountsDisk, CountsUnsaid};
+ghost use Rattle.cacao_cli.specs.OwnSites.{MayRehearse};
 ghost use Rattle.cacao_cli.specs.Returning.{TellsOnReturn};
+ghost use Rattle.cacao_cli.specs.Usage.{UsesFew};
 
 use crate::audit::audit;
 use crate::canon::canon;
@@ -24,6 +27,7 @@ use crate::say::finish;
 use crate::show::show;
 use cacao_site::{Shelf, Site};
 use cacao_words::{Command, read_words};
+use session_laws::complete_laws;
 use std::alloc::Global;
 
 /// Does what a command asks, all but the last line.
@@ -78,12 +82,12 @@ fn perform<'w, L: Shelf, S: Site>(
 
 /// Does what the words after the program's name ask, says its lines, and answers the exit status.
 ///
-/// Each status but 0 says why: 1 a rule is broken, 2 the words have no reading, 3 the shelf failed, 4 there is no such file, 5 a file has
-/// no reading, 6 the run has ended and failed, 7 it is paused, 8 the disk failed, 9 a line could not be said, 10 memory was wanted, 11 a
-/// limit was passed, 12 the engine's file is another run's or the number is used, 13 a file of the disk is damaged, 14 the run waits
-/// for a moment, 15 too many parcels changed nothing, 16 the run waits for an operator, 18 the files of a run do not agree. Where
-/// several causes hold, 2 comes before 11 for too many playbooks, then 3, 4 and 11 of one file before those of the next, all of them before 5, 5 before 1, and 1 before those of
-/// a session, which come in its order.
+/// Each status but 0 says why: 1 a rule is broken, 2 the words have no reading, 3 the shelf failed, 4 there is no such file, 5 a
+/// file has no reading, 6 the run has ended and failed, 7 it is paused, 8 the disk failed, 9 a line could not be said, 10 memory was
+/// wanted, 11 a limit was passed, 12 the engine's file is another run's or the number is used, 13 a file of the disk is damaged, 14
+/// the run waits for a moment, 15 too many parcels changed nothing, 16 the run waits for an operator, 18 the files of a run do not
+/// agree. Where several causes hold, 2 comes before 11 for too many playbooks, then 3, 4 and 11 of one file before those of the
+/// next, all of them before 5, 5 before 1, and 1 before those of a session, which come in its order.
 pub fn top<L: Shelf, S: Site>(alloc: Global, words: &[String], shelf: &mut L, site: &mut S) -> u8
     // All that the call does: what it reads, the work, the lines and the status.
     ensures ended { Ended (asked (map string_bytes words.now))
@@ -107,9 +111,11 @@ pub fn top<L: Shelf, S: Site>(alloc: Global, words: &[String], shelf: &mut L, si
     ensures unreadable { IfFilesTold (files_of (asked (map string_bytes words.now))) (L.told shelf.old) (λ files.
         ComesExactly 5 (3 ∷ 9 ∷ 10 ∷ []) (IsUnreadable (asked (map string_bytes words.now)) files) result) }
     ensures disk_failed { result ≡ 8 → CountsDisk (asked (map string_bytes words.now)) (S.view site.old) (S.view site.new) }
+    ensures disk_steady { result ≢ 8 → result ≢ 9 → (S.view site.new).disk.faults ≡ (S.view site.old).disk.faults }
     ensures unsaid { result ≡ 9 → CountsUnsaid (asked (map string_bytes words.now)) (S.view site.old) (S.view site.new) }
     ensures said { result ≢ 9 → (S.view site.new).clock.unsaid ≡ (S.view site.old).clock.unsaid }
-    ensures no_memory { result ≡ 10 → NoFault (asked (map string_bytes words.now)) (L.faults shelf.old) (L.faults shelf.new) (S.view site.old) (S.view site.new) }
+    ensures no_memory { result ≡ 10
+        → NoFault (L.faults shelf.old) (L.faults shelf.new) (S.view site.old) (S.view site.new) }
     ensures past_limit { IfTold (asked (map string_bytes words.now)) (L.told shelf.old) (S.view site.old) (λ files.
         ComesExactly 11 (stands_for (asked (map string_bytes words.now)))
         (IsPastLimit (asked (map string_bytes words.now)) files (S.view site.old) (S.view site.new)) result) }
@@ -140,12 +146,26 @@ pub fn top<L: Shelf, S: Site>(alloc: Global, words: &[String], shelf: &mut L, si
         ComesExactly 16 (stands_for (asked (map string_bytes words.now)))
         (EndsAsAsked (asked (map string_bytes words.now)) files (S.view site.old) (S.view site.new)) result) }
 
-    // Where `run` held a session that closed, how its run stands by the bytes that the engine's file reads as on return.
-    ensures on_return { TellsOnReturn (asked (map string_bytes words.now)) (L.told shelf.old) (S.view site.new) result }
+    // A rehearsal, on a site of its own, finds no other run, no number that was used, and no damage.
+    ensures rehearses { MayRehearse (asked (map string_bytes words.now)) result }
 
-    // The headline: where all agrees when the call begins, all that a crash may leave agrees at each beat of the call up to its return,
-    // whatever its status.
-    ensures agreement { MayBegin (asked (map string_bytes words.now)) (S.view site.old) → KeepsAgreement (S.view site.old) (S.view site.new) }
+    // What the status of `run` tells of the bytes that the engine's file reads as on return, and what they tell of the status.
+    ensures on_return { TellsOnReturn (asked (map string_bytes words.now)) (L.told shelf.old)
+        (S.view site.old) (S.view site.new) result }
+
+    // The headline: where all agrees when the call begins, all that a crash may leave agrees at each beat of the call up to its
+    // return, whatever its status.
+    ensures agreement { MayBegin (asked (map string_bytes words.now)) (S.view site.old)
+        → KeepsAgreement (S.view site.old) (S.view site.new) }
+
+    // From such a start no file is told as damaged, and a run that nothing disturbs comes to its end.
+    ensures undamaged { MayBegin (asked (map string_bytes words.now)) (S.view site.old)
+        → TellsNoDamage (asked (map string_bytes words.now)) result }
+    ensures completes { Completes (asked (map string_bytes words.now)) (L.told shelf.old)
+        (S.view site.old) (S.view site.new) result }
+
+    // Few device calls, and few bytes.
+    ensures uses_few { UsesFew (asked (map string_bytes words.now)) (S.view site.old) (S.view site.new) }
 
     // What stays as it was.
     ensures stays { LeavesAll (S.view site.old) (S.view site.new) result }
@@ -155,6 +175,7 @@ pub fn top<L: Shelf, S: Site>(alloc: Global, words: &[String], shelf: &mut L, si
     ensures reads { ReadsAtMost (length (files_of (asked (map string_bytes words.now)))) (L.reads shelf.old) (L.reads shelf.new) }
     ensures untouched { files_of (asked (map string_bytes words.now)) ≡ [] → shelf.new ≡ shelf.old }
 {
+    complete_laws();
     let end = perform(alloc, words, shelf, site);
     finish(alloc, &end, site)
 }

@@ -14,5 +14,5 @@ returns-in-Err g c =
     let new : SiteView = g.S.Disk.view c.open_on.new.disk in
     let opens : Opens c.args.agent.number old new = record { only = c.in-Err.ensures.only; calls = c.in-Err.ensures.calls; written = c.in-Err.ensures.bytes } in
     subst (λ (e : End). Performs (opens_filter c.args.agent.number at_shadows) old new e) (sym c.open_end.ensures)
-    (not-opened c.args.agent.number at_shadows old new c.in-Err.error opens (λ place e. c.in-Err.ensures.damaged place (ap Err e)) (λ e. c.in-Err.ensures.disk (ap Err e))
-    (λ e. (c.in-Err.ensures.no_other 0).0 (ap Err e)) (λ needed e. (c.in-Err.ensures.no_other needed).1 (ap Err e)))
+    (not-opened c.args.agent.number at_shadows old new c.in-Err.error (c.args.agent.low, c.args.agent.high) opens (λ place e. c.in-Err.ensures.damaged place (ap Err e)) (λ place e. c.in-Err.ensures.damaged_durable place (ap Err e))
+    (λ e. c.in-Err.ensures.disk (ap Err e)) (λ other. c.in-Err.ensures.steady (λ e. other (cc))) (λ e. (c.in-Err.ensures.no_other 0).0 (ap Err e)) (λ needed e. (c.in-Err.ensures.no_other needed).1 (ap Err e)))

@@ -11,4 +11,4 @@ returns-in-Ok-rehearse c = has-summary c.args.positions c.in-Ok.site (view_of c.
 
 pub returns : goal.returns
 returns c = subst (λ (e : End). TellsRehearsal c.args.positions e) (sym c.failed_end.ensures)
-    (has-failed c.args.positions c.in-Ok.site (view_of c.rehearse.new.site) c.in-Err-rehearse.error c.in-Ok.ensures c.in-Err-rehearse.ensures.err)
+    (has-failed c.args.positions c.in-Ok.site (view_of c.rehearse.new.site) c.in-Err-rehearse.error c.in-Ok.ensures (c.in-Err-rehearse.ensures.new_site c.in-Ok.ensures) c.in-Err-rehearse.ensures.err)

@@ -18,8 +18,8 @@ returns-in-Err g c =
       written = c.in-Err.ensures.bytes;
     } in
     subst (λ (e : End). Performs opens_run old new e) (sym c.journal_end.ensures)
-    (not-opened old new c.in-Err.error opens (λ place e told. inl (c.in-Err.ensures.damaged place (ap Err e) told)) (λ e. c.in-Err.ensures.disk (ap Err e))
-    (λ e. (c.in-Err.ensures.no_other 0).0 (ap Err e)) (λ needed e. (c.in-Err.ensures.no_other needed).1 (ap Err e)))
+    (not-opened old new c.in-Err.error opens (λ place e told. inl (c.in-Err.ensures.damaged place (ap Err e) told)) (λ place e. c.in-Err.ensures.damaged_durable place (ap Err e))
+    (λ e. c.in-Err.ensures.disk (ap Err e)) (λ other. c.in-Err.ensures.steady (λ e. other (cc))) (λ e. (c.in-Err.ensures.no_other 0).0 (ap Err e)) (λ needed e. (c.in-Err.ensures.no_other needed).1 (ap Err e)))
 
 pub returns : goal.returns
 returns g c =
@@ -31,5 +31,5 @@ returns g c =
       written = c.in-Ok.ensures.bytes;
     } in
     subst (λ (e : End). Performs opens_run old new e) (sym c.report_end.ensures)
-    (no-report old new c.in-Ok.journal.items c.in-Err-run_report.error opens c.in-Ok.ensures.stands (λ place e. c.in-Err-run_report.ensures.damaged place (ap Err e))
+    (no-report old new c.in-Ok.journal.items c.in-Err-run_report.error opens c.in-Ok.ensures.durable (c.in-Ok.ensures.steady (λ e. cc)) c.in-Ok.ensures.stands (λ place e. c.in-Err-run_report.ensures.damaged place (ap Err e))
     (λ e. c.in-Err-run_report.ensures.tasks (ap Err e)))

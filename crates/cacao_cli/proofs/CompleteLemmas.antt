@@ -1,0 +1,424 @@
+-- What comes of a start where all agrees.
+use Rattle.std.proofs.Common.{◌≡◌, ◌⊎◌, inl, inr, ◌∙◌, refl, sym, ap, subst, arith, ℕ, Bool, true, false, List, [], ◌∷◌, map, Option, Some, None, Result, Ok, Err}
+use Rattle.std.specs.Prelude.{if◌then◌else◌}
+use Rattle.serde_json.specs.Data.{Data}
+use Rattle.cacao_check.specs.Fits.{FitsKind}
+use Rattle.cacao_check.specs.declared.breaks.Mode.TheVariants.{Read as Reading}
+use Rattle.cacao_site.specs.Counts.{DidNotRise, Rose}
+use Rattle.cacao_site.specs.Sound.{IsSound}
+use Rattle.cacao_site.specs.View.{SiteView}
+use Rattle.oc2_nets.specs.declared.packets.Packet.{Packet}
+use Rattle.filter_reports.specs.PacketFiles.{packets_of}
+use Rattle.run_reports.specs.RunFiles as run
+use Rattle.run_reports.specs.RunLines.{lines_of}
+use Rattle.run_reports.proofs.AcceptLemmas.{accepted-one}
+use Rattle.flow_core.specs.Setups.{AreAccepted}
+use Rattle.flow_rules.specs.Accepted.{Accepted}
+use Rattle.flow_rules.specs.Givens.{Given}
+use Rattle.flow_engine.specs.declared.answers.OperatorAnswer.{OperatorAnswer}
+use Rattle.slpf_actuator.specs.Damage as filter_file
+use Rattle.flow_world.specs.Sessions.{HasClosed, HasRefused, IsStart, KeepsAgreement}
+use Rattle.flow_world.specs.declared.close.Close.{Close}
+use Rattle.flow_world.specs.declared.close.Close.TheVariants as close
+use Rattle.flow_world.specs.declared.error.WorldError.{WorldError}
+use Rattle.flow_world.specs.declared.error.WorldError.TheVariants as error
+use Rattle.session_laws.specs.Complete.{Completes as SessionCompletes, EndsSo, IsForThisRun, IsUndisturbed, NoneFindsAnother, StopsSo, TellsOfAnother}
+use Rattle.session_laws.specs.Undamaged.{GoodIsUndamaged, IsAccepted, IsUndamaged, NoneFindsDamage}
+use Rattle.cacao_words.specs.Requests.{RunRequest}
+use Rattle.cacao_cli.specs.Agreement.{Agrees, MayBegin}
+use Rattle.cacao_cli.specs.Asked.{Asked, canonises, checks, runs, shows, lists_rules, decides, shadows, rehearses, audits}
+use Rattle.cacao_cli.specs.Causes.{HasTexts, HasTrees, LacksTree}
+use Rattle.cacao_cli.specs.Completing.{Completes, CompletesSo, HasOwnFile, TellsNoDamage}
+use Rattle.cacao_cli.specs.Ended.{Performed, Performs}
+use Rattle.cacao_cli.specs.Ends.{End, status_of, text_of, accepted, disk_failed, done, no_memory, past}
+use Rattle.cacao_cli.specs.Exact.{HasVerdict, IsOneOf, file_faults}
+use Rattle.cacao_cli.specs.Files.{File, Files, NamedText, ShelfCall, files_of, has_too_many, reading, Reads}
+use Rattle.cacao_cli.specs.Holding.{ClosesSo, IsRefusedStart, RefusesSo, close_end, error_end}
+use Rattle.cacao_cli.specs.Lines.{SaysAtMostALine, Tells}
+use Rattle.cacao_cli.specs.Work.{Start, Work, ends, judges, opens_filter, opens_run, compares, rehearsals, starts, at_decisions, canon_line, or_end, packets_or_end, start_of, trees_of, trees_wanted, work, work_on}
+use Rattle.cacao_cli.specs.declared.limit.Limit.TheVariants.{BookCount}
+use Rattle.cacao_cli.proofs.CauseLemmas.{TreesCase, all_trees, one_treeless, trees_case}
+use Rattle.cacao_cli.proofs.CountLemmas.{read-status, unsaid-ended}
+use Rattle.cacao_cli.proofs.ExactLemmas.{failed-status, if-told, performs-comes, seen-read}
+use Rattle.cacao_cli.proofs.JudgedLemmas.{bad-answers, lacks-tree, refused-accepted}
+use Rattle.cacao_cli.proofs.LineLemmas.{IsCutOff, says-status, tells-status}
+use Rattle.cacao_cli.proofs.ReadLemmas.{Fails, Read}
+use Rattle.cacao_cli.proofs.StartLemmas.{tells-line}
+use Rattle.cacao_cli.proofs.StatusRuns.{RunCase, long-texts, missing-texts, no-texts, run_case, run_long, run_many, run_missing, run_starts, run_treeless, same-texts}
+use Rattle.cacao_cli.proofs.UnsaidLemmas.{last-said}
+
+-- ---- other statuses than damage
+
+-- an end of another status
+apart-end : (last end : End) (mid new : SiteView) (answer m : ℕ) → last ≡ end → status_of end ≡ m → (m ≡ 13 → ⊥) → Tells last mid new answer → answer ≡ 13 → ⊥
+apart-end last end mid new answer m e is other tells thirteen = go (tells-status last mid new answer tells)
+  where
+    go : (answer ≡ status_of last) ⊎ IsCutOff answer → ⊥
+    go (inl f) = other (sym is ∙ ap status_of (sym e) ∙ sym f ∙ thirteen)
+    go (inr (inl f)) = omega (arith, f, thirteen)
+    go (inr (inr (inl f))) = omega (arith, f, thirteen)
+    go (inr (inr (inr h))) = h
+
+says-apart : (lines : List (List ℕ)) (old mid new : SiteView) (last : End) (answer : ℕ) → (answer ≡ 0) ⊎ IsCutOff answer → answer ≡ 13 → ⊥
+says-apart lines old mid new last answer (inl f) e = omega (arith, f, e)
+says-apart lines old mid new last answer (inr (inl f)) e = omega (arith, f, e)
+says-apart lines old mid new last answer (inr (inr (inl f))) e = omega (arith, f, e)
+says-apart lines old mid new last answer (inr (inr (inr h))) e = h
+
+close-apart : (how : Close) → status_of (close_end how) ≡ 13 → ⊥
+close-apart (close.Ended true) e = omega (arith, e)
+close-apart (close.Ended false) e = omega (arith, e)
+close-apart close.Paused e = omega (arith, e)
+close-apart (close.Waiting moment) e = omega (arith, e)
+close-apart close.Flooded e = omega (arith, e)
+close-apart (close.Asked issue) e = omega (arith, e)
+
+-- ---- damage
+
+-- where the work may begin, and that it tells no damage of its own
+abbrev MayDo : Work → SiteView → Type 0
+MayDo (ends lines end) old = status_of end ≡ 13 → ⊥
+MayDo (judges trees mode kept) old = MayDo kept old
+MayDo (opens_filter agent look) old = Unit {0}
+MayDo opens_run old = Unit {0}
+MayDo (compares files) old = Unit {0}
+MayDo (rehearsals positions) old = ⊥
+MayDo (starts start) old = IsStart old start.run
+
+module _ (undamaged : GoodIsUndamaged) (none : NoneFindsDamage) (old mid new : SiteView) (last : End) (answer : ℕ) (sound_mid : IsSound mid) (sound : IsSound new) (agrees : Agrees old)
+    (kept : KeepsAgreement old new) (tells : Tells last mid new answer) (thirteen : answer ≡ 13) where
+  bytes-there : (file : ℕ) → new.disk.reads file ≡ mid.disk.reads file
+  bytes-there file = go (tells-line last mid new answer tells)
+    where
+      go : SaysAtMostALine mid new → new.disk.reads file ≡ mid.disk.reads file
+      go (inl is) = ap (λ (s : SiteView). s.disk.reads file) is
+      go (inr says) = (says.disk.stays file).reads
+
+  now : IsUndamaged new new.disk.beat
+  now = undamaged new new.disk.beat kept.told sound (omega arith) (kept.each new.disk.beat kept.later (omega arith)).good
+
+  none-refused : (given : Given) (run most : ℕ) (answers : List OperatorAnswer) (why : WorldError) → IsAccepted given → HasRefused why given run most answers old mid → status_of (error_end why) ≡ 13 → ⊥
+  none-refused given run most answers error.Disk is h e = omega (arith, e)
+  none-refused given run most answers (error.Damaged file place) is h e = none given run most answers old mid file place is agrees.told agrees.start.good sound_mid h
+  none-refused given run most answers (error.OtherRun held asked) is h e = omega (arith, e)
+  none-refused given run most answers (error.OtherBook index) is h e = omega (arith, e)
+  none-refused given run most answers (error.RunUsed agent) is h e = omega (arith, e)
+  none-refused given run most answers (error.Limit what) is h e = omega (arith, e)
+  none-refused given run most answers error.Say is h e = omega (arith, e)
+  none-refused given run most answers error.Memory is h e = omega (arith, e)
+
+  work-undamaged : (w : Work) → MayDo w old → Performs w old mid last → ⊥
+  work-undamaged (ends lines end) b p = go (says-status lines end old mid new last answer p tells)
+    where
+      go : (answer ≡ status_of end) ⊎ IsCutOff answer → ⊥
+      go (inl f) = b (sym f ∙ thirteen)
+      go (inr (inl f)) = omega (arith, f, thirteen)
+      go (inr (inr (inl f))) = omega (arith, f, thirteen)
+      go (inr (inr (inr h))) = h
+  work-undamaged (judges trees mode kept) b (inl p) = work-undamaged kept b p.1
+  work-undamaged (judges trees mode kept) b (inr (inl p)) = apart-end last _ mid new answer 1 p.ends refl (λ e. omega (arith, e)) tells thirteen
+  work-undamaged (judges trees mode kept) b (inr (inr p)) = apart-end last no_memory mid new answer 10 p.ends refl (λ e. omega (arith, e)) tells thirteen
+  work-undamaged (opens_filter agent look) b (inl p) = says-apart p.lines p.between mid new last answer (says-status p.lines done p.between mid new last answer p.says tells) thirteen
+  work-undamaged (opens_filter agent look) b (inr (inl p)) =
+      now.filters agent p.of_agent (new.disk.reads agent) p.place (sound.reads agent kept.told)
+      (subst (λ (image : List ℕ). filter_file.IsDamaged image p.place) (sym (bytes-there agent)) (p.is_damaged agrees.told))
+  work-undamaged (opens_filter agent look) b (inr (inr (inl p))) = apart-end last disk_failed mid new answer 8 p.ends refl (λ e. omega (arith, e)) tells thirteen
+  work-undamaged (opens_filter agent look) b (inr (inr (inr p))) = apart-end last no_memory mid new answer 10 p.ends refl (λ e. omega (arith, e)) tells thirteen
+  work-undamaged opens_run b (inl p) = says-apart (lines_of p.text) p.between mid new last answer (says-status (lines_of p.text) done p.between mid new last answer p.says tells) thirteen
+  work-undamaged opens_run b (inr (inl p)) =
+      now.reports (new.disk.reads 0) p.place (sound.reads 0 kept.told)
+      (subst (λ (image : List ℕ). run.IsDamaged image p.place) (sym (bytes-there 0)) (p.is_damaged agrees.told))
+  work-undamaged opens_run b (inr (inr (inl p))) = apart-end last _ mid new answer 11 p.ends refl (λ e. omega (arith, e)) tells thirteen
+  work-undamaged opens_run b (inr (inr (inr (inl p)))) = apart-end last disk_failed mid new answer 8 p.ends refl (λ e. omega (arith, e)) tells thirteen
+  work-undamaged opens_run b (inr (inr (inr (inr p)))) = apart-end last no_memory mid new answer 10 p.ends refl (λ e. omega (arith, e)) tells thirteen
+  work-undamaged (compares files) b p = go (performs-comes (compares files) old mid new last answer p tells)
+    where
+      go : HasVerdict files answer ⊎ IsCutOff answer → ⊥
+      go (inl (inl h)) = omega (arith, h.1, thirteen)
+      go (inl (inr (inl h))) = omega (arith, h.1, thirteen)
+      go (inl (inr (inr h))) = omega (arith, h.1, thirteen)
+      go (inr (inl f)) = omega (arith, f, thirteen)
+      go (inr (inr (inl f))) = omega (arith, f, thirteen)
+      go (inr (inr (inr h))) = h
+  work-undamaged (rehearsals positions) b p = b
+  work-undamaged (starts start) b (inl p) = apart-end last _ mid new answer 5 p.ends refl (λ e. omega (arith, e)) tells thirteen
+  work-undamaged (starts start) b (inr (inl p)) = apart-end last _ mid new answer 1 p.ends refl (λ e. omega (arith, e)) tells thirteen
+  work-undamaged (starts start) b (inr (inr (inl p))) = apart-end last _ mid new answer 1 p.ends refl (λ e. omega (arith, e)) tells thirteen
+  work-undamaged (starts start) b (inr (inr (inr (inl p)))) = go p.holds.held
+    where
+      go : ClosesSo p.given start.run start.most p.answers old mid last ⊎ RefusesSo p.given start.run start.most p.answers old mid last → ⊥
+      go (inl c) = apart-end last (close_end c.close) mid new answer (status_of (close_end c.close)) c.ends refl (close-apart c.close) tells thirteen
+      go (inr r) = apart-end last (error_end r.error) mid new answer (status_of (error_end r.error)) r.ends refl
+          (none-refused p.given start.run start.most p.answers r.error (record { texts = start.books; bind = start.bind; accepted = p.accepted }) r.why) tells thirteen
+  work-undamaged (starts start) b (inr (inr (inr (inr p)))) = apart-end last no_memory mid new answer 10 p.ends refl (λ e. omega (arith, e)) tells thirteen
+
+-- ---- by the words
+
+-- the command opens no site of its own
+abbrev IsOnSite : Asked → Type 0
+IsOnSite (canonises book) = Unit {0}
+IsOnSite (checks books) = Unit {0}
+IsOnSite (runs wanted) = Unit {0}
+IsOnSite shows = Unit {0}
+IsOnSite (lists_rules agent) = Unit {0}
+IsOnSite (decides agent packets) = Unit {0}
+IsOnSite (shadows agent) = Unit {0}
+IsOnSite (rehearses positions) = ⊥
+IsOnSite (audits engine filters) = Unit {0}
+
+trees-may : (texts : List NamedText) (does : List Data → Work) (old : SiteView) → ((roots : List Data) → MayDo (does roots) old) → MayDo (or_end (trees_of texts) does) old
+trees-may texts does old each = go (trees_case texts)
+  where
+    go : TreesCase texts → MayDo (or_end (trees_of texts) does) old
+    go (all_trees roots r e) = subst (λ (r : Result (List Data) End). MayDo (or_end r does) old) (sym e) (each roots)
+    go (one_treeless name reason r e) = subst (λ (r : Result (List Data) End). MayDo (or_end r does) old) (sym e) (λ f. omega (arith, f))
+
+texts-may : (asked : Asked) (texts : List NamedText) (old : SiteView) → IsOnSite asked → MayBegin (Some asked) old → MayDo (work_on asked texts) old
+texts-may (canonises book) texts old on h = trees-may texts (λ roots. ends (map canon_line roots) done) old (λ roots e. omega (arith, e))
+texts-may (checks books) texts old on h = trees-may texts (λ roots. judges roots Reading (ends [] accepted)) old (λ roots e. omega (arith, e))
+texts-may (runs wanted) texts old on h = trees-may (trees_wanted wanted texts) (λ roots. starts (start_of wanted texts)) old (λ roots. h)
+texts-may shows texts old on h = tt
+texts-may (lists_rules agent) texts old on h = tt
+texts-may (decides agent packets) [] old on h = tt
+texts-may (decides agent packets) (text ∷ texts) old on h = go (packets_of text.bytes)
+  where
+    go : (r : Result (List (ℕ × Packet)) ℕ) → MayDo (or_end (packets_or_end text.name r) (λ found. opens_filter agent (at_decisions found))) old
+    go (Err number) = λ e. omega (arith, e)
+    go (Ok found) = tt
+texts-may (shadows agent) texts old on h = tt
+texts-may (rehearses positions) texts old on h = absurd on
+texts-may (audits engine filters) texts old on h = tt
+
+-- reading ends with other statuses
+read-apart : (n : ℕ) → IsOneOf n (3 ∷ 4 ∷ 10 ∷ 11 ∷ []) → n ≡ 13 → ⊥
+read-apart n (inl e) f = omega (arith, e, f)
+read-apart n (inr (inl e)) f = omega (arith, e, f)
+read-apart n (inr (inr (inl e))) f = omega (arith, e, f)
+read-apart n (inr (inr (inr (inl e)))) f = omega (arith, e, f)
+read-apart n (inr (inr (inr (inr h)))) f = h
+
+work-may : (asked : Asked) (told : Option Files) (count : ℕ) (read : Read) (old : SiteView) → IsOnSite asked → MayBegin (Some asked) old → Reads told (files_of (Some asked)) count read → MayDo (work (Some asked) read) old
+work-may asked told count read old on h reads = go (has_too_many asked) read (λ end e. read-status told (files_of (Some asked)) count read end reads e)
+  where
+    go : (b : Bool) (r : Read) → ((end : End) → r ≡ Err end → IsOneOf (status_of end) (3 ∷ 4 ∷ 10 ∷ 11 ∷ [])) → MayDo (if b then ends [] (past BookCount) else or_end r (work_on asked)) old
+    go true r each = λ e. omega (arith, e)
+    go false (Err end) each = λ e. read-apart (status_of end) (each end refl) e
+    go false (Ok texts) each = texts-may asked texts old on h
+
+module _ (undamaged : GoodIsUndamaged) (none : NoneFindsDamage) (shelf : ShelfCall) (old mid new : SiteView) (last : End) (answer : ℕ) (sound_mid : IsSound mid) (sound : IsSound new)
+    (kept : KeepsAgreement old new) (tells : Tells last mid new answer) where
+  asked-undamaged : (asked : Asked) → IsOnSite asked → Agrees old → MayBegin (Some asked) old → Performed (Some asked) shelf old mid last → answer ≡ 13 → ⊥
+  asked-undamaged asked on agrees h p e = work-undamaged undamaged none old mid new last answer sound_mid sound agrees kept tells e (work (Some asked) p.read)
+      (work-may asked shelf.told p.reads.count p.read old on h p.reads.reads) p.performs
+
+  pub undamaged-ended : (asked : Option Asked) → Performed asked shelf old mid last → MayBegin asked old → TellsNoDamage asked answer
+  undamaged-ended None p h = λ e. work-undamaged undamaged none old mid new last answer sound_mid sound h kept tells e (work None p.read) (λ f. omega (arith, f)) p.performs
+  undamaged-ended (Some (canonises book)) p h = asked-undamaged (canonises book) tt h h p
+  undamaged-ended (Some (checks books)) p h = asked-undamaged (checks books) tt h h p
+  undamaged-ended (Some (runs wanted)) p h = asked-undamaged (runs wanted) tt (record { told = h.told; start = h.start }) h p
+  undamaged-ended (Some shows) p h = asked-undamaged shows tt h h p
+  undamaged-ended (Some (lists_rules agent)) p h = asked-undamaged (lists_rules agent) tt h h p
+  undamaged-ended (Some (decides agent packets)) p h = asked-undamaged (decides agent packets) tt h h p
+  undamaged-ended (Some (shadows agent)) p h = asked-undamaged (shadows agent) tt h h p
+  undamaged-ended (Some (rehearses positions)) p h = tt
+  undamaged-ended (Some (audits engine filters)) p h = asked-undamaged (audits engine filters) tt h h p
+
+-- ---- to the end
+
+-- how far a run comes
+abbrev pub end_statuses : List ℕ
+end_statuses = 0 ∷ 6 ∷ 7 ∷ 16 ∷ 15 ∷ 11 ∷ 10 ∷ 3 ∷ []
+
+close-listed : (how : Close) → EndsSo how → IsOneOf (status_of (close_end how)) end_statuses
+close-listed (close.Ended true) h = inl refl
+close-listed (close.Ended false) h = inr (inl refl)
+close-listed close.Paused h = inr (inr (inl refl))
+close-listed (close.Waiting moment) h = absurd h
+close-listed close.Flooded h = inr (inr (inr (inr (inl refl))))
+close-listed (close.Asked issue) h = inr (inr (inr (inl refl)))
+
+refusal-listed : (why : WorldError) → StopsSo why → IsOneOf (status_of (error_end why)) end_statuses
+refusal-listed error.Disk h = absurd h
+refusal-listed (error.Damaged file place) h = absurd h
+refusal-listed (error.OtherRun held asked) h = absurd h
+refusal-listed (error.OtherBook index) h = absurd h
+refusal-listed (error.RunUsed agent) h = absurd h
+refusal-listed (error.Limit what) h = inr (inr (inr (inr (inr (inl refl)))))
+refusal-listed error.Say h = absurd h
+refusal-listed error.Memory h = inr (inr (inr (inr (inr (inr (inl refl))))))
+
+-- an error of another status than 12
+refusal-other : (why : WorldError) → (TellsOfAnother why → ⊥) → status_of (error_end why) ≡ 12 → ⊥
+refusal-other error.Disk h e = omega (arith, e)
+refusal-other (error.Damaged file place) h e = omega (arith, e)
+refusal-other (error.OtherRun held asked) h e = h tt
+refusal-other (error.OtherBook index) h e = h tt
+refusal-other (error.RunUsed agent) h e = h tt
+refusal-other (error.Limit what) h e = omega (arith, e)
+refusal-other error.Say h e = omega (arith, e)
+refusal-other error.Memory h e = omega (arith, e)
+
+close-other : (how : Close) → status_of (close_end how) ≡ 12 → ⊥
+close-other (close.Ended true) e = omega (arith, e)
+close-other (close.Ended false) e = omega (arith, e)
+close-other close.Paused e = omega (arith, e)
+close-other (close.Waiting moment) e = omega (arith, e)
+close-other close.Flooded e = omega (arith, e)
+close-other (close.Asked issue) e = omega (arith, e)
+
+-- the counts did not rise before the last line
+undisturbed-before : (old mid new : SiteView) → SaysAtMostALine mid new → new.clock.unsaid ≡ mid.clock.unsaid → IsUndisturbed old new → IsUndisturbed old mid
+undisturbed-before old mid new behind said u = record {
+  faults = subst (λ (n : ℕ). DidNotRise old.disk.faults n) faults u.faults;
+  unsaid = subst (λ (n : ℕ). DidNotRise old.clock.unsaid n) said u.unsaid;
+  shorts = subst (λ (n : ℕ). DidNotRise old.clock.shorts n) shorts u.shorts;
+}
+  where
+    faults : new.disk.faults ≡ mid.disk.faults
+    faults = go behind
+      where
+        go : SaysAtMostALine mid new → new.disk.faults ≡ mid.disk.faults
+        go (inl is) = ap (λ (s : SiteView). s.disk.faults) is
+        go (inr says) = says.disk.faults
+
+    shorts : new.clock.shorts ≡ mid.clock.shorts
+    shorts = go behind
+      where
+        go : SaysAtMostALine mid new → new.clock.shorts ≡ mid.clock.shorts
+        go (inl is) = ap (λ (s : SiteView). s.clock.shorts) is
+        go (inr says) = says.time.shorts
+
+-- where no line was unsaid, none is told so
+not-unsaid : (before after : ℕ) → Rose before after → DidNotRise before after → ⊥
+not-unsaid before after rose same = omega (arith, rose, same.0, same.1)
+
+module _ (no_other : NoneFindsAnother) (completes : SessionCompletes) (start : Start) (old mid new : SiteView) (last : End) (answer : ℕ) (sound : IsSound mid) (is : IsStart old start.run)
+    (unsaid : answer ≡ 9 → Rose old.clock.unsaid new.clock.unsaid) (tells : Tells last mid new answer) where
+  said-all : IsUndisturbed old new → new.clock.unsaid ≡ mid.clock.unsaid
+  said-all u = last-said last (text_of last) mid new answer tells (λ e. not-unsaid old.clock.unsaid new.clock.unsaid (unsaid e) u.unsaid)
+
+  before : IsUndisturbed old new → IsUndisturbed old mid
+  before u = undisturbed-before old mid new (tells-line last mid new answer tells) (said-all u) u
+
+  -- the status is that of the end, or memory was wanted for the last line
+  listed : (end : End) → last ≡ end → IsOneOf (status_of end) end_statuses → IsUndisturbed old new → IsOneOf answer end_statuses
+  listed end e one u = go (tells-status last mid new answer tells)
+    where
+      go : (answer ≡ status_of last) ⊎ IsCutOff answer → IsOneOf answer end_statuses
+      go (inl f) = subst (λ (n : ℕ). IsOneOf n end_statuses) (sym (f ∙ ap status_of e)) one
+      go (inr (inl f)) = absurd (not-unsaid old.clock.unsaid new.clock.unsaid (unsaid f) u.unsaid)
+      go (inr (inr (inl f))) = inr (inr (inr (inr (inr (inr (inl f))))))
+      go (inr (inr (inr h))) = absurd h
+
+  other-end : (end : End) → last ≡ end → (status_of end ≡ 12 → ⊥) → answer ≡ 12 → ⊥
+  other-end end e other twelve = go (tells-status last mid new answer tells)
+    where
+      go : (answer ≡ status_of last) ⊎ IsCutOff answer → ⊥
+      go (inl f) = other (ap status_of (sym e) ∙ sym f ∙ twelve)
+      go (inr (inl f)) = omega (arith, f, twelve)
+      go (inr (inr (inl f))) = omega (arith, f, twelve)
+      go (inr (inr (inr h))) = h
+
+  own-file : (given : Given) (o : HasOwnFile start old) → Accepted AreAccepted FitsKind start.books start.bind given → IsForThisRun given start.run old
+  own-file given o a = subst (λ (g : Given). IsForThisRun g start.run old) (accepted-one start.books start.bind o.given given o.accepted a) o.for_this
+
+  refused-none : HasOwnFile start old → IsRefusedStart start → ⊥
+  refused-none o r = refused-accepted start r (o.answers, (o.given, o.accepted))
+
+  started-completes : Performs (starts start) old mid last → CompletesSo start old new answer
+  started-completes (inl h) = record {
+    no_other = λ o. absurd (bad-answers start (h.text, h.is, h.number, h.bad) o.answers);
+    to_end = λ o u. absurd (bad-answers start (h.text, h.is, h.number, h.bad) o.answers);
+  }
+  started-completes (inr (inl h)) = record {
+    no_other = λ o. absurd (refused-none o ((h.answers, h.are), inl (h.broken, h.breaks)));
+    to_end = λ o u. absurd (refused-none o ((h.answers, h.are), inl (h.broken, h.breaks)));
+  }
+  started-completes (inr (inr (inl h))) = record {
+    no_other = λ o. absurd (refused-none o ((h.answers, h.are), inr (h.rule, h.breaks)));
+    to_end = λ o u. absurd (refused-none o ((h.answers, h.are), inr (h.rule, h.breaks)));
+  }
+  started-completes (inr (inr (inr (inl h)))) = go h.holds.held
+    where
+      accepted_is : IsAccepted h.given
+      accepted_is = record { texts = start.books; bind = start.bind; accepted = h.accepted }
+
+      comes : (o : HasOwnFile start old) (u : IsUndisturbed old new) → ((how : Close) → HasClosed how h.given start.run start.most h.answers old mid → EndsSo how) × ((why : WorldError) → HasRefused why h.given start.run start.most h.answers old mid → StopsSo why)
+      comes o u = completes h.given start.run start.most h.answers old mid accepted_is is (own-file h.given o h.accepted) sound (before u)
+
+      go : ClosesSo h.given start.run start.most h.answers old mid last ⊎ RefusesSo h.given start.run start.most h.answers old mid last → CompletesSo start old new answer
+      go (inl c) = record {
+        no_other = λ o. other-end (close_end c.close) c.ends (close-other c.close);
+        to_end = λ o u. listed (close_end c.close) c.ends (close-listed c.close ((comes o u).0 c.close c.closed)) u;
+      }
+      go (inr r) = record {
+        no_other = λ o. other-end (error_end r.error) r.ends (refusal-other r.error
+            (λ t. no_other r.error h.given start.run start.most h.answers old mid t is.told is.fresh (own-file h.given o h.accepted) sound r.why));
+        to_end = λ o u. listed (error_end r.error) r.ends (refusal-listed r.error ((comes o u).1 r.error r.why)) u;
+      }
+  started-completes (inr (inr (inr (inr h)))) = record {
+    no_other = λ o. other-end no_memory h.ends (λ e. omega (arith, e));
+    to_end = λ o u. listed no_memory h.ends (inr (inr (inr (inr (inr (inr (inl refl))))))) u;
+  }
+
+module _ (no_other : NoneFindsAnother) (completes : SessionCompletes) (wanted : RunRequest) (files : Files) (old mid new : SiteView) (last : End) (answer : ℕ) (sound : IsSound mid) (is : IsStart old wanted.run)
+    (unsaid : answer ≡ 9 → Rose old.clock.unsaid new.clock.unsaid) (tells : Tells last mid new answer) where
+  run-completes : Performs (work (Some (runs wanted)) (reading files (files_of (Some (runs wanted))))) old mid last → (texts : List NamedText) → HasTexts files wanted texts → HasTrees wanted texts
+      → CompletesSo (start_of wanted texts) old new answer
+  run-completes performs texts has trees = go (run_case wanted files)
+    where
+      at : (w : Work) → work (Some (runs wanted)) (reading files (files_of (Some (runs wanted)))) ≡ w → Performs w old mid last
+      at w e = subst (λ (w : Work). Performs w old mid last) e performs
+
+      go : RunCase wanted files → CompletesSo (start_of wanted texts) old new answer
+      go (run_many many e) = absurd (no-texts files wanted texts has many)
+      go (run_missing name m e) = absurd (missing-texts wanted files old new answer texts has m)
+      go (run_long limit l e) = absurd (long-texts wanted files old new answer texts has l)
+      go (run_treeless others name reason there within t e) =
+          absurd (trees (subst (λ (l : List NamedText). LacksTree (trees_wanted wanted l)) (same-texts files wanted others texts there has) (lacks-tree (trees_wanted wanted others) t)))
+      go (run_starts others roots there within r e) = subst (λ (l : List NamedText). CompletesSo (start_of wanted l) old new answer) (same-texts files wanted others texts there has)
+          (started-completes no_other completes (start_of wanted others) old mid new last answer sound is unsaid tells (at (starts (start_of wanted others)) e))
+
+  -- the last line was not said, or memory was wanted
+  cut-completes : (start : Start) → IsCutOff answer → CompletesSo start old new answer
+  cut-completes start h = record { no_other = λ o. cut-other h; to_end = λ o u. cut-listed u h }
+    where
+      cut-other : IsCutOff answer → answer ≡ 12 → ⊥
+      cut-other (inl f) e = omega (arith, f, e)
+      cut-other (inr (inl f)) e = omega (arith, f, e)
+      cut-other (inr (inr h)) e = h
+
+      cut-listed : IsUndisturbed old new → IsCutOff answer → IsOneOf answer end_statuses
+      cut-listed u (inl f) = absurd (not-unsaid old.clock.unsaid new.clock.unsaid (unsaid f) u.unsaid)
+      cut-listed u (inr (inl f)) = inr (inr (inr (inr (inr (inr (inl f))))))
+      cut-listed u (inr (inr h)) = absurd h
+
+  -- the files were not read
+  unread-completes : (list : List File) (start : Start) → IsOneOf answer (file_faults list) → CompletesSo start old new answer
+  unread-completes [] start h = cut-completes start h
+  unread-completes (file ∷ more) start (inl f) = record { no_other = λ o e. omega (arith, f, e); to_end = λ o u. inr (inr (inr (inr (inr (inr (inr (inl f))))))) }
+  unread-completes (file ∷ more) start (inr h) = cut-completes start h
+
+pub completes-ended : NoneFindsAnother → SessionCompletes → (asked : Option Asked) (shelf : ShelfCall) (old mid new : SiteView) (last : End) (answer : ℕ) → IsSound mid → Performed asked shelf old mid last
+    → Tells last mid new answer → Completes asked shelf.told old new answer
+completes-ended no_other completes None shelf old mid new last answer sound p tells = tt
+completes-ended no_other completes (Some (canonises book)) shelf old mid new last answer sound p tells = tt
+completes-ended no_other completes (Some (checks books)) shelf old mid new last answer sound p tells = tt
+completes-ended no_other completes (Some (runs wanted)) shelf old mid new last answer sound p tells = λ is. if-told (files_of (Some (runs wanted))) shelf.told _ (λ files seen. λ texts has trees.
+    go is files texts has trees (seen-read shelf.told (files_of (Some (runs wanted))) files p.reads.count p.read seen p.reads.reads))
+  where
+    unsaid : answer ≡ 9 → Rose old.clock.unsaid new.clock.unsaid
+    unsaid e = unsaid-ended (Some (runs wanted)) shelf old new answer (record { last = last; between = mid; performed = p; tells = tells }) e
+
+    go : IsStart old wanted.run → (files : Files) (texts : List NamedText) → HasTexts files wanted texts → HasTrees wanted texts
+        → (p.read ≡ reading files (files_of (Some (runs wanted)))) ⊎ Fails (files_of (Some (runs wanted))) p.read → CompletesSo (start_of wanted texts) old new answer
+    go is files texts has trees (inl e) = run-completes no_other completes wanted files old mid new last answer sound is unsaid tells
+        (subst (λ (r : Result (List NamedText) End). Performs (work (Some (runs wanted)) r) old mid last) e p.performs) texts has trees
+    go is files texts has trees (inr fails) = unread-completes no_other completes wanted files old mid new last answer sound is unsaid tells (files_of (Some (runs wanted))) (start_of wanted texts)
+        (failed-status (runs wanted) p.read (has_too_many (runs wanted)) old mid new last answer fails p.performs tells)
+completes-ended no_other completes (Some shows) shelf old mid new last answer sound p tells = tt
+completes-ended no_other completes (Some (lists_rules agent)) shelf old mid new last answer sound p tells = tt
+completes-ended no_other completes (Some (decides agent packets)) shelf old mid new last answer sound p tells = tt
+completes-ended no_other completes (Some (shadows agent)) shelf old mid new last answer sound p tells = tt
+completes-ended no_other completes (Some (rehearses positions)) shelf old mid new last answer sound p tells = tt
+completes-ended no_other completes (Some (audits engine filters)) shelf old mid new last answer sound p tells = tt

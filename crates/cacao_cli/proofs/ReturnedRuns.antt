@@ -1,0 +1,315 @@
+-- What the engine's file holds where a session ended.
+use Rattle.std.proofs.Common.{◌≡◌, ◌≢◌, ◌⊎◌, inl, inr, ◌∙◌, refl, sym, ap, ap₂, subst, arith, ℕ, suc, ◌+◌, ◌-◌, ◌≤◌, Bool, false, List, [], ◌∷◌, ◌++◌, length, length-append, Option, Some, None}
+use Rattle.std.specs.Prelude.{Any, IsTrue, slice_get}
+use Rattle.cacao_site.specs.DiskCalls.{EachBeat, GoesOn, IsDurable, IsLeft}
+use Rattle.cacao_site.specs.Sound.{IsSound}
+use Rattle.cacao_site.specs.View.{SiteView}
+use Rattle.cacao_site.specs.declared.parcel.Parcel.{Parcel}
+use Rattle.run_journal.specs.Layout.{Stands}
+use Rattle.run_journal.proofs.LayoutLaws.{one_list}
+use Rattle.run_records.specs.Fields.{◌>>=◌}
+use Rattle.run_records.specs.Lists.{records as records_in}
+use Rattle.run_records.specs.Reading.{record_of}
+use Rattle.run_records.specs.declared.act.Act.{Act}
+use Rattle.run_records.specs.declared.record.Record.{Record}
+use Rattle.run_records.specs.declared.record.Record.TheVariants as entry
+use Rattle.flow_core.specs.declared.flow_errors.LimitKind.{LimitKind}
+use Rattle.flow_rules.specs.Givens.{Given}
+use Rattle.flow_rules.specs.Runs.{begin_of}
+use Rattle.flow_rules.specs.State.{Shown}
+use Rattle.flow_rules.proofs.RunLemmas.{list_heads}
+use Rattle.flow_engine.specs.EngineView.{HoldsRecords}
+use Rattle.flow_engine.specs.Histories.{IsShownAfter, IsSoFar}
+use Rattle.flow_engine.specs.Laws.{HoldsRun}
+use Rattle.flow_engine.specs.Openings.{BeginsWith, RefusesAsEntries}
+use Rattle.flow_engine.specs.declared.answers.OperatorAnswer.{OperatorAnswer}
+use Rattle.flow_engine.specs.declared.error.EngineError.TheVariants as refusal
+use Rattle.flow_laws.specs.Images.{IsRecords}
+use Rattle.flow_laws.proofs.OneList.{records_of_layout, same_records}
+use Rattle.slpf_actuator.specs.ActuatorView.{ActuatorView, HoldsActs}
+use Rattle.slpf_actuator.specs.declared.error.ActError.{ActError}
+use Rattle.slpf_actuator.specs.declared.error.ActError.TheVariants as act_error
+use Rattle.flow_steps.specs.Causes.{IsFirstWithRun, Shows}
+use Rattle.flow_steps.specs.Sides.{IsFilter, IsWhole}
+use Rattle.flow_steps.specs.Steps.{IsActCause}
+use Rattle.flow_steps.specs.Unbroken.{AreFiltersSure, EndedByFilter, IsJournalSure}
+use Rattle.flow_steps.specs.Unsure.{UnsureByStep}
+use Rattle.flow_steps.specs.Worlds.{Cause, Phase, World, disk_failed, not_said, past, refused, run_used, wants_memory}
+use Rattle.flow_world.specs.Closes.{IsClose, IsRefusal, refusal_of}
+use Rattle.flow_world.specs.Sessions.{Went}
+use Rattle.flow_world.specs.declared.close.Close.{Close}
+use Rattle.flow_world.specs.declared.error.WorldError.{WorldError}
+use Rattle.flow_world.specs.declared.error.WorldError.TheVariants as error
+use Rattle.flow_world.proofs.CloseLemmas.{closes_are_no_refusals}
+use Rattle.session_laws.specs.Returned.{ReadsAsRun}
+use Rattle.session_laws.proofs.Carried.{steps_keep_disk_on}
+use Rattle.cacao_cli.specs.Returning.{BeginsAnother, GainsRecords}
+use Rattle.cacao_cli.proofs.SpentLemmas.{CouldMore, past-could}
+
+-- ---- the first record of a file
+
+first-of : (o : Option Record) (others : Option (List Record)) (records : List Record) (r : Record) → o ≡ Some r → (o >>= (λ a. others >>= (λ rs. Some (a ∷ rs)))) ≡ Some records → (rest : List Record) × (records ≡ r ∷ rest)
+first-of None others records r e f = absurd (cc)
+first-of (Some a) None records r e f = absurd (cc)
+first-of (Some a) (Some rs) records r e f = (rs, cc)
+
+-- where a file reads as a run, its first entry is the Begin of that run
+begins-so : (given : Given) (run : ℕ) (site : SiteView) (seen : Shown) (entries : List (List ℕ)) (first : List ℕ) (others : List (List ℕ)) (r : Record) → ReadsAsRun given run site seen
+    → Stands (site.disk.reads 0) entries → entries ≡ first ∷ others → record_of first ≡ Some r → (now : ℕ) × (r ≡ begin_of given run now)
+begins-so given run site seen entries first others r is stands are reads =
+    let same : is.reads.entries ≡ first ∷ others = one_list (site.disk.reads 0) is.reads.entries entries is.reads.stands stands ∙ are in
+    let found = first-of (record_of first) (records_in others) is.records r reads (subst (λ (l : List (List ℕ)). records_in l ≡ Some is.records) same is.reads.reads) in
+    let shows : IsShownAfter seen.given seen.run (r ∷ found.0) seen = subst (λ (l : List Record). IsSoFar l seen) found.1 is.so_far in
+    let leads = shows.leads in
+    (leads.now, (list_heads r (begin_of seen.given seen.run leads.now) found.0 leads.others leads.records_are).0 ∙ ap₂ (λ (g : Given) (n : ℕ). begin_of g n leads.now) is.given_is is.of_run)
+
+same-begin : (run other moment now : ℕ) (books texts : List (List ℕ)) (bind bound : List ℕ) → entry.Begin run moment books bind ≡ entry.Begin other now texts bound → (run ≡ other) × (books ≡ texts) × (bind ≡ bound)
+same-begin run other moment now books texts bind bound e = (cc, cc, cc)
+
+pub not-other-run : (given : Given) (run : ℕ) (site : SiteView) (seen : Shown) (held asked : ℕ) → ReadsAsRun given run site seen → RefusesAsEntries given run (site.disk.reads 0) (refusal.OtherRun held asked) → ⊥
+not-other-run given run site seen held asked is h = go h.refuses
+  where
+    go : ((moment : ℕ) × (books : List (List ℕ)) × (bind : List ℕ) × BeginsWith h.entries held moment books bind) × (held ≢ run) × (asked ≡ run) → ⊥
+    go (b, apart, e) =
+        let found = begins-so given run site seen h.entries b.3.first b.3.others (entry.Begin held b.0 b.1 b.2) is h.stands b.3.are b.3.reads in
+        apart (same-begin held run b.0 found.0 b.1 given.texts b.2 given.bind found.1).0
+
+pub not-other-book : (given : Given) (run : ℕ) (site : SiteView) (seen : Shown) (index : ℕ) → ReadsAsRun given run site seen → RefusesAsEntries given run (site.disk.reads 0) (refusal.OtherBook index) → ⊥
+not-other-book given run site seen index is h =
+    let b = h.refuses in
+    let found = begins-so given run site seen h.entries b.3.first b.3.others (entry.Begin run b.0 b.1 b.2) is h.stands b.3.are b.3.reads in
+    let same = same-begin run run b.0 found.0 b.1 given.texts b.2 given.bind found.1 in
+    elim b.4 [
+      | inl differs ↦ differs.differs (ap (λ (l : List (List ℕ)). slice_get l index) same.1)
+      | inr differs ↦ differs.1 same.2
+    ]
+
+pub not-another : (given : Given) (run : ℕ) (site : SiteView) (seen : Shown) → ReadsAsRun given run site seen → BeginsAnother given run (site.disk.reads 0) → ⊥
+not-another given run site seen is (inl h) = not-other-run given run site seen h.0 run is h.1
+not-another given run site seen is (inr h) = not-other-book given run site seen h.0 is h.1
+
+-- ---- the file of an engine
+
+-- it reads as its run
+abbrev pub reads-run : (given : Given) (run : ℕ) (site : SiteView) (h : HoldsRun given run (site.disk.reads 0)) → ReadsAsRun given run site h.seen
+reads-run given run site h = record {
+  records = h.records;
+  reads = records_of_layout (site.disk.reads 0) h.records h.ranges h.holds;
+  so_far = h.so_far;
+  given_is = h.given_is;
+  of_run = h.run_is;
+}
+
+-- where a call only opened it, a file that was durable gained no record
+pub opened-none : (many : ℕ) (old mid : SiteView) → IsSound mid → IsTrue mid.disk.told → IsTrue old.disk.told → EachBeat 0 old.disk mid.disk (IsLeft old.disk 0 old.disk.beat)
+    → IsDurable 0 old.disk → GainsRecords many old mid → many ≡ 0
+opened-none many old mid sound told before each durable g =
+    let left : IsLeft old.disk 0 old.disk.beat (mid.disk.reads 0) = each.each before mid.disk.beat (mid.disk.reads 0) each.goes_on.later (omega arith) (sound.reads 0 told) in
+    let same : g.image ≡ mid.disk.reads 0 = durable g.image g.left ∙ sym (durable (mid.disk.reads 0) left) in
+    let records : g.before ++ g.added ≡ g.before = same_records (mid.disk.reads 0) (g.before ++ g.added) g.before g.has (subst (λ (i : List ℕ). IsRecords i g.before) same g.had) in
+    let long : length (g.before ++ g.added) ≡ length g.before = ap (λ (l : List Record). length l) records in
+    let as_many : length g.added ≡ many = g.as_many in
+    omega (arith, long, as_many, length-append g.before g.added)
+
+module _ (given : Given) (run most : ℕ) (answers : List OperatorAnswer) (old mid : SiteView) (sound : IsSound mid) (told : IsTrue mid.disk.told) (went : Went given run most answers old mid) where
+  pub sound-there : IsSound went.to.site
+  sound-there = subst IsSound (sym went.to_is) sound
+
+  pub told-there : IsTrue went.to.site.disk.told
+  told-there = subst (λ (s : SiteView). IsTrue s.disk.told) (sym went.to_is) told
+
+  -- ---- which run
+
+  abbrev pub sure-holds : IsJournalSure went.to → HoldsRun given run (mid.disk.reads 0)
+  sure-holds sure =
+      let w = went.to in
+      record {
+        records = w.engine.history.records;
+        seen = w.engine.history.seen;
+        holds = subst (λ (s : SiteView). HoldsRecords w.engine.history.records (s.disk.reads 0)) went.to_is
+            (sure.whole.engine.ready sure.whole.whole told-there (w.site.disk.reads 0) (sound-there.reads 0 told-there)).0;
+        ranges = sure.whole.engine.history.ranges;
+        given_is = went.sums.given.given ∙ went.begins.given_is;
+        run_is = went.sums.given.run ∙ went.begins.of_run;
+        so_far = sure.whole.engine.history.so_far;
+        tasks = sure.whole.engine.history.tasks;
+      }
+
+  pub sure-records : IsJournalSure went.to → IsRecords (mid.disk.reads 0) went.to.engine.history.records
+  sure-records sure = let h = sure-holds sure in records_of_layout (mid.disk.reads 0) h.records h.ranges h.holds
+
+  -- the file is sure where the session closed
+  pub closes-sure : (how : Close) → IsClose how went.to → IsJournalSure went.to
+  closes-sure how closes = go went.sums.unbroken.journal
+    where
+      go : IsJournalSure went.to ⊎ ((r : Record) × UnsureByStep went.start went.to r) → IsJournalSure went.to
+      go (inl sure) = sure
+      go (inr h) = absurd (closes_are_no_refusals went.to how error.Disk closes (record { cause = disk_failed; lacks = false; phase = h.1.phase; is = refl }))
+
+  same-cause : (a b : Cause) (x y : Bool) → refused a x ≡ refused b y → a ≡ b
+  same-cause a b x y e = cc
+
+  -- and where it refused, but for a failed disk
+  pub refuses-sure : (why : WorldError) → IsRefusal why went.to → IsJournalSure went.to ⊎ (why ≡ error.Disk)
+  refuses-sure why is = go went.sums.unbroken.journal
+    where
+      go : IsJournalSure went.to ⊎ ((r : Record) × UnsureByStep went.start went.to r) → IsJournalSure went.to ⊎ (why ≡ error.Disk)
+      go (inl sure) = inl sure
+      go (inr h) = inr (is.is ∙ ap refusal_of (same-cause is.cause disk_failed is.lacks false (sym is.phase ∙ h.1.phase)))
+
+  -- ---- how many records
+
+  goes-later : GoesOn went.start.site.disk mid.disk
+  goes-later = subst (λ (s : SiteView). GoesOn went.start.site.disk s.disk) went.to_is (steps_keep_disk_on went.start went.to went.steps)
+
+  told-start : IsTrue went.start.site.disk.told
+  told-start = subst (λ (b : Bool). IsTrue b) goes-later.told told
+
+  told-middle : IsTrue went.files.middle.disk.told
+  told-middle = subst (λ (b : Bool). IsTrue b) went.files.others.goes_on.told told-start
+
+  told-old : IsTrue old.disk.told
+  told-old = subst (λ (b : Bool). IsTrue b) went.files.journal.opens.only.each.goes_on.told told-middle
+
+  -- an image of the start with the records that the journal had
+  record HadRecords : Type 0 where
+    image : List ℕ
+    left : IsLeft old.disk 0 old.disk.beat image
+    had : IsRecords image went.start.engine.history.records
+
+  had-records : HadRecords
+  had-records =
+      let middle = went.files.middle in
+      let each = went.files.journal.opens.only.each in
+      let found = sound.images 0 middle.disk.beat told (omega (arith, went.files.others.goes_on.later, goes-later.later)) in
+      let at_start : IsLeft went.start.site.disk 0 middle.disk.beat found.0 = subst (λ (b : Bool). IsTrue b) (goes-later.past 0 middle.disk.beat found.0 went.files.others.goes_on.later) found.1 in
+      let at_middle : IsLeft middle.disk 0 middle.disk.beat found.0 = subst (λ (b : Bool). IsTrue b) (went.files.others.goes_on.past 0 middle.disk.beat found.0 (omega arith)) at_start in
+      let whole : IsWhole went.start.engine middle = went.files.journal.whole in
+      record {
+        image = found.0;
+        left = each.each told-old middle.disk.beat found.0 each.goes_on.later (omega arith) at_middle;
+        had = records_of_layout found.0 went.start.engine.history.records whole.engine.history.ranges (whole.engine.ready whole.whole told-middle found.0 at_middle).0;
+      }
+
+  grown : IsJournalSure went.to → IsRecords (mid.disk.reads 0) (went.start.engine.history.records ++ went.sums.adds.added)
+  grown sure = subst (IsRecords (mid.disk.reads 0)) went.sums.adds.is (sure-records sure)
+
+  -- none more may be appended: as many were
+  pub gains : IsJournalSure went.to → went.to.notes.left ≡ 0 → GainsRecords most old mid
+  gains sure none =
+      let budget : length went.sums.adds.added + went.to.notes.left ≡ most = went.sums.budget in
+      record {
+        image = had-records.image;
+        left = had-records.left;
+        before = went.start.engine.history.records;
+        had = had-records.had;
+        added = went.sums.adds.added;
+        has = grown sure;
+        as_many = omega (arith, budget, none);
+      }
+
+  -- and as many were appended only where none more may be
+  pub spent : IsJournalSure went.to → IsDurable 0 old.disk → GainsRecords most old mid → went.to.notes.left ≡ 0
+  spent sure durable g =
+      let records = went.start.engine.history.records in
+      let added = went.sums.adds.added in
+      let image : g.image ≡ had-records.image = durable g.image g.left ∙ sym (durable had-records.image had-records.left) in
+      let before : g.before ≡ records = same_records had-records.image g.before records (subst (λ (i : List ℕ). IsRecords i g.before) image g.had) had-records.had in
+      let all : g.before ++ g.added ≡ records ++ added = same_records (mid.disk.reads 0) (g.before ++ g.added) (records ++ added) g.has (grown sure) in
+      let long : length (g.before ++ g.added) ≡ length (records ++ added) = ap (λ (l : List Record). length l) all in
+      let first : length g.before ≡ length records = ap (λ (l : List Record). length l) before in
+      let many : length g.added ≡ most = g.as_many in
+      let budget : length added + went.to.notes.left ≡ most = went.sums.budget in
+      omega (arith, long, first, many, budget, length-append g.before g.added, length-append records added)
+
+  -- a session that appended none, or could have appended more, did not append as many as may be
+  pub not-spent : 1 ≤ most → IsJournalSure went.to → CouldMore went.start went.to → IsDurable 0 old.disk → GainsRecords most old mid → ⊥
+  not-spent some sure could durable g = go could
+    where
+      none_left : went.to.notes.left ≡ 0
+      none_left = spent sure durable g
+
+      go : CouldMore went.start went.to → ⊥
+      go (inl more) = omega (arith, more, none_left)
+      go (inr same) =
+          let records = went.start.engine.history.records in
+          let added = went.sums.adds.added in
+          let is : records ++ added ≡ records = sym went.sums.adds.is ∙ same in
+          let long : length (records ++ added) ≡ length records = ap (λ (l : List Record). length l) is in
+          let budget : length added + went.to.notes.left ≡ most = went.sums.budget in
+          omega (arith, long, budget, none_left, some, length-append records added)
+
+  pub past-more : (what : LimitKind) → (is : IsRefusal (error.Limit what) went.to) → CouldMore went.start went.to
+  past-more what is = past-could went.start went.to what is.lacks went.begins.phase went.steps (is.phase ∙ ap (λ (c : Cause). refused c is.lacks) (cause-past is.cause is.is))
+    where
+      cause-past : (cause : Cause) → error.Limit what ≡ refusal_of cause → cause ≡ past what
+      cause-past disk_failed e = absurd (cc)
+      cause-past not_said e = absurd (cc)
+      cause-past (run_used agent) e = absurd (cc)
+      cause-past (past other) e = ap past (same e)
+        where
+          same : error.Limit what ≡ error.Limit other → other ≡ what
+          same e = cc
+      cause-past wants_memory e = absurd (cc)
+
+  -- the journal is empty
+  pub empty-same : went.to.engine.history.records ≡ [] → CouldMore went.start went.to
+  empty-same none = inr (none ∙ sym (first-empty went.start.engine.history.records (sym went.sums.adds.is ∙ none)))
+    where
+      first-empty : (records : List Record) → records ++ went.sums.adds.added ≡ [] → records ≡ []
+      first-empty [] e = refl
+      first-empty (r ∷ rs) e = absurd (cc)
+
+  -- ---- a number that is used
+
+  cause-used : (cause : Cause) (agent : ℕ) → error.RunUsed agent ≡ refusal_of cause → cause ≡ run_used agent
+  cause-used disk_failed agent e = absurd (cc)
+  cause-used not_said agent e = absurd (cc)
+  cause-used (run_used other) agent e = ap run_used (same e)
+    where
+      same : error.RunUsed agent ≡ error.RunUsed other → other ≡ agent
+      same e = cc
+  cause-used (past what) agent e = absurd (cc)
+  cause-used wants_memory agent e = absurd (cc)
+
+  no-act-cause : (why : ActError) (v : ActuatorView) (parcel : Parcel) (before after : World) (cause : Cause) (agent : ℕ) → IsActCause why v parcel before after cause → cause ≡ run_used agent → ⊥
+  no-act-cause act_error.Disk v parcel before after cause agent is e = let f : disk_failed ≡ run_used agent = sym is.1 ∙ e in cc
+  no-act-cause (act_error.Full needed) v parcel before after cause agent is e = let f = sym is.1 ∙ e in cc
+  no-act-cause act_error.Memory v parcel before after cause agent is e = let f : wants_memory ≡ run_used agent = sym is ∙ e in cc
+  no-act-cause (act_error.Damaged place) v parcel before after cause agent is e = is
+  no-act-cause act_error.Broken v parcel before after cause agent is e = is
+
+  used-phase : (agent : ℕ) (is : IsRefusal (error.RunUsed agent) went.to) → went.to.phase ≡ refused (run_used agent) is.lacks
+  used-phase agent is = is.phase ∙ ap (λ (c : Cause). refused c is.lacks) (cause-used is.cause agent is.is)
+
+  pub first-used : (agent : ℕ) → IsRefusal (error.RunUsed agent) went.to → IsFirstWithRun went.to agent
+  first-used agent is = subst (λ (p : Phase). Shows p went.start went.to) (used-phase agent is) went.cause.shows
+
+  used-sure : (agent : ℕ) → IsRefusal (error.RunUsed agent) went.to → AreFiltersSure went.to
+  used-sure agent is = go went.sums.unbroken.filters
+    where
+      go : AreFiltersSure went.to ⊎ EndedByFilter went.start went.to → AreFiltersSure went.to
+      go (inl sure) = sure
+      go (inr h) = absurd (no-act-cause h.error h.v h.parcel h.old went.to h.cause agent h.fails.why
+          (same-cause h.cause (run_used agent) false is.lacks (sym h.fails.phase ∙ used-phase agent is)))
+
+  -- the file of its filter has an act of the run
+  pub record HasUsed (agent : ℕ) : Type 0 where
+    pub acts : List Act
+    pub holds : HoldsActs acts (mid.disk.reads agent)
+    pub has : Any (λ (act : Act). act.run ≡ run) acts
+
+  pub used : (agent : ℕ) → IsRefusal (error.RunUsed agent) went.to → HasUsed agent
+  used agent is =
+      let w = went.to in
+      let first : IsFirstWithRun w agent = first-used agent is in
+      let v = first.has.v in
+      let filter : IsFilter v (suc (agent - 1)) w.site = (used-sure agent is).filters.each (agent - 1) v first.has.there in
+      let low : 1 ≤ agent = first.low in
+      let same : v.agent ≡ agent = filter.of_agent ∙ omega (arith, low) in
+      let stands : HoldsActs v.acts (w.site.disk.reads v.agent) = (filter.ready.images filter.whole told-there (w.site.disk.reads v.agent) (sound-there.reads v.agent told-there)).0 in
+      record {
+        acts = v.acts;
+        holds = subst (λ (s : SiteView). HoldsActs v.acts (s.disk.reads agent)) went.to_is (subst (λ (n : ℕ). HoldsActs v.acts (w.site.disk.reads n)) same stands);
+        has = subst (λ (n : ℕ). Any (λ (act : Act). act.run ≡ n) v.acts) (went.sums.given.run ∙ went.begins.of_run) first.has.has;
+      }
