@@ -1,13 +1,14 @@
 #!/usr/bin/env python3
-"""Writes a playbook that is costly to check, of at most 1 MiB, to standard output.
+"""Writes a playbook that is long or costly to check, of at most 1 MiB, to standard output.
 
-usage: make_hostile.py arguments | nested | branches | plain [NUMBER]
+usage: make_hostile.py plain | arguments | nested | branches [NUMBER]
+  plain       4,096 steps, nearly all actions one after another
   arguments   playbook-actions with 64 different arguments each, at the end of a deep chain of control steps
   nested      4,096 steps, nearly all parallel steps, each in the region of the one before it
   branches    a chain of parallel steps with 64 equal branches each
-  plain       a chain of 4,000 actions
 NUMBER is that of the playbook, 1 if it is not given: playbooks with different numbers have different identifiers.
 """
+import collections
 import json
 import sys
 
@@ -17,14 +18,13 @@ def identifier(kind, number):
 
 
 START, END, AGENT = identifier("start", 1), identifier("end", 1), identifier("a", 1)
-BOOK = identifier("playbook", int(sys.argv[2]) if len(sys.argv) > 2 else 1)
 
 
-def playbook(steps, variables):
+def playbook(number, steps, variables):
     return {
         "type": "playbook",
         "spec_version": "cacao-2.0",
-        "id": BOOK,
+        "id": identifier("playbook", number),
         "name": "n",
         "created_by": identifier("identity", 1),
         "created": "2024-01-01T00:00:00Z",
@@ -74,17 +74,27 @@ def plain(count):
     steps = {START: {"type": "start", "on_completion": keys[0]}}
     for n in range(count):
         command = {"type": "openc2-http", "content": '{"a":"__x__:value"}'}
-        steps[keys[n]] = {"type": "action", "agent": AGENT, "commands": [command], "out_args": ["__y__"], "on_completion": keys[n + 1]}
+        taken = {"out_args": ["__y__"]} if n % 2 else {}
+        steps[keys[n]] = {"type": "action", "agent": AGENT, "commands": [command], **taken, "on_completion": keys[n + 1]}
     return steps
 
 
-MADE = {
-    "arguments": lambda: playbook(arguments(1500, 250), {}),
-    "nested": lambda: playbook(nested(4094), {}),
-    "branches": lambda: playbook(branches(280, 64), {}),
-    "plain": lambda: playbook(plain(4000), {"__x__": {"type": "string"}, "__y__": {"type": "string"}}),
+# What the playbooks of a kind are, the steps of the whole one or of a part of it, and the variables that they declare.
+Kind = collections.namedtuple("Kind", "what steps variables")
+KINDS = {
+    "plain": Kind("4,096 steps one after another", lambda part: plain(4094 // part), {"__x__": {"type": "string"}, "__y__": {"type": "string"}}),
+    "arguments": Kind("16,000 arguments below 1,500 control steps", lambda part: arguments(1500 // part, 250 // part), {}),
+    "nested": Kind("4,096 steps, each in the branch of the one before", lambda part: nested(4094 // part), {}),
+    "branches": Kind("280 steps of 64 equal branches", lambda part: branches(280 // part, 64), {}),
 }
 
-text = json.dumps(MADE[sys.argv[1]](), separators=(",", ":"))
-assert len(text) <= 1_048_576, len(text)
-print(text)
+
+def text(kind, number=1, part=1):
+    """The text of the playbook of a kind, with a number; with a half, a third and so on of the steps where `part` is 2, 3 and so on."""
+    made = json.dumps(playbook(number, KINDS[kind].steps(part), KINDS[kind].variables), separators=(",", ":"))
+    assert len(made) <= 1_048_576, len(made)
+    return made
+
+
+if __name__ == "__main__":
+    print(text(sys.argv[1], int(sys.argv[2]) if len(sys.argv) > 2 else 1))

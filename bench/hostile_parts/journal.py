@@ -191,3 +191,9 @@ def kinds(kept):
     """How many records there are of each kind, and how many acts."""
     told = [record(entry)["kind"] for entry in kept.engine]
     return {kind: told.count(kind) for kind in told}, sum(map(len, kept.filters.values()))
+
+
+def is_answered(kept):
+    """Whether each Send has its Reply, or its issue expired."""
+    told, _ = kinds(kept)
+    return told.get("send", 0) == told.get("reply", 0) + told.get("expire", 0)
