@@ -87,20 +87,6 @@ fn a_thousand_parentheses(rt: HostRuntime) -> Result<(), Fail> {
 }
 
 #[test]
-fn the_most_parentheses_of_a_condition(rt: HostRuntime) -> Result<(), Fail> {
-    let alloc = rt.alloc();
-    let text = nested(alloc, 1017, 1017)?;
-    let cond = read(alloc, text.as_str())?.ok_or("no condition")?;
-    let a = name(alloc, "__a__")?;
-    let mut values = Values::new(alloc);
-    values.push(&a, Atom::Whole(1))?;
-    assert!(rt; truth(&cond, &values));
-    assert_eq!(rt; names(alloc, &cond)?.as_slice().len(), 1);
-    assert_eq!(rt; print_cond(alloc, &cond)?.as_slice().len(), 2049);
-    Ok(())
-}
-
-#[test]
 fn printed_texts(rt: HostRuntime) -> Result<(), Fail> {
     let alloc = rt.alloc();
     let table = [
