@@ -1,5 +1,0 @@
-use Rattle.cacao_site.proofs.KeptLemmas.{AreThereUpTo}
-use Rattle.cacao_site.proofs.kept_files.KeptFiles.new.Given as goal
-
-abbrev pub invariant-loop-file : goal.invariant-loop-file
-invariant-loop-file l = AreThereUpTo l.starts l.kept l.file

@@ -1,7 +1,0 @@
--- Time goes on, and parcels that were held back become pending.
-use Rattle.std.proofs.Common.{arith, refl, rules}
-use Rattle.cacao_site.proofs.SiteLemmas.{reaches-from}
-use Rattle.cacao_site.proofs.memory_link.MemorySiteSite.reach.Goals as goal
-
-pub returns-clause-reaches : goal.returns-clause-reaches
-returns-clause-reaches c = reaches-from c.args.moment c.reach-now.result _ _ _ refl (omega arith) c.reach-now.ensures.now c.reach-now.ensures.asked c.reach-now.ensures.furthest c.reach-now.ensures.shorts c.reach-now.ensures.mishaps c.reach-now.ensures.unsaid (search rules) (search rules) (search rules) refl c.release.ensures.pending

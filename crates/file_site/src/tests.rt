@@ -1,0 +1,3 @@
+mod disks;
+mod links;
+mod shelves;

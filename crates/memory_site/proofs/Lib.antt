@@ -1,0 +1,12 @@
+pub mod Crashes
+pub mod EntryLemmas
+pub mod Held
+pub mod KeptLemmas
+pub mod LineLemmas
+pub mod Logged
+pub mod Overlays
+pub mod PageLemmas
+pub mod ParcelLemmas
+pub mod ReplayLemmas
+pub mod SiteLemmas
+pub mod Tears

@@ -1,0 +1,17 @@
+pub mod CallLog
+pub mod Crash
+pub mod Entries
+pub mod Images
+pub mod KeptFiles
+pub mod LogView
+pub mod MemoryShelf
+pub mod MemorySite
+pub mod MemorySound
+pub mod MemoryView
+pub mod Pages
+pub mod Parcels
+pub mod Plan
+pub mod Replay
+pub mod SaidLines
+pub mod SoundLemmas
+pub mod Weather
