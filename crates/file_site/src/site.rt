@@ -72,7 +72,7 @@ impl<'a, R: Files + Print> FileSite<'a, R> {
 impl<'a, R: Files + Print> Disk for FileSite<'a, R> {
     ghost use Rattle.cacao_site.specs.Clock.{clock_view};
     ghost use Rattle.file_site.specs.Untold.{untold_site};
-    ghost use Rattle.memory_site.specs.SoundLemmas.{untold-sound};
+    ghost use Rattle.file_site.specs.UntoldSound.{untold-sound};
 
     ghost view = { λ s. untold_site s.beat s.faults s.queue.items (clock_view s.clock) };
 

@@ -2,11 +2,11 @@
 use Rattle.std.proofs.Common.{◌≡◌, ◌≢◌, ℕ, ◌+◌, ◌<◌, ◌≤◌, max, Bool, true, false, if◌then◌else◌, List, [], ◌∷◌, ◌++◌, length, slice_index_or, refl, sym, ◌∙◌, ap, subst, arith, inl, inr}
 use Rattle.std.proofs.lemmas.Bool.{cases_eq}
 use Rattle.std.proofs.lemmas.List.{append-nil, drop_all}
-use Rattle.memory_site.specs.Images.{length-spliced, spliced-at}
+use Rattle.device_log.specs.Images.{length-spliced, spliced-at}
 use Rattle.memory_site.specs.KeptFiles.{length_of, is_whole, byte_of, Keeps, AreKept}
-use Rattle.memory_site.specs.Replay.{Call, looked, wrote, tried, flushed, FileState, at_rest, touch, spliced, byte_after, after, after_all, file_after}
+use Rattle.device_log.specs.Replay.{Call, looked, wrote, tried, flushed, FileState, at_rest, touch, spliced, byte_after, after, after_all, file_after}
 use Rattle.memory_site.specs.declared.kept_files.KeptFiles.{KeptFiles}
-use Rattle.memory_site.proofs.Logged.{after_all-push, after-wrote, on-wrote}
+use Rattle.device_log.proofs.Logged.{after_all-push, after-wrote, on-wrote}
 
 -- a file after a write
 pub keeps-written : (kept kept' : KeptFiles) (file at : ℕ) (bytes : List ℕ) → length_of kept' file ≡ max (length_of kept file) (at + length bytes)

@@ -2,9 +2,9 @@
 use Rattle.std.proofs.Common.{◌≡◌, ◌≢◌, ◌⊎◌, ℕ, zero, suc, ◌+◌, ◌-◌, ◌*◌, ◌%◌, ◌<◌, ◌≤◌, Bool, true, ◌==◌, ◌&&◌, List, [], ◌∷◌, ◌++◌, length, replicate, slice_set, get_or, refl, sym, ◌∙◌, ap, arith, inl, inr, length-append, append_assoc}
 use Rattle.std.proofs.lemmas.Bool.{and_parts, cases_eq, cases_lt, eqb-true}
 use Rattle.std.proofs.lemmas.List.{get_or-set_same, get_or-set_other, get_or_append_left, get_or-append_right, get_or-replicate, get_or_past, length-replicate, length-set, replicate-append-replicate}
-use Rattle.memory_site.specs.Images.{byte_after-inside, byte_after-outside, where_is}
+use Rattle.device_log.specs.Images.{byte_after-inside, byte_after-outside, where_is}
 use Rattle.memory_site.specs.Pages.{slot_of, byte_in, ArePages}
-use Rattle.memory_site.specs.Replay.{byte_after}
+use Rattle.device_log.specs.Replay.{byte_after}
 
 -- a byte is put into the page of a place
 module _ (table pages : List ℕ) (count file place page byte : ℕ) (p : ArePages table pages count) (at : page ≡ get_or table (slot_of file place) 0) (some : 0 < page) where

@@ -1,6 +1,6 @@
 -- What a crash leaves of a site in memory.
 use Rattle.std.specs.Prelude.{◌≡◌, ℕ, ◌<◌, List, [], length, IsTrue, slice_index_or}
-use Rattle.memory_site.specs.Replay.{Call, file_after, is_image}
+use Rattle.device_log.specs.Replay.{Call, file_after, is_image}
 
 -- the image that this choice picks of a file after these calls
 pub record IsPicked (starts : List (List ℕ)) (log : List Call) (choice file : ℕ) (image : List ℕ) : Type 0 where

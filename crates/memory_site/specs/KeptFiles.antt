@@ -1,7 +1,7 @@
 -- What is kept of the files of a site in memory.
 use Rattle.std.specs.Prelude.{ℕ, ◌≡◌, ◌≤◌, Bool, true, false, List, length, slice_index, slice_index_or}
 use Rattle.memory_site.specs.Pages.{byte_in}
-use Rattle.memory_site.specs.Replay.{Call, file_after}
+use Rattle.device_log.specs.Replay.{Call, file_after}
 use Rattle.memory_site.specs.declared.kept_files.KeptFiles.{KeptFiles}
 
 abbrev pub length_of : KeptFiles → ℕ → ℕ

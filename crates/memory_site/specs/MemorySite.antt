@@ -6,7 +6,7 @@ use Rattle.cacao_site.specs.Counts.{next_count}
 use Rattle.cacao_site.specs.LinkCalls.{Gains, GainsAll}
 use Rattle.memory_site.specs.MemoryView.{link_view, memory_view}
 use Rattle.memory_site.specs.Parcels.{all_marked_at, is_due, is_later}
-use Rattle.memory_site.specs.Replay.{file_after}
+use Rattle.device_log.specs.Replay.{file_after}
 use Rattle.cacao_site.specs.View.{SiteView}
 use Rattle.memory_site.specs.Weather.{arrivals, is_mishap, marks, room_of, weather_at}
 use Rattle.memory_site.specs.declared.site.MemorySite.{MemorySite}

@@ -3,10 +3,10 @@ use Rattle.std.proofs.Common.{◌≡◌, ℕ, ◌+◌, ◌-◌, ◌<◌, ◌≤�
 use Rattle.std.proofs.lemmas.List.{take_all, get_or-map, get_or_default, length-map}
 use Rattle.std.proofs.lemmas.List.Elements.{All-map}
 use Rattle.cacao_site.specs.Counts.{count_after}
-use Rattle.memory_site.specs.Images.{image-from, good-file}
+use Rattle.device_log.specs.Images.{image-from, good-file}
 use Rattle.memory_site.specs.MemoryView.{link_view, memory_view}
 use Rattle.memory_site.specs.Parcels.{AreNamed, marked_at, no_put, parcel_at}
-use Rattle.memory_site.specs.Replay.{Call, is_image, file_after}
+use Rattle.device_log.specs.Replay.{Call, is_image, file_after}
 use Rattle.cacao_site.specs.Sound.{IsInTime, IsSound, WasPut}
 use Rattle.cacao_site.specs.View.{ClockView}
 use Rattle.memory_site.specs.declared.link.Link.{Link}

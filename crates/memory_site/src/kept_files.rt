@@ -1,7 +1,7 @@
 // What the files of a site in memory read as at present.
 ghost use Rattle.std.specs.Prelude.{◌≡◌, ◌≢◌, ◌⊎◌, ℕ, List, ◌+◌, ◌*◌, ◌/◌, ◌^◌, ◌<◌, ◌≤◌, [], true, length, replicate, slice_index, vec_len, vec_capacity, IfOk};
 ghost use Rattle.memory_site.specs.Pages.{ArePages};
-ghost use Rattle.memory_site.specs.Replay.{byte_after, spliced};
+ghost use Rattle.device_log.specs.Replay.{byte_after, spliced};
 
 use crate::file_list::{FILES, FileList};
 use crate::room::add_zeros;

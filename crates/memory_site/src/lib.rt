@@ -2,21 +2,16 @@
 //! leave of it, a link with its weather, the lines said, and a clock.
 #![tactic(auto)]
 
-mod call_log;
-mod entry;
 mod file_list;
 mod kept_files;
-mod line;
 mod link;
 pub mod plan;
-mod replay;
 mod room;
 pub mod shelf;
 pub mod site;
 mod site_calls;
 mod site_crash;
 mod site_link;
-mod tear;
 #[cfg(test)]
 mod tests;
 

@@ -3,7 +3,7 @@ ghost use Rattle.std.specs.Prelude.{◌≡◌, ◌+◌, ◌-◌, ◌*◌, vec_le
 ghost use Rattle.cacao_site.specs.Counts.{next_count, count_after, last_count};
 ghost use Rattle.cacao_site.specs.DiskCalls.{CallsOn, StaysAt, KeepsDisk, Follows, Spreads, Same, Torn, Written, IsDurable};
 ghost use Rattle.cacao_site.specs.Clock.{clock_at};
-ghost use Rattle.memory_site.specs.Entries.{IsReadAt};
+ghost use Rattle.device_log.specs.Entries.{IsReadAt};
 ghost use Rattle.memory_site.specs.KeptFiles.{AreKept};
 ghost use Rattle.std.specs.VecDeque.{deque_len, deque_capacity};
 ghost use Rattle.memory_site.specs.MemoryView.{memory_view, no_link};
@@ -11,12 +11,12 @@ ghost use Rattle.memory_site.specs.Parcels.{AreNamed};
 ghost use Rattle.memory_site.specs.Plan.{fails_by};
 ghost use Rattle.cacao_site.specs.Sound.{IsInTime};
 
-use crate::call_log::CallLog;
 use crate::file_list::FileList;
 use crate::kept_files::KeptFiles;
 use crate::link::Link;
 use crate::plan::SitePlan;
 use cacao_site::{Clock, Parcel};
+use device_log::CallLog;
 use std::alloc::{AllocError, Global};
 
 /// A site that tells everything, at each past beat too, and fails exactly by its plan.

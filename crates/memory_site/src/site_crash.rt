@@ -8,13 +8,13 @@ ghost use Rattle.memory_site.specs.MemoryView.{link_view, memory_view};
 ghost use Rattle.memory_site.specs.Parcels.{all_marked_at, AreNamed};
 ghost use Rattle.cacao_site.specs.Sound.{IsInTime};
 
-use crate::call_log::CallLog;
 use crate::file_list::{FILES, FileList};
 use crate::kept_files::KeptFiles;
 use crate::link::Link;
 use crate::plan::SitePlan;
 use crate::site::MemorySite;
 use cacao_site::{Bytes, Clock};
+use device_log::CallLog;
 use std::alloc::{AllocError, Global};
 
 impl MemorySite {

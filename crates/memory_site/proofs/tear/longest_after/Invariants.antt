@@ -1,7 +1,0 @@
-use Rattle.std.proofs.Common.{◌≡◌}
-use Rattle.memory_site.specs.Replay.{at_rest}
-use Rattle.memory_site.proofs.ReplayLemmas.{file_at}
-use Rattle.memory_site.proofs.tear.longest_after.Given as goal
-
-abbrev pub invariant-loop-entry : goal.invariant-loop-entry
-invariant-loop-entry l = l.longest ≡ (file_at l.file (at_rest l.synced) l.bytes l.entries l.entry-index).longest
