@@ -1,6 +1,6 @@
 -- A rehearsal answers none of the statuses that tell what files held before.
 use Rattle.std.proofs.Common.{◌≡◌, ◌⊎◌, inl, inr, refl, sym, subst, arith, ℕ, Option, Some, None}
-use Rattle.cacao_site.specs.MemorySite.{view_of}
+use Rattle.memory_site.specs.MemorySite.{view_of}
 use Rattle.cacao_site.specs.View.{SiteView}
 use Rattle.cacao_cli.specs.Asked.{Asked, canonises, checks, runs, shows, lists_rules, decides, shadows, rehearses, audits}
 use Rattle.cacao_cli.specs.Ended.{Ended}

@@ -4,9 +4,9 @@ use Rattle.std.specs.Prelude.{nat_eq}
 use Rattle.std.specs.List.{list_any}
 use Rattle.std.proofs.lemmas.Bool.{true≢false}
 use Rattle.cacao_site.specs.Counts.{Rose, next_count}
-use Rattle.cacao_site.specs.MemorySite.{view_of}
+use Rattle.memory_site.specs.MemorySite.{view_of}
 use Rattle.cacao_site.specs.View.{SiteView}
-use Rattle.cacao_site.specs.declared.memory_site.MemorySite.{MemorySite}
+use Rattle.memory_site.specs.declared.site.MemorySite.{MemorySite}
 use Rattle.flow_core.specs.declared.setup_errors.SetupError.TheVariants as setup_error
 use Rattle.flow_rules.specs.Givens.{Given}
 use Rattle.flow_world.specs.declared.close.Close.{Close}

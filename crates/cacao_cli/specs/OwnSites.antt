@@ -1,7 +1,7 @@
 -- The site of its own on which a rehearsal runs: which statuses may come of it, and which of its counts rose.
 use Rattle.std.specs.Prelude.{ℕ, List, [], ◌∷◌, Option, Some, ⊤}
 use Rattle.cacao_site.specs.Counts.{Rose}
-use Rattle.cacao_site.specs.MemorySite.{view_of}
+use Rattle.memory_site.specs.MemorySite.{view_of}
 use Rattle.cacao_site.specs.View.{SiteView}
 use Rattle.cacao_cli.specs.Asked.{Asked, rehearses}
 use Rattle.cacao_cli.specs.Ends.{End}

@@ -1,8 +1,8 @@
 -- What is told of a rehearsal.
 use Rattle.std.specs.Prelude.{◌≡◌, ◌⊎◌, ◌<◌, ◌≤◌, ℕ, [], ◌∷◌, length, ⊤}
-use Rattle.cacao_site.specs.MemorySite.{view_of}
+use Rattle.memory_site.specs.MemorySite.{view_of}
 use Rattle.cacao_site.specs.View.{SiteView}
-use Rattle.cacao_site.specs.declared.memory_site.MemorySite.{MemorySite}
+use Rattle.memory_site.specs.declared.site.MemorySite.{MemorySite}
 use Rattle.cacao_check.specs.declared.breaks.Break.{Break}
 use Rattle.flow_core.specs.SetupReading.{BreaksRule}
 use Rattle.flow_rules.specs.Givens.{Given}

@@ -6,7 +6,7 @@ mod runs;
 mod sessions;
 
 use crate::top;
-use cacao_site::{CallList, MemoryShelf, MemorySite, SitePlan, WeatherList};
+use memory_site::{CallList, MemoryShelf, MemorySite, SitePlan, WeatherList};
 use std::alloc::{AllocError, Global};
 use std::test::Fail;
 

@@ -5,8 +5,9 @@ use crate::books::{DENY, OTHER, setup};
 use crate::calls::{expire, open, reply, reply_of, send, start, step, upgrade};
 use crate::lives::begin_and_move;
 use crate::plans::plan;
-use cacao_site::{Disk, MemorySite, Site};
+use cacao_site::{Disk, Site};
 use flow_engine::{Engine, EngineError};
+use memory_site::MemorySite;
 use std::alloc::{AllocError, Global};
 use std::io;
 

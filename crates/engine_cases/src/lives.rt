@@ -6,8 +6,9 @@ use crate::books::{DENY, setup};
 use crate::calls::{expire, open, reply, reply_of, send, start, step};
 use crate::plans::plan;
 use crate::says::{say_answer, say_lines, say_next, say_no_setup, say_refusal};
-use cacao_site::{MemorySite, Parcel, Site};
+use cacao_site::{Parcel, Site};
 use flow_engine::{Engine, EngineError};
+use memory_site::MemorySite;
 use std::io;
 
 /// Appends the Begin and all moves at a moment, at most 100.

@@ -6,7 +6,8 @@ use crate::calls::open;
 use crate::lives::begin_and_move;
 use crate::plans::plan;
 use crate::says::{say_answer, say_lines, say_no_setup, say_refusal};
-use cacao_site::{Disk, MemorySite, Site};
+use cacao_site::{Disk, Site};
+use memory_site::MemorySite;
 use std::alloc::{AllocError, Global};
 use std::io;
 

@@ -1,5 +1,5 @@
 // Sites in memory.
-use cacao_site::{CallList, SitePlan, WeatherList};
+use memory_site::{CallList, SitePlan, WeatherList};
 use std::alloc::Global;
 
 /// A plan with ample room, in which the device calls of these numbers fail.

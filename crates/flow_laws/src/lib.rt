@@ -2,15 +2,10 @@
 //! definitions stand in `specs/`; here are the laws. A law is the contract of a function that does nothing.
 #![tactic(auto)]
 
-ghost use Rattle.std.specs.Prelude.{IfOk};
-ghost use Rattle.cacao_site.specs.MemorySite.{view_of};
 ghost use Rattle.flow_laws.specs.Beats.{ImagesShrink, RecordIsGained, ActIsGained};
 ghost use Rattle.flow_laws.specs.Beats.{CommandIsPut, ForeignIsPut, ReplyIsPut, LineIsSaid};
 ghost use Rattle.flow_laws.specs.Sessions.{BeginsOnBlankFiles, GoesOnAfterACrash, BeginsAnew};
-ghost use Rattle.flow_laws.specs.Sessions.{CrashesAreRestarts, IsRestart, SessionPutsArePast};
-
-use cacao_site::MemorySite;
-use std::alloc::AllocError;
+ghost use Rattle.flow_laws.specs.Sessions.{CrashesAreRestarts, SessionPutsArePast};
 
 /// Agreement is kept from beat to beat, for all sites and beats: where images only shrink, where the journal gains a record or a
 /// filter's file an act, where a command or a reply is put, also a command of another run over the same link, and where a
@@ -34,11 +29,3 @@ pub fn sessions_law()
     ensures crash { CrashesAreRestarts }
     ensures session_puts { SessionPutsArePast }
 {}
-
-/// The site after a crash at this moment, where `choice` picks what each file then holds: `MemorySite::crash`. It is one where a
-/// session may go on.
-pub fn crash(site: MemorySite, choice: u64) -> Result<MemorySite, AllocError>
-    ensures restart { IfOk result (λ left. IsRestart (view_of site) (view_of site).disk.beat (view_of left)) }
-{
-    site.crash(choice)
-}

@@ -1,6 +1,7 @@
 // The program with the shelf and the site that it is called on.
 use cacao_cli::top;
-use cacao_site::{CallList, Disk, MemoryShelf, MemorySite, Parcel, SitePlan, WeatherList};
+use cacao_site::{Disk, Parcel};
+use memory_site::{CallList, MemoryShelf, MemorySite, SitePlan, WeatherList};
 use session_plays::{Outside, spelled_out};
 use std::alloc::{AllocError, Global};
 use std::str::from_utf8;

@@ -3,13 +3,13 @@ use Rattle.std.proofs.Common.{◌≡◌, ◌⊎◌, inl, inr, refl, sym, ◌∙�
 use Rattle.std.specs.Prelude.{IsTrue, Any, Some, Result, Ok, Err, IfErr, slice_get, slice_index_or}
 use Rattle.cacao_site.specs.Clock.{clock_at}
 use Rattle.cacao_site.specs.DiskCalls.{IsLeft}
-use Rattle.cacao_site.specs.Images.{rest-image}
-use Rattle.cacao_site.specs.MemorySite.{view_of}
-use Rattle.cacao_site.specs.MemoryView.{memory_view, no_link}
-use Rattle.cacao_site.specs.Replay.{Call, after_all, at_rest, file_after, is_image}
+use Rattle.device_log.specs.Images.{rest-image}
+use Rattle.memory_site.specs.MemorySite.{view_of}
+use Rattle.memory_site.specs.MemoryView.{memory_view, no_link}
+use Rattle.device_log.specs.Replay.{Call, after_all, at_rest, file_after, is_image}
 use Rattle.cacao_site.specs.Sound.{IsSound}
 use Rattle.cacao_site.specs.View.{SiteView}
-use Rattle.cacao_site.specs.declared.memory_site.MemorySite.{MemorySite}
+use Rattle.memory_site.specs.declared.site.MemorySite.{MemorySite}
 use Rattle.run_journal.specs.Layout.{Stands}
 use Rattle.run_journal.proofs.LayoutLaws.{one_list}
 use Rattle.run_records.specs.declared.act.Act.{Act}

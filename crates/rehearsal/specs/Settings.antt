@@ -1,10 +1,10 @@
 -- What a session of a rehearsal is given.
 use Rattle.std.specs.Prelude.{◌≡◌, ℕ, List, [], ◌∷◌, ⊤}
 use Rattle.cacao_site.specs.Clock.{clock_at}
-use Rattle.cacao_site.specs.MemorySite.{plan_of, view_of}
-use Rattle.cacao_site.specs.MemoryView.{memory_view, no_link}
-use Rattle.cacao_site.specs.declared.memory_site.MemorySite.{MemorySite}
-use Rattle.cacao_site.specs.declared.plan.SitePlan.{SitePlan}
+use Rattle.memory_site.specs.MemorySite.{plan_of, view_of}
+use Rattle.memory_site.specs.MemoryView.{memory_view, no_link}
+use Rattle.memory_site.specs.declared.site.MemorySite.{MemorySite}
+use Rattle.memory_site.specs.declared.plan.SitePlan.{SitePlan}
 use Rattle.cacao_check.specs.Fits.{FitsKind}
 use Rattle.flow_rules.specs.Accepted.{Accepted}
 use Rattle.flow_rules.specs.Givens.{Given}

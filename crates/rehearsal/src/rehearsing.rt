@@ -1,6 +1,6 @@
 // One rehearsal.
 ghost use Rattle.std.specs.Prelude.{◌≡◌, IfOk, IfErr};
-ghost use Rattle.cacao_site.specs.MemorySite.{view_of};
+ghost use Rattle.memory_site.specs.MemorySite.{view_of};
 ghost use Rattle.rehearsal.specs.NewSites.{MayComeOfNew};
 ghost use Rattle.rehearsal.specs.Settings.{IsNewSite};
 ghost use Rattle.rehearsal.specs.Rehearsals.{FailsToRehearse, FailsToRun, Rehearsed, RunsWell, is_well};
@@ -10,9 +10,9 @@ use crate::counting::{CountError, count};
 use crate::error::RehearsalError;
 use crate::setting::{no_answers, read_setup};
 use crate::summary::Summary;
-use cacao_site::MemorySite;
 use flow_core::Setup;
 use flow_world::{Close, session};
+use memory_site::MemorySite;
 use std::alloc::Global;
 
 /// The number of the run.

@@ -5,9 +5,10 @@ ghost use Rattle.flow_core.specs.Setups.{IsReadable};
 ghost use Rattle.rehearsal.specs.Settings.{IsAccepted, IsNewSite, RefusesText};
 
 use crate::error::RehearsalError;
-use cacao_site::{Bytes, CallList, MemorySite, SitePlan, WeatherList};
+use cacao_site::Bytes;
 use flow_core::{Setup, SetupError};
 use flow_engine::{AnswerError, Answers, read_answers};
+use memory_site::{CallList, MemorySite, SitePlan, WeatherList};
 use std::alloc::{AllocError, Global};
 
 /// The text of no bindings.

@@ -14,8 +14,6 @@ mod opening;
 mod prepare;
 mod reader;
 mod store;
-#[cfg(test)]
-mod tests;
 
 pub use entries::{Entries, Entry};
 pub use error::{ImageError, JournalError};

@@ -1,5 +1,5 @@
 // What is outside the engine and the filters.
-use cacao_site::{CallList, SitePlan, Weather, WeatherList};
+use memory_site::{CallList, SitePlan, Weather, WeatherList};
 use std::alloc::{AllocError, Global};
 
 /// A moment that no session of a playbook with few steps comes to, in milliseconds.

@@ -1,10 +1,11 @@
 // A site on which sessions are played.
 use crate::books::{Book, cut, setup};
 use crate::outside::{Outside, plan};
-use cacao_site::{Bytes, Disk, MemorySite, Parcel};
+use cacao_site::{Bytes, Disk, Parcel};
 use flow_core::Setup;
 use flow_engine::{Answers, read_answers};
 use flow_world::{Close, WorldError, session};
+use memory_site::MemorySite;
 use slpf_actuator::Actuator;
 use std::alloc::{AllocError, Global};
 use std::str::from_utf8;

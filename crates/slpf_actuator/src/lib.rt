@@ -11,8 +11,6 @@ mod index;
 mod keeping;
 mod laws;
 mod opening;
-#[cfg(test)]
-mod tests;
 
 pub use actuator::Actuator;
 pub use error::ActError;

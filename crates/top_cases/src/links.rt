@@ -1,7 +1,7 @@
 // Parcels that are lost, doubled or held back, and a clock that stops.
 use crate::books::{BLOCK, ONE, SECOND};
 use crate::says::{say, say_commands};
-use cacao_site::Weather;
+use memory_site::Weather;
 use program_plays::Program;
 use session_plays::{Outside, fair};
 use std::io;

@@ -1,7 +1,7 @@
 // Questions to operators, and what they answer.
 use crate::books::{ASK, BLOCK};
 use crate::says::say;
-use cacao_site::Weather;
+use memory_site::Weather;
 use program_plays::Program;
 use session_plays::{Outside, fair};
 use std::io;

@@ -1,6 +1,6 @@
 // Whole sessions over good and bad links and clocks.
 use crate::says::{say, say_held, say_left, say_next, say_parcels, say_size};
-use cacao_site::Weather;
+use memory_site::Weather;
 use session_plays::{Book, LATE, Outside, Play, fair, whole};
 use std::io;
 

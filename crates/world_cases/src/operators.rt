@@ -1,6 +1,6 @@
 // Sessions with operators.
 use crate::says::{say, say_left, say_next};
-use cacao_site::Weather;
+use memory_site::Weather;
 use session_plays::{Asked, Book, Outside, Play, fair, whole};
 use std::io;
 

@@ -1,6 +1,6 @@
 // Each weather of three parcels.
-use cacao_site::Weather;
 use flow_world::Close;
+use memory_site::Weather;
 use session_plays::{Book, Came, Outside, Play, fair, whole};
 use std::alloc::{AllocError, Global};
 use std::io;

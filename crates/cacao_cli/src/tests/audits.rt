@@ -1,7 +1,7 @@
 // Whether the files of a run agree, made by the formats in `docs/FORMATS.md`.
 use super::answer;
 use super::filters::ONE_ACT;
-use cacao_site::MemoryShelf;
+use memory_site::MemoryShelf;
 use std::alloc::{AllocError, Global};
 use std::test::Fail;
 

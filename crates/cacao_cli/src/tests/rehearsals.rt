@@ -1,7 +1,7 @@
 // Rehearsals, each on a site of its own.
 use super::{answer, site};
 use crate::top;
-use cacao_site::MemoryShelf;
+use memory_site::MemoryShelf;
 use std::test::Fail;
 
 /// The site that is handed in has the one line, and no file or parcel.

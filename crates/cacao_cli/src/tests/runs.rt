@@ -3,7 +3,8 @@ ghost use Rattle.std.specs.Prelude.{◌≤◌, length};
 
 use super::said;
 use crate::top;
-use cacao_site::{CallList, Disk, MemoryShelf, MemorySite, SitePlan, WeatherList};
+use cacao_site::Disk;
+use memory_site::{CallList, MemoryShelf, MemorySite, SitePlan, WeatherList};
 use std::alloc::{AllocError, Global};
 use std::test::Fail;
 

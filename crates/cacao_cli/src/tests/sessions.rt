@@ -1,6 +1,6 @@
 // Runs of playbooks from their files to their ends.
 use crate::top;
-use cacao_site::{CallList, MemoryShelf, MemorySite, SitePlan, WeatherList};
+use memory_site::{CallList, MemoryShelf, MemorySite, SitePlan, WeatherList};
 use std::alloc::{AllocError, Global};
 use std::test::Fail;
 

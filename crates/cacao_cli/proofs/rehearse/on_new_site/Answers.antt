@@ -1,6 +1,6 @@
 -- The rehearsal has a summary, or the end says why it has none.
 use Rattle.std.proofs.Common.{sym, subst}
-use Rattle.cacao_site.specs.MemorySite.{view_of}
+use Rattle.memory_site.specs.MemorySite.{view_of}
 use Rattle.cacao_cli.specs.Ends.{End}
 use Rattle.cacao_cli.specs.Rehearsing.{TellsRehearsal}
 use Rattle.cacao_cli.proofs.RehearseLemmas.{has-failed, has-summary}

@@ -1,7 +1,7 @@
 use Rattle.std.proofs.Common.{arith}
 use Rattle.std.specs.Prelude.{Err}
-use Rattle.cacao_site.specs.MemorySite.{view_of}
-use Rattle.cacao_site.specs.MemorySound.{site-sound}
+use Rattle.memory_site.specs.MemorySite.{view_of}
+use Rattle.memory_site.specs.MemorySound.{site-sound}
 use Rattle.rehearsal.proofs.Blank.{comes_of_new}
 use Rattle.rehearsal.proofs.Running.{fails_then, not_read, runs_then}
 use Rattle.rehearsal.proofs.rehearsing.rehearse.Goals as goal

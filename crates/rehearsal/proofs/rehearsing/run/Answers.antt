@@ -1,6 +1,6 @@
 use Rattle.std.proofs.Common.{◌∙◌, sym, ap}
 use Rattle.std.specs.Prelude.{Err}
-use Rattle.cacao_site.specs.MemorySite.{view_of}
+use Rattle.memory_site.specs.MemorySite.{view_of}
 use Rattle.rehearsal.proofs.Running.{all_held, closes_otherwise, fails_to_count, refuses, run_held, runs_well}
 use Rattle.rehearsal.proofs.rehearsing.run.Goals as goal
 

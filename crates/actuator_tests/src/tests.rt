@@ -2,8 +2,9 @@
 ghost use Rattle.std.specs.Prelude.{◌≡◌, ◌≤◌, false, IfOk, length};
 ghost use Rattle.slpf_actuator.specs.ActuatorView.{ActuatorView, IsReady};
 
-use crate::{ActError, Actuator};
-use cacao_site::{Bytes, CallList, Disk, MemorySite, Parcel, Site, SitePlan, WeatherList};
+use cacao_site::{Bytes, Disk, Parcel, Site};
+use memory_site::{CallList, MemorySite, SitePlan, WeatherList};
+use slpf_actuator::{ActError, Actuator};
 use std::alloc::{AllocError, Global};
 use std::process::Abort;
 use std::test::Fail;

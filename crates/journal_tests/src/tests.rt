@@ -3,15 +3,10 @@ ghost use Rattle.cacao_site.specs.DiskCalls.{AllLeft};
 ghost use Rattle.run_journal.specs.JournalView.{JournalView};
 ghost use Rattle.run_journal.specs.Layout.{Stands};
 
-use crate::{ImageError, Journal, JournalError, read_image};
-use cacao_site::{Bytes, CallList, Disk, Failed, MemorySite, SitePlan, WeatherList};
+use cacao_site::{Bytes, Disk};
+use memory_site::{CallList, MemorySite, SitePlan, WeatherList};
+use run_journal::{ImageError, Journal, JournalError, read_image};
 use std::alloc::{AllocError, Global};
-
-impl From<Failed> for JournalError {
-    fn from(_failed: Failed) -> JournalError {
-        JournalError::Disk
-    }
-}
 
 fn plan(alloc: Global, failing: Vec<u32>) -> SitePlan {
     SitePlan {
@@ -28,7 +23,10 @@ fn plan(alloc: Global, failing: Vec<u32>) -> SitePlan {
 fn site_with(alloc: Global, bytes: &[u8]) -> Result<MemorySite, JournalError> {
     let mut site = MemorySite::new(alloc, plan(alloc, Vec::new(alloc)))?;
     if bytes.len() <= 10_000 {
-        site.write(0, 0, bytes)?;
+        let written = site.write(0, 0, bytes);
+        if written.is_err() {
+            return Err(JournalError::Disk);
+        }
     }
     Ok(site)
 }
@@ -185,8 +183,8 @@ fn an_append_is_whole_or_absent_after_a_crash(rt: HostRuntime) -> Result<(), Jou
     );
     let mut site = site.crash(1)?;
     let mut block = [0u8; 20];
-    let count = site.read(0, 0, &mut block)? as usize;
-    assert!(rt; count == 16 && block.starts_with(b"CACAOJ1\n\x01\0\0\0\x02AB\0"));
+    assert!(rt; site.read(0, 0, &mut block) == Ok(16));
+    assert!(rt; block.starts_with(b"CACAOJ1\n\x01\0\0\0\x02AB\0"));
     Ok(())
 }
 

@@ -1,0 +1,17 @@
+//! A crash of a site in memory leaves a site where a session may go on.
+#![tactic(auto)]
+
+ghost use Rattle.std.specs.Prelude.{IfOk};
+ghost use Rattle.memory_site.specs.MemorySite.{view_of};
+ghost use Rattle.flow_laws.specs.Sessions.{IsRestart};
+
+use memory_site::MemorySite;
+use std::alloc::AllocError;
+
+/// The site after a crash at this moment, where `choice` picks what each file then holds: `MemorySite::crash`. It is one where a
+/// session may go on.
+pub fn crash(site: MemorySite, choice: u64) -> Result<MemorySite, AllocError>
+    ensures restart { IfOk result (λ left. IsRestart (view_of site) (view_of site).disk.beat (view_of left)) }
+{
+    site.crash(choice)
+}
