@@ -119,6 +119,25 @@ fn an_entry_may_cross_blocks(rt: HostRuntime) -> Result<(), JournalError> {
     Ok(())
 }
 
+#[test]
+fn an_entry_may_have_many_blocks(rt: HostRuntime) -> Result<(), JournalError> {
+    let alloc = rt.alloc();
+    let mut bytes = Vec::from_slice(alloc, b"CACAOJ1\n\x01\0\0\x23\x28".as_slice())?;
+    bytes.resize(9_013, 7)?;
+    bytes.extend_from_slice(b"\x01\0\0\0\x02AB\0".as_slice())?;
+    assert!(rt; bytes.len() == 9_021);
+    for (length, want) in [
+        (9_021, Ok(2)),
+        (9_014, Err(JournalError::Damaged { place: 9_013 })),
+        (9_013, Err(JournalError::Damaged { place: 9_013 })),
+        (9_012, Err(JournalError::Damaged { place: 8 })),
+    ] {
+        bytes.truncate(length);
+        assert!(rt; count(alloc, bytes.as_slice()) == want);
+    }
+    Ok(())
+}
+
 /// Opens file 0 and appends one entry, where the file has none.
 fn append_one<D: Disk>(alloc: Global, disk: &mut D, item: Bytes) -> Result<u32, JournalError>
     requires { length item ≤ 100 }

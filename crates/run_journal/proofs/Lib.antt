@@ -1,4 +1,6 @@
 pub mod BlockLemmas
+pub mod TakeLemmas
+pub mod OpenLemmas
 pub mod EntryLemmas
 pub mod Headers
 pub mod LayoutLaws

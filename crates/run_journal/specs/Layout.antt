@@ -83,6 +83,11 @@ pub record Entries (bytes : List ℕ) (items : List (List ℕ)) (rest : List ℕ
   pub short : All IsEntry items
   pub is : bytes ≡ entries items ++ rest
 
+-- the header and these whole entries, and then this
+pub record Begins (image : List ℕ) (items : List (List ℕ)) (rest : List ℕ) : Type 0 where
+  pub short : All IsEntry items
+  pub is : image ≡ front items ++ rest
+
 -- whole entries, and then no whole entry and no closed gate
 pub record BreaksAt (image : List ℕ) (place : ℕ) : Type 0 where
   pub items : List (List ℕ)

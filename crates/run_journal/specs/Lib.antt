@@ -1,3 +1,4 @@
+pub mod Blocks
 pub mod Durable
 pub mod Image
 pub mod Journal

@@ -14,6 +14,7 @@ mod opening;
 mod prepare;
 mod reader;
 mod store;
+mod taking;
 
 pub use entries::{Entries, Entry};
 pub use error::{ImageError, JournalError};

@@ -48,7 +48,7 @@ pub fn items_of(alloc: Global, entries: Vec<Entry>) -> Result<Vec<Bytes>, AllocE
 }
 
 /// The first byte that differs from the header.
-fn header_break(image: &[u8]) -> Option<u64>
+pub fn header_break(image: &[u8]) -> Option<u64>
     requires { 8 < length image.now }
     ensures differs { IfSome result (λ place. (place < 8) × (take place image.now ≡ take place header)
         × (slice_index image.now place ≢ slice_index header place)) }
@@ -64,14 +64,14 @@ fn header_break(image: &[u8]) -> Option<u64>
 
 /// Whole entries, what stands behind them, and whether that is no closed gate.
 #[derive(Drop)]
-struct Split<'a> {
-    entries: Vec<Entry>,
-    rest: &'a [u8],
-    broken: bool,
+pub struct Split<'a> {
+    pub entries: Vec<Entry>,
+    pub rest: &'a [u8],
+    pub broken: bool,
 }
 
 /// Reads whole entries behind the header, up to the first that is none.
-fn read_entries<'a>(alloc: Global, bytes: &'a [u8]) -> Result<Split<'a>, AllocError>
+pub fn read_entries<'a>(alloc: Global, bytes: &'a [u8]) -> Result<Split<'a>, AllocError>
     requires { length bytes.now ≤ 67_108_864 }
     ensures entries { IfOk result (λ split. Entries bytes.now (bytes_of split.entries.items) split.rest.now) }
     ensures placed { IfOk result (λ split. ArePlaced split.entries.items) }
@@ -100,7 +100,7 @@ fn read_entries<'a>(alloc: Global, bytes: &'a [u8]) -> Result<Split<'a>, AllocEr
 }
 
 /// The first entry and what stands behind it, if one stands whole at the front.
-fn split_entry<'a>(bytes: &'a [u8]) -> Option<(&'a [u8], &'a [u8])>
+pub fn split_entry<'a>(bytes: &'a [u8]) -> Option<(&'a [u8], &'a [u8])>
     ensures entry { IfSome result (λ both. (length both.0.now ≤ most_entry)
         × (bytes.now ≡ 1 ∷ length_field (length both.0.now) ++ both.0.now ++ both.1.now)) }
     ensures none { IfNone result ((rest : List ℕ) → bytes.now ≡ 1 ∷ rest → IsBroken bytes.now) }
