@@ -1,8 +1,12 @@
 -- What is counted of a text and of its data: colons outside strings, members, numbers.
 use Rattle.std.specs.Prelude.{◌≡◌, ◌-◌, length, Result, Ok, Err, ℕ, suc, Option, Some, None, option_map, ◌+◌, ◌==◌, List, [], ◌∷◌, ◌++◌, Bool, false, nat_le, negsuc, pos, if◌then◌else◌}
 use Rattle.serde_json.specs.Data.{Num, unsigned, negative, float, Data, null, boolean, number, string, array, object, Items, no_items, item, Members, no_members, member}
-use Rattle.cacao_json.specs.declared.count.Position.{Position}
-use Rattle.cacao_json.specs.declared.count.Position.TheVariants.{Outside, Inside, Escaped}
+
+-- where the next byte of a text stands: outside strings, in one, or in one behind a backslash
+pub data Position : Type 0 where
+  Outside : Position
+  Inside : Position
+  Escaped : Position
 
 -- Where the byte after this one stands. A string begins at a quotation mark outside a string. In it a backslash
 -- takes the next byte along, and the next quotation mark ends it.

@@ -1,34 +1,12 @@
 // The counts that tell a repeated name. A count starts at what the text holds at most and goes down, one for each
 // thing that is met, so that no sum of the counts of parts has to be bounded: the colons for the members here, and in
 // `whole.rt` the bytes for the numbers.
-ghost use Rattle.std.specs.Prelude.{◌≡◌, ◌-◌, ◌≤◌, length};
-ghost use Rattle.cacao_json.specs.Counts.{next_position, colons, members, members_of_items, members_of_pairs};
+ghost use Rattle.std.specs.Prelude.{◌≡◌, ◌+◌, ◌-◌, ◌<◌, ◌≤◌, length, drop, get_or};
+ghost use Rattle.cacao_json.specs.Counts.{Outside, Inside, colon_at, colons_from, colons, members, members_of_items, members_of_pairs};
 ghost use Rattle.serde_json.specs.View.{view, items_view, members_view};
 
+use memchr::memchr2;
 use serde_json::{Map, Value};
-
-/// Where the next byte of a text stands.
-#[derive(Clone, Copy, PartialEq, Eq)]
-pub enum Position {
-    /// Outside strings.
-    Outside,
-    /// In a string.
-    Inside,
-    /// In a string, behind a backslash, which takes that byte along.
-    Escaped,
-}
-
-fn next_position(position: Position, byte: u8) -> Position
-    ensures { result ≡ next_position position byte }
-{
-    match position {
-        Position::Outside if byte == b'"' => Position::Inside,
-        Position::Outside => Position::Outside,
-        Position::Inside if byte == b'"' => Position::Outside,
-        Position::Inside if byte == b'\\' => Position::Escaped,
-        Position::Inside | Position::Escaped => Position::Inside,
-    }
-}
 
 /// The colons outside strings.
 pub(crate) fn count_colons(bytes: &[u8]) -> usize
@@ -36,14 +14,51 @@ pub(crate) fn count_colons(bytes: &[u8]) -> usize
     ensures bound { result ≤ length bytes.now }
 {
     let mut count = 0usize;
-    let mut position = Position::Outside;
-    for byte in bytes {
-        if position == Position::Outside && *byte == b':' {
+    let mut place = 0usize;
+    while place < bytes.len() {
+        if bytes[place] == b':' {
             count += 1;
         }
-        position = next_position(position, *byte);
+        place = next_outside(bytes, place);
     }
     count
+}
+
+/// The next place outside strings, or the end.
+fn next_outside(bytes: &[u8], place: usize) -> usize
+    requires { place < length bytes.now }
+    ensures value { colons_from Outside (drop place bytes.now)
+        ≡ colon_at Outside (get_or bytes.now place 0) + colons_from Outside (drop result bytes.now) }
+    ensures later { place < result }
+    ensures bound { result ≤ length bytes.now }
+{
+    if bytes[place] == b'"' {
+        string_end(bytes, place + 1)
+    } else {
+        place + 1
+    }
+}
+
+/// The place behind the string that has begun, or the end. A string's bytes are passed over many at a time.
+fn string_end(bytes: &[u8], begun: usize) -> usize
+    requires { begun ≤ length bytes.now }
+    ensures value { colons_from Inside (drop begun bytes.now) ≡ colons_from Outside (drop result bytes.now) }
+    ensures later { begun ≤ result }
+    ensures bound { result ≤ length bytes.now }
+{
+    let mut place = begun;
+    while let Some(plain) = memchr2(b'"', b'\\', &bytes[place..]) {
+        let stop = place + plain;
+        if bytes[stop] == b'"' {
+            return stop + 1;
+        }
+        // A backslash takes the next byte along.
+        if bytes.len() - stop == 1 {
+            return bytes.len();
+        }
+        place = stop + 2;
+    }
+    bytes.len()
 }
 
 /// What is left of the count when one is taken for each member at all levels of the value.

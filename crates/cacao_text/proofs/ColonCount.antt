@@ -4,9 +4,7 @@ use Rattle.std.specs.Prelude.{flat_map, if◌then◌else◌}
 use Rattle.std.proofs.lemmas.Bool.{and_parts, cases_eq, cases_lt, ne_eqb}
 use Rattle.json.proofs.Printed.Strings.{escape_byte_plain}
 use Rattle.serde_json.specs.Data.{Data, null, boolean, number, string, array, object, Items, no_items, item, Members, no_members, member}
-use Rattle.cacao_json.specs.Counts.{next_position, colons_from, colons, members, members_of_items, members_of_pairs}
-use Rattle.cacao_json.specs.declared.count.Position.{Position}
-use Rattle.cacao_json.specs.declared.count.Position.TheVariants.{Outside, Inside, Escaped}
+use Rattle.cacao_json.specs.Counts.{Position, Outside, Inside, Escaped, next_position, colons_from, colons, members, members_of_items, members_of_pairs}
 use Rattle.cacao_json.specs.Profile.{IsFormed, AreFormed, AreFormedMembers}
 use Rattle.cacao_text.specs.Canon.{escaped, string_text, in_order, after_commas, joined, member_text, canon, item_texts, named_texts}
 use Rattle.cacao_text.proofs.Sorting.{Each, Each-in_order, total, total-in_order}

@@ -1,5 +1,7 @@
 // Texts of RFC 8785 and of other programs, beside their canonical text.
-use crate::{Bytes2, canonical, canonical_book, canonical_law, canonical_string};
+use crate::{
+    Bytes2, canonical, canonical_book, canonical_book_with_room, canonical_law, canonical_string,
+};
 use cacao_json::{JsonError, Tree, read_tree};
 use std::alloc::Global;
 use std::process::Abort;
@@ -102,6 +104,8 @@ fn books_without_signatures(rt: HostRuntime) -> Result<(), Fail> {
             found.into_vec().as_slice() == unsigned.as_bytes(),
             "{text}"
         );
+        let again = canonical_book_with_room(alloc, &tree, text.len())?;
+        assert!(rt; again.as_slice() == unsigned.as_bytes(), "{text} again");
     }
     Ok(())
 }

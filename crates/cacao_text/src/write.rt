@@ -24,7 +24,19 @@ pub fn canonical(alloc: Global, tree: &Tree) -> Result<Bytes2, AllocError>
 pub fn canonical_book(alloc: Global, tree: &Tree) -> Result<Bytes2, AllocError>
     ensures { IfOk result (λ text. text ≡ book_text (data_of tree.now)) }
 {
-    let mut writer = Writer::new(Vec::new(alloc));
+    canonical_book_with_room(alloc, tree, 0)
+}
+
+/// The same, where room for this many bytes is taken at once. The length of the text that the tree was read from,
+/// and two for the writer, is enough; where it is not, more is taken.
+pub fn canonical_book_with_room(
+    alloc: Global,
+    tree: &Tree,
+    room: usize,
+) -> Result<Bytes2, AllocError>
+    ensures { IfOk result (λ text. text ≡ book_text (data_of tree.now)) }
+{
+    let mut writer = Writer::new(Vec::with_capacity(alloc, room)?);
     write_book(alloc, &mut writer, tree)?;
     Ok(Bytes2::from_vec(writer.into_inner()))
 }
