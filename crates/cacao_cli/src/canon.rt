@@ -13,14 +13,16 @@ use crate::say::say_then;
 use crate::tree::tree_of;
 use cacao_json::Tree;
 use cacao_site::{Shelf, Site};
-use cacao_text::canonical_book;
+use cacao_text::canonical_book_with_room;
 use std::alloc::{AllocError, Global};
 
-/// The canonical text (RFC 8785) of the tree, without the top member `signatures`, and a line feed.
-fn canon_line(alloc: Global, tree: &Tree) -> Result<Vec<u8>, AllocError>
+/// The canonical text (RFC 8785) of the tree, without the top member `signatures`, and a line feed. Room is taken for
+/// as many bytes as the tree was read from, which are enough, and for the line feed and what the writer keeps ready.
+fn canon_line(alloc: Global, tree: &Tree, read: usize) -> Result<Vec<u8>, AllocError>
     ensures { IfOk result (λ line. line.items ≡ canon_line (data_of tree.now)) }
 {
-    let mut line = canonical_book(alloc, tree)?.into_vec();
+    let room = read.saturating_add(2);
+    let mut line = canonical_book_with_room(alloc, tree, room)?.into_vec();
     line.push(b'\n')?;
     Ok(line)
 }
@@ -46,7 +48,7 @@ pub fn canon<'w, L: Shelf, S: Site>(
         Ok(tree) => tree,
         Err(end) => return end,
     };
-    match canon_line(alloc, &tree) {
+    match canon_line(alloc, &tree, text.bytes.len()) {
         Ok(line) => say_then(line.as_slice(), End::Done, site),
         Err(_) => End::NoMemory,
     }
