@@ -1,7 +1,5 @@
 pub mod PlaceLemmas
-pub mod ListLemmas
+pub mod OrderLemmas
 pub mod ArgumentLemmas
-pub mod IdLemmas
-pub mod ShapeLemmas
 pub mod LimitLemmas
 pub mod Examples

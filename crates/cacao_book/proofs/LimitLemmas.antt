@@ -13,12 +13,13 @@ use Rattle.serde_json.specs.Find.{get, as_str, as_array, as_object}
 use Rattle.cacao_ids.specs.Ids.{IsId}
 use Rattle.cacao_book.specs.declared.step_kinds.StepKind.{StepKind}
 use Rattle.cacao_book.specs.declared.step_kinds.StepKind.TheVariants.{Start, End, Parallel}
-use Rattle.cacao_book.specs.Members.{Has, TextFits, IsText, IsShort, IsObject, items_in, members_in, with_member, in_order, members_at}
-use Rattle.cacao_book.specs.Orders.{IsRising}
-use Rattle.cacao_book.specs.Shape.{ShapeRule, ShapeDemand, KeepsOfStep, k4, k5, k9, k11, k12, K5, IsArgument, is_of_type, IsWellShaped, IsWellShapedStep, workflow}
-use Rattle.cacao_book.specs.Books.{some_text, items_at, texts_at, arguments_at, argument, command_of, case_of, text_of, kind_at, action_of, playbook_action_of, if_of, while_of, switch_of, step_of}
+use Rattle.cacao_shape.specs.Members.{Has, TextFits, IsText, IsShort, IsObject, items_in, members_in, with_member, in_order, members_at, some_text, items_at, texts_at, text_of}
+use Rattle.cacao_shape.specs.Orders.{IsRising}
+use Rattle.cacao_shape.specs.Shape.{ShapeRule, ShapeDemand, KeepsOfStep, k4, k5, k9, k11, k12, K5, IsArgument, is_of_type, IsWellShaped, IsWellShapedStep, workflow}
+use Rattle.cacao_book.specs.Books.{arguments_at, argument, command_of, case_of, kind_at, action_of, playbook_action_of, if_of, while_of, switch_of, step_of}
 use Rattle.cacao_book.specs.Steps.{KindKeepsLimits, KeepsLimits, AreSteps}
-use Rattle.cacao_book.proofs.ListLemmas.{items_fit, members_fit, may_have, steps_in_order}
+use Rattle.cacao_shape.proofs.ListLemmas.{items_fit, members_fit, may_have}
+use Rattle.cacao_book.proofs.OrderLemmas.{steps_in_order}
 
 -- ---- how many members stand in order: no more than there are
 

@@ -1,12 +1,11 @@
 -- The typed playbook of a tree's data. It is total, with defaults where the shape fails; `read_book` gives it only where
 -- no rule of shape is broken.
-use Rattle.std.specs.Prelude.{ℕ, Bool, false, ◌==◌, List, [], ◌++◌, map, codes, Option, Some, None, unwrap_or, option_and_then, nat_abs, if◌then◌else◌}
+use Rattle.std.specs.Prelude.{ℕ, ◌==◌, List, ◌++◌, map, codes, Option, Some, None, option_and_then, if◌then◌else◌}
 use Rattle.std.specs.Option.{option_map_or}
 use Rattle.std.specs.List.{before_first}
 use Rattle.base64.specs.Engines.{standard}
 use Rattle.base64.specs.GeneralPurpose.{decoded_of}
 use Rattle.serde_json.specs.Data.{Data}
-use Rattle.serde_json.specs.Find.{get, as_str, as_bool, as_array}
 use Rattle.cacao_vars.specs.Kinds.{kind_of}
 use Rattle.cacao_vars.specs.declared.declarations.Var.{Var}
 use Rattle.cacao_book.specs.declared.books.Book.{Book}
@@ -15,34 +14,10 @@ use Rattle.cacao_book.specs.declared.step_kinds.StepKind.{StepKind}
 use Rattle.cacao_book.specs.declared.step_kinds.StepKind.TheVariants.{Start, End, Action, PlaybookAction, Parallel, If, While, Switch}
 use Rattle.cacao_book.specs.declared.commands.StepCommand.{StepCommand}
 use Rattle.cacao_book.specs.declared.cases.Case.{Case}
-use Rattle.cacao_book.specs.Members.{items_in, whole, members_at}
-use Rattle.cacao_book.specs.Shape.{is_of_type, workflow}
+use Rattle.cacao_shape.specs.Members.{maybe_text, some_text, items_at, text_of, texts_at, number_at, flag_at, members_at}
+use Rattle.cacao_shape.specs.Shape.{is_of_type, workflow}
 
--- ---- members of one kind
-
--- the text under a name
-abbrev pub maybe_text : List ℕ → Data → Option (List ℕ)
-maybe_text name d = option_and_then as_str (get name d)
-
-abbrev pub some_text : List ℕ → Data → List ℕ
-some_text name d = unwrap_or (maybe_text name d) []
-
--- the items of the list under a name
-abbrev pub items_at : List ℕ → Data → List Data
-items_at name d = option_map_or items_in (option_and_then as_array (get name d)) []
-
-abbrev pub text_of : Data → List ℕ
-text_of d = unwrap_or (as_str d) []
-
-abbrev pub texts_at : List ℕ → Data → List (List ℕ)
-texts_at name d = map text_of (items_at name d)
-
--- the whole number under a name, and another where there is none
-abbrev pub number_at : List ℕ → ℕ → Data → ℕ
-number_at name absent d = option_map_or nat_abs (option_and_then whole (get name d)) absent
-
-abbrev pub flag_at : List ℕ → Data → Bool
-flag_at name d = unwrap_or (option_and_then as_bool (get name d)) false
+-- ---- arguments
 
 -- The name that an argument means: what stands before the colon of a reference, and a name as it is. Names hold no colon.
 abbrev pub argument : List ℕ → List ℕ

@@ -3,20 +3,17 @@ ghost use Rattle.std.specs.Prelude.{◌≡◌, ◌++◌, OnOk, IfOk, IfErr, code
 ghost use Rattle.cacao_ids.specs.Stamps.{IsStamp};
 ghost use Rattle.cacao_json.specs.Tree.{data_of, pair_data};
 ghost use Rattle.cacao_book.specs.Books.{book, names_at, agents_of};
-ghost use Rattle.cacao_book.specs.Shape.{IsWellShaped};
-ghost use Rattle.cacao_book.specs.Reading.{RefusesTree};
+ghost use Rattle.cacao_shape.specs.Shape.{IsWellShaped};
+ghost use Rattle.cacao_shape.specs.Refusals.{RefusesTree};
 
 use crate::books::Book;
-use crate::contents::read_text;
 use crate::dictionaries::read_vars;
-use crate::lists::members_at;
-use crate::members::some_text;
-use crate::refusals::BookError;
-use crate::shape::test_shape;
-use crate::step_reading::{known_id, read_some_text, read_steps};
+use crate::step_reading::{known_id, read_steps};
+use crate::text_reading::{read_some_text, read_text};
 use crate::texts::Texts;
 use cacao_ids::Stamp;
 use cacao_json::{Pair, Text, Tree};
+use cacao_shape::{BookError, members_at, some_text, test_shape};
 use std::alloc::{AllocError, Global};
 
 // The stamp that a text is.

@@ -3,22 +3,22 @@ ghost use Rattle.std.specs.Prelude.{◌≡◌, ◌≤◌, IsTrue, All, IfOk, cod
 ghost use Rattle.std.specs.Option.{option_map_or};
 ghost use Rattle.cacao_ids.specs.Ids.{IsId};
 ghost use Rattle.cacao_json.specs.Tree.{data_of, pair_data};
-ghost use Rattle.cacao_book.specs.Members.{MayHave, IsUpTo, whole, members_at};
-ghost use Rattle.cacao_book.specs.Shape.{IsWellShapedStep, IsWellShaped, K5, K9, K10, K11, is_of_type, workflow};
-ghost use Rattle.cacao_book.specs.Books.{number_at, some_text, texts_at, action_of, playbook_action_of, if_of, while_of, switch_of, kind_at, step_of, case_of};
+ghost use Rattle.cacao_shape.specs.Members.{MayHave, IsUpTo, whole, members_at, number_at, some_text, texts_at};
+ghost use Rattle.cacao_shape.specs.Shape.{IsWellShapedStep, IsWellShaped, K5, K9, K10, K11, is_of_type, workflow};
+ghost use Rattle.cacao_book.specs.Books.{action_of, playbook_action_of, if_of, while_of, switch_of, kind_at, step_of, case_of};
 ghost use Rattle.cacao_book.specs.declared.step_kinds.StepKind.TheVariants as step_kind;
 
 use crate::arguments::read_arguments;
 use crate::cases::{Case, Cases};
-use crate::contents::{read_commands, read_text};
+use crate::contents::read_commands;
 use crate::dictionaries::read_vars;
-use crate::lists::{members_at, read_texts, text_or_empty};
-use crate::members::{has_type, some_text};
 use crate::step_kinds::StepKind;
 use crate::step_lists::Steps;
 use crate::steps::Step;
+use crate::text_reading::{read_some_text, read_text, read_texts};
 use cacao_ids::Id;
 use cacao_json::{Pair, Text, Tree, member, whole_of};
+use cacao_shape::{has_type, members_at, text_or_empty};
 use std::alloc::{AllocError, Global};
 
 // How many milliseconds a step's commands may take where it states no timeout.
@@ -53,14 +53,6 @@ pub(crate) fn known_id(alloc: Global, text: &str) -> Result<Id, AllocError>
 {
     let id = Id::read(alloc, text)?;
     Ok(id.unwrap())
-}
-
-// The text under a name, and the empty one where there is none.
-pub(crate) fn read_some_text(alloc: Global, tree: &Tree, name: &str) -> Result<Text, AllocError>
-    ensures { IfOk result (λ text. text ≡ some_text name.now (data_of tree.now)) }
-{
-    let text = Text::from_str(alloc, some_text(tree, name))?;
-    Ok(text)
 }
 
 fn read_action(alloc: Global, step: &Tree) -> Result<StepKind, AllocError>

@@ -1,6 +1,6 @@
 // Playbooks whose answers are known from outside.
-use crate::{Book, BookError, Step, StepKind, find_place, read_book};
-use cacao_json::{Text, Tree, find_tree};
+use crate::{Book, Step, StepKind, find_place, read_book};
+use cacao_json::{Tree, find_tree};
 use cacao_vars::Kind;
 use std::alloc::Global;
 use std::test::Fail;
@@ -47,23 +47,6 @@ fn read(alloc: Global, old: &str, new: &str) -> Result<Book, Fail> {
     Ok(read_book(alloc, &tree)?)
 }
 
-// The key of the step and the number of the rule for which the edited playbook is refused.
-fn refusal(alloc: Global, old: &str, new: &str) -> Result<(String, u8), Fail> {
-    let tree = edited(alloc, old, new)?;
-    match read_book(alloc, &tree) {
-        Ok(_) => Ok((String::from_str(alloc, "taken")?, 0)),
-        Err(BookError::Memory) => Ok((String::from_str(alloc, "out of memory")?, 0)),
-        Err(BookError::Shape { step, rule }) => Ok((key_or_empty(alloc, step), rule)),
-    }
-}
-
-fn key_or_empty(alloc: Global, step: Option<Text>) -> String {
-    match step {
-        Some(key) => key.into_string(),
-        None => String::new(alloc),
-    }
-}
-
 #[test]
 fn a_playbook_is_read(rt: HostRuntime) -> Result<(), Fail> {
     let book = read(rt.alloc(), "", "")?;
@@ -88,106 +71,6 @@ fn a_playbook_is_read(rt: HostRuntime) -> Result<(), Fail> {
     }
     assert_eq!(rt; steps[1].delay, 0);
     assert_eq!(rt; steps[1].timeout, 60_000);
-    Ok(())
-}
-
-#[test]
-fn a_rule_is_named_by_step_and_number(rt: HostRuntime) -> Result<(), Fail> {
-    let alloc = rt.alloc();
-    let table = [
-        ("cacao-2.0", "cacao-2.1", "", 1),
-        ("2024-01-02T03", "2023-02-29T03", "", 2),
-        (
-            "\"net-address--00000000-0000-4000-8000-000000000020\":{",
-            "\"filter\":{",
-            "",
-            3,
-        ),
-        ("\"__host__\":", "\"__host\":", "", 3),
-        ("\"workflow_start\":", "\"workflow_end\":", "", 4),
-        ("{\"type\":\"end\"}", "{\"type\":\"stop\"}", END, 5),
-        (
-            "{\"type\":\"end\"}",
-            "{\"type\":\"end\",\"delay\":-1}",
-            END,
-            6,
-        ),
-        (
-            "{\"type\":\"end\"}",
-            "{\"type\":\"end\",\"timeout\":2147483648}",
-            END,
-            6,
-        ),
-        (
-            "{\"type\":\"end\"}",
-            "{\"type\":\"end\",\"step_variables\":[]}",
-            END,
-            7,
-        ),
-        (
-            "{\"type\":\"end\"}",
-            "{\"type\":\"end\",\"on_success\":null}",
-            END,
-            8,
-        ),
-        ("\"on_false\"", "\"on_success\":null,\"on_false\"", IF, 8),
-        ("\"commands\"", "\"instructions\"", ACTION, 9),
-        ("\"__rule__:value\"", "\"__rule__:worth\"", ACTION, 9),
-        (
-            "\"__rule__:value\"",
-            "\"__a__\",\"__b__\",\"__c__\"",
-            ACTION,
-            9,
-        ),
-        (
-            "\"content\":",
-            "\"content_b64\":\"\",\"content\":",
-            ACTION,
-            10,
-        ),
-        (
-            "\"content\":\"{\\\"action\\\":\\\"deny\\\"}\"",
-            "\"content_b64\":\"e30\"",
-            ACTION,
-            10,
-        ),
-        (
-            "{\"type\":\"end\"}",
-            "{\"type\":\"playbook-action\",\"on_success\":\"\",\"playbook_id\":\"\"}",
-            END,
-            11,
-        ),
-        ("\"__severity__:value >= 7\"", "7", IF, 12),
-        (
-            "{\"type\":\"end\"}",
-            "{\"type\":\"parallel\",\"next_steps\":[]}",
-            END,
-            12,
-        ),
-        (
-            "{\"type\":\"end\"}",
-            "{\"type\":\"switch-condition\",\"switch\":\"\",\"cases\":{\"1\":2}}",
-            END,
-            12,
-        ),
-    ];
-    for (old, new, step, number) in table {
-        let (key, rule) = refusal(alloc, old, new)?;
-        assert_eq!(rt; rule, number, "{new}");
-        assert_eq!(rt; key.as_str(), step, "{new}");
-    }
-    Ok(())
-}
-
-#[test]
-fn the_earlier_step_comes_before_the_lower_number(rt: HostRuntime) -> Result<(), Fail> {
-    let old =
-        "\"on_completion\":\"end--00000000-0000-4000-8000-000000000013\"},\n\"end--00000000-0000-4000-8000-000000000013\":{\"type\":\"end\"";
-    let new =
-        "\"on_completion\":\"\",\"on_success\":\"\"},\n\"end--00000000-0000-4000-8000-000000000013\":{\"type\":\"end\",\"delay\":-1";
-    let (key, rule) = refusal(rt.alloc(), old, new)?;
-    assert_eq!(rt; rule, 8);
-    assert_eq!(rt; key.as_str(), ACTION);
     Ok(())
 }
 

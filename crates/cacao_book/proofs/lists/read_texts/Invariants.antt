@@ -1,7 +1,0 @@
-use Rattle.std.proofs.Common.{◌≡◌, map, take}
-use Rattle.cacao_json.specs.Tree.{data_of}
-use Rattle.cacao_book.specs.Books.{text_of}
-use Rattle.cacao_book.proofs.lists.read_texts.Given as goal
-
-abbrev pub invariant-loop-item : goal.invariant-loop-item
-invariant-loop-item l = l.texts.items ≡ map (λ d. text_of d) (map data_of (take l.item-index l.item-items))

@@ -1,0 +1,5 @@
+pub mod Least
+pub mod Members
+pub mod Orders
+pub mod Shape
+pub mod Refusals
