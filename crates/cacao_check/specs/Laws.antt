@@ -5,8 +5,8 @@ use Rattle.serde_json.specs.Data.{Data}
 use Rattle.cacao_vars.specs.declared.kinds.Kind.{Kind}
 use Rattle.cacao_book.specs.declared.books.Book.{Book}
 use Rattle.cacao_book.specs.declared.steps.Step.{Step}
-use Rattle.cacao_book.specs.Least.{IsLeastBreak}
-use Rattle.cacao_book.specs.Shape.{ShapeDemand, shape_rank, KeepsShape, IsWellShaped}
+use Rattle.cacao_shape.specs.Least.{IsLeastBreak}
+use Rattle.cacao_shape.specs.Shape.{ShapeDemand, shape_rank, KeepsShape, IsWellShaped}
 use Rattle.cacao_book.specs.Books.{book}
 use Rattle.cacao_check.specs.declared.breaks.Mode.{Mode}
 use Rattle.cacao_check.specs.declared.rules.SenseRule.{SenseRule}

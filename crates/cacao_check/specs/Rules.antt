@@ -15,7 +15,7 @@ use Rattle.cacao_book.specs.declared.books.Book.{Book}
 use Rattle.cacao_book.specs.declared.steps.Step.{Step}
 use Rattle.cacao_book.specs.declared.step_kinds.StepKind.TheVariants.{Start}
 use Rattle.cacao_book.specs.declared.commands.StepCommand.{StepCommand}
-use Rattle.cacao_book.specs.Members.{IsObject}
+use Rattle.cacao_shape.specs.Members.{IsObject}
 use Rattle.cacao_book.specs.Steps.{place_of, step_with}
 use Rattle.cacao_check.specs.declared.breaks.Mode.{Mode}
 use Rattle.cacao_check.specs.declared.breaks.Mode.TheVariants.{Run}

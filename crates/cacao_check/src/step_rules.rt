@@ -3,7 +3,7 @@ ghost use Rattle.std.specs.Prelude.{◌≡◌, ◌↔◌, ◌<◌, ◌≤◌, �
 ghost use Rattle.std.specs.List.{list_all, list_any};
 ghost use Rattle.std.specs.Str.{bytes_eq};
 ghost use Rattle.cacao_json.specs.Tree.{data_of};
-ghost use Rattle.cacao_book.specs.Members.{IsObject};
+ghost use Rattle.cacao_shape.specs.Members.{IsObject};
 ghost use Rattle.cacao_book.specs.Steps.{IsInKeyOrder, KeepsLimits, place_of};
 ghost use Rattle.cacao_check.specs.Links.{next_keys, head_keys};
 ghost use Rattle.cacao_check.specs.Uses.{content_tree, commands_of as commands_in, version_of as version_in};

@@ -1,7 +1,7 @@
 // The walk over books, their places and the rules.
 ghost use Rattle.std.specs.Prelude.{◌≡◌, ◌↔◌, ◌<◌, ◌≤◌, ◌+◌, IsTrue, IfOk, OnOk, Some, length, slice_get, option_map, option_and_then};
 ghost use Rattle.std.specs.Option.{ForSome};
-ghost use Rattle.cacao_book.specs.Shape.{place_rank};
+ghost use Rattle.cacao_shape.specs.Shape.{place_rank};
 ghost use Rattle.cacao_book.specs.Steps.{KeepsLimits};
 ghost use Rattle.cacao_check.specs.Parts.{ReadsStep};
 ghost use Rattle.cacao_check.specs.Sense.{sense_number, KeepsOfStep, KeepsIn};

@@ -7,7 +7,7 @@ use Rattle.std.proofs.lemmas.Bool.{true≢false}
 use Rattle.std.proofs.lemmas.List.Splits.{slice_split_at}
 use Rattle.serde_json.specs.Data.{Data}
 use Rattle.serde_json.specs.Find.{get}
-use Rattle.cacao_book.specs.Books.{book}
+use Rattle.cacao_book.specs.Books.{book, step_of, var_of}
 use Rattle.cacao_book.specs.declared.books.Book.{Book}
 use Rattle.cacao_book.specs.declared.steps.Step.{Step}
 use Rattle.cacao_vars.specs.declared.declarations.Var.{Var}
@@ -26,9 +26,8 @@ use Rattle.flow_rules.specs.declared.phases.Phase.TheVariants as phase
 use Rattle.flow_rules.specs.declared.tasks.Task.{Task}
 use Rattle.flow_rules.proofs.LineLemmas.{others_are_no_records}
 use Rattle.oc2_nets.specs.Texts.{parts}
-use Rattle.cacao_book.specs.Books.{step_of, var_of}
-use Rattle.cacao_book.specs.Members.{IsObject, ObjectOf, members_at, members_in}
-use Rattle.cacao_book.specs.Shape.{IsDeclaration, K3, K4, KeepsOfBook, ShapeRule, k3, k4, workflow}
+use Rattle.cacao_shape.specs.Members.{IsObject, ObjectOf, members_at, members_in}
+use Rattle.cacao_shape.specs.Shape.{IsDeclaration, K3, K4, KeepsOfBook, ShapeRule, k3, k4, workflow}
 use Rattle.cacao_check.specs.FirstBreak.{IsAccepted, of_shape}
 use Rattle.cacao_check.specs.Fits.{FitsKind}
 use Rattle.cacao_check.specs.declared.breaks.Mode.TheVariants.{Run}

@@ -3,8 +3,8 @@ use Rattle.std.specs.Prelude.{◌≡◌, ◌⊎◌, ℕ, Option, Some, List, [],
 use Rattle.std.specs.declared.alloc.Global.{Global}
 use Rattle.serde_json.specs.Data.{Data}
 use Rattle.cacao_check.specs.FirstBreak.{IsAccepted, IsFirstBreak}
-use Rattle.cacao_book.specs.declared.refusals.BookError.{BookError}
-use Rattle.cacao_book.specs.declared.refusals.BookError.TheVariants as book_error
+use Rattle.cacao_shape.specs.declared.refusals.BookError.{BookError}
+use Rattle.cacao_shape.specs.declared.refusals.BookError.TheVariants as book_error
 use Rattle.cacao_check.specs.declared.breaks.Break.{Break}
 use Rattle.cacao_check.specs.declared.breaks.CheckError.{CheckError}
 use Rattle.cacao_check.specs.declared.breaks.CheckError.TheVariants as check_error

@@ -19,8 +19,8 @@ use Rattle.cacao_text.specs.Canon.{canon, unsigned_of, book_text}
 use Rattle.cacao_text.specs.Laws.{TextsHaveTrees, ReadsBack, BookReadsBack, BookIsFixed}
 use Rattle.cacao_vars.specs.declared.declarations.Var.{Var}
 use Rattle.cacao_book.specs.declared.books.Book.{Book}
-use Rattle.cacao_book.specs.Members.{IsObject}
-use Rattle.cacao_book.specs.Shape.{ShapeDemand, ShapeRule, k1, k2, k3, k4, k5, k6, k7, k8, k9, k10, k11, k12, K1, K2, K3, K4, KeepsShape, KeepsShapeAt, KeepsOfBook, KeepsOfStep, workflow}
+use Rattle.cacao_shape.specs.Members.{IsObject}
+use Rattle.cacao_shape.specs.Shape.{ShapeDemand, ShapeRule, k1, k2, k3, k4, k5, k6, k7, k8, k9, k10, k11, k12, K1, K2, K3, K4, KeepsShape, KeepsShapeAt, KeepsOfBook, KeepsOfStep, workflow}
 use Rattle.cacao_book.specs.Books.{book}
 use Rattle.cacao_check.specs.declared.breaks.Mode.TheVariants.{Run}
 use Rattle.cacao_check.specs.Fits.{FitsKind}

@@ -3,7 +3,7 @@ use Rattle.std.proofs.Common.{ℕ, List, [], ◌∷◌, map}
 use Rattle.std.specs.List.{AllByRecursion}
 use Rattle.serde_json.specs.Data.{Data}
 use Rattle.cacao_vars.specs.Declarations.{IsBefore}
-use Rattle.cacao_book.specs.Orders.{IsRising}
+use Rattle.cacao_shape.specs.Orders.{IsRising}
 use Rattle.flow_core.specs.SetupGivens.{AreInOrder}
 
 entries_later : {A : Type 0} (name : List ℕ) (f : Data → A) (ms : List (List ℕ × Data)) → AllByRecursion (λ (later : List ℕ × Data). IsBefore name later.0) ms

@@ -7,11 +7,11 @@ use Rattle.cacao_json.specs.Reading.{tree}
 use Rattle.cacao_json.specs.Refusals.{answer}
 use Rattle.cacao_json.specs.declared.error.JsonError.{JsonError}
 use Rattle.cacao_book.specs.declared.books.Book.{Book}
-use Rattle.cacao_book.specs.declared.refusals.BookError.{BookError}
-use Rattle.cacao_book.specs.declared.refusals.BookError.TheVariants as book_error
+use Rattle.cacao_shape.specs.declared.refusals.BookError.{BookError}
+use Rattle.cacao_shape.specs.declared.refusals.BookError.TheVariants as book_error
 use Rattle.cacao_book.specs.Books.{book}
-use Rattle.cacao_book.specs.Shape.{IsWellShaped}
-use Rattle.cacao_book.specs.Reading.{RefusesTree, key_at}
+use Rattle.cacao_shape.specs.Shape.{IsWellShaped}
+use Rattle.cacao_shape.specs.Refusals.{RefusesTree, key_at}
 use Rattle.cacao_check.specs.declared.breaks.CheckError.{CheckError}
 use Rattle.cacao_check.specs.declared.breaks.CheckError.TheVariants as check_error
 use Rattle.cacao_check.specs.declared.breaks.Mode.TheVariants.{Run}

@@ -15,11 +15,11 @@ use Rattle.cacao_book.specs.declared.steps.Step.{Step}
 use Rattle.cacao_book.specs.declared.step_kinds.StepKind.{StepKind}
 use Rattle.cacao_book.specs.declared.step_kinds.StepKind.TheVariants as does
 use Rattle.cacao_book.specs.declared.commands.StepCommand.{StepCommand}
-use Rattle.cacao_book.specs.Members.{IsObject, IsText, Has, ListOf, whole, items_in, members_in, members_at, in_order}
+use Rattle.cacao_shape.specs.Members.{IsObject, IsText, Has, ListOf, whole, items_in, members_in, members_at, in_order, texts_at}
 use Rattle.cacao_book.specs.Steps.{place_of}
-use Rattle.cacao_book.specs.Shape.{k9, K9, KeepsShape, KeepsOfStep as KeepsShapeOfStep, is_of_type, workflow}
-use Rattle.cacao_book.specs.Books.{book, step_of, kind_at, action_of, playbook_action_of, if_of, while_of, switch_of, texts_at, commands_at, command_of}
-use Rattle.cacao_book.proofs.ListLemmas.{members_fit}
+use Rattle.cacao_shape.specs.Shape.{k9, K9, KeepsShape, KeepsOfStep as KeepsShapeOfStep, is_of_type, workflow}
+use Rattle.cacao_book.specs.Books.{book, step_of, kind_at, action_of, playbook_action_of, if_of, while_of, switch_of, commands_at, command_of}
+use Rattle.cacao_shape.proofs.ListLemmas.{members_fit}
 use Rattle.cacao_check.specs.declared.breaks.Mode.TheVariants.{Run}
 use Rattle.cacao_check.specs.declared.rules.SenseRule.TheVariants as rule
 use Rattle.cacao_check.specs.Links.{head_keys as check_head_keys}

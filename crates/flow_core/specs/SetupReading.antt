@@ -4,10 +4,10 @@ use Rattle.serde_json.specs.Data.{Data}
 use Rattle.cacao_json.specs.Reading.{tree}
 use Rattle.cacao_json.specs.Refusals.{answer}
 use Rattle.cacao_json.specs.declared.error.JsonError.{JsonError}
-use Rattle.cacao_book.specs.Least.{FirstRule}
+use Rattle.cacao_shape.specs.Least.{FirstRule}
 use Rattle.cacao_vars.specs.declared.declarations.Var.{Var}
-use Rattle.cacao_book.specs.declared.refusals.BookError.{BookError}
-use Rattle.cacao_book.specs.declared.refusals.BookError.TheVariants as book_error
+use Rattle.cacao_shape.specs.declared.refusals.BookError.{BookError}
+use Rattle.cacao_shape.specs.declared.refusals.BookError.TheVariants as book_error
 use Rattle.cacao_check.specs.declared.breaks.CheckError.{CheckError}
 use Rattle.cacao_check.specs.declared.breaks.CheckError.TheVariants as check_error
 use Rattle.cacao_check.specs.declared.breaks.Break.{Break}

@@ -9,8 +9,7 @@ use Rattle.cacao_vars.specs.declared.declarations.Var.{Var}
 use Rattle.cacao_vars.specs.declared.kinds.Kind.{Kind}
 use Rattle.cacao_vars.specs.Declarations.{declared}
 use Rattle.cacao_vars.specs.Names.{IsName}
-use Rattle.cacao_book.specs.Members.{MayHave, ObjectWith, TextFits, IsShort, whole, members_at}
-use Rattle.cacao_book.specs.Books.{text_of}
+use Rattle.cacao_shape.specs.Members.{MayHave, ObjectWith, TextFits, IsShort, whole, members_at, text_of}
 
 -- the data of a text of bindings; the empty text binds nothing
 abbrev pub bindings_of : List ℕ → Option Data

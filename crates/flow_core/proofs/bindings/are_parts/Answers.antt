@@ -3,7 +3,7 @@ use Rattle.serde_json.specs.Data.{Data}
 use Rattle.cacao_json.specs.Tree.{pair_data}
 use Rattle.std.proofs.Common.{refl, sym, ◌∙◌, arith}
 use Rattle.std.proofs.lemmas.Bool.{false≢true}
-use Rattle.cacao_book.proofs.ListLemmas.{fits_more, fits_all, fits_at}
+use Rattle.cacao_shape.proofs.ListLemmas.{fits_more, fits_all, fits_at}
 use Rattle.flow_core.proofs.bindings.are_parts.Goals as goal
 
 pub returns-then-not-is_part_member : goal.returns-then-not-is_part_member

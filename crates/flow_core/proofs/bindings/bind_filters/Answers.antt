@@ -5,7 +5,7 @@ use Rattle.cacao_ids.specs.Ids.{IsId}
 use Rattle.flow_rules.specs.Bindings.{IsFilter}
 use Rattle.std.proofs.Common.{refl, sym, ◌∙◌, arith}
 use Rattle.std.proofs.lemmas.Bool.{false≢true}
-use Rattle.cacao_book.proofs.ListLemmas.{fits_more, fits_all, fits_at}
+use Rattle.cacao_shape.proofs.ListLemmas.{fits_more, fits_all, fits_at}
 use Rattle.flow_core.proofs.bindings.bind_filters.Goals as goal
 
 pub returns-then-not-branch : goal.returns-then-not-branch

@@ -2,10 +2,10 @@ use Rattle.std.specs.Prelude.{List, ℕ}
 use Rattle.serde_json.specs.Data.{Data}
 use Rattle.cacao_json.specs.Tree.{pair_data}
 use Rattle.cacao_vars.specs.Names.{IsName}
-use Rattle.cacao_book.specs.Members.{TextFits, IsShort}
+use Rattle.cacao_shape.specs.Members.{TextFits, IsShort}
 use Rattle.std.proofs.Common.{refl, sym, ◌∙◌, arith}
 use Rattle.std.proofs.lemmas.Bool.{false≢true}
-use Rattle.cacao_book.proofs.ListLemmas.{fits_more, fits_all, fits_at}
+use Rattle.cacao_shape.proofs.ListLemmas.{fits_more, fits_all, fits_at}
 use Rattle.flow_core.proofs.bindings.bind_texts.Goals as goal
 
 pub returns-then-not-binds_text : goal.returns-then-not-binds_text

@@ -2,7 +2,7 @@ use Rattle.std.specs.Prelude.{map, List, ℕ}
 use Rattle.serde_json.specs.Data.{Data}
 use Rattle.cacao_json.specs.Tree.{pair_data}
 use Rattle.cacao_vars.specs.Names.{IsName}
-use Rattle.cacao_book.specs.Members.{TextFits, IsShort}
+use Rattle.cacao_shape.specs.Members.{TextFits, IsShort}
 use Rattle.std.specs.List.{AllWithin}
 use Rattle.flow_core.proofs.bindings.bind_texts.Given as goal
 

@@ -2,7 +2,7 @@ use Rattle.std.specs.Prelude.{map, List, ℕ, ◌≡◌, ◌⊎◌, codes}
 use Rattle.serde_json.specs.Data.{Data}
 use Rattle.serde_json.specs.Find.{as_object}
 use Rattle.cacao_json.specs.Tree.{data_of, pair_data}
-use Rattle.cacao_book.proofs.ListLemmas.{object_with}
+use Rattle.cacao_shape.proofs.ListLemmas.{object_with}
 use Rattle.flow_core.proofs.bindings.has_parts.Goals as goal
 
 pub returns : goal.returns

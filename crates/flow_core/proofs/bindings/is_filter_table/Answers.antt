@@ -4,7 +4,7 @@ use Rattle.serde_json.specs.Find.{as_object}
 use Rattle.cacao_json.specs.Tree.{data_of, pair_data}
 use Rattle.cacao_ids.specs.Ids.{IsId}
 use Rattle.flow_rules.specs.Bindings.{IsFilter}
-use Rattle.cacao_book.proofs.ListLemmas.{object_with}
+use Rattle.cacao_shape.proofs.ListLemmas.{object_with}
 use Rattle.flow_core.proofs.bindings.is_filter_table.Goals as goal
 
 pub returns : goal.returns

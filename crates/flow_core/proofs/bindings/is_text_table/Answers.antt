@@ -3,8 +3,8 @@ use Rattle.serde_json.specs.Data.{Data}
 use Rattle.serde_json.specs.Find.{as_object}
 use Rattle.cacao_json.specs.Tree.{data_of, pair_data}
 use Rattle.cacao_vars.specs.Names.{IsName}
-use Rattle.cacao_book.specs.Members.{TextFits, IsShort}
-use Rattle.cacao_book.proofs.ListLemmas.{object_with}
+use Rattle.cacao_shape.specs.Members.{TextFits, IsShort}
+use Rattle.cacao_shape.proofs.ListLemmas.{object_with}
 use Rattle.flow_core.proofs.bindings.is_text_table.Goals as goal
 
 pub returns : goal.returns

@@ -1,8 +1,8 @@
 use Rattle.std.proofs.Common.{sym, subst, ◌∙◌}
 use Rattle.serde_json.specs.Find.{get}
 use Rattle.cacao_json.specs.Tree.{data_of}
-use Rattle.cacao_book.specs.Orders.{IsRising}
-use Rattle.cacao_book.proofs.ListLemmas.{members_found}
+use Rattle.cacao_shape.specs.Orders.{IsRising}
+use Rattle.cacao_shape.proofs.ListLemmas.{members_found}
 use Rattle.flow_core.proofs.bindings.members_under.Goals as goal
 
 pub returns-in-Some-members_of-clause-members : goal.returns-in-Some-members_of-clause-members

@@ -1,7 +1,7 @@
 use Rattle.std.proofs.Common.{map, sym, ap, ◌∙◌}
 use Rattle.cacao_json.specs.Tree.{pair_data}
-use Rattle.cacao_book.specs.Members.{members_in}
-use Rattle.cacao_book.proofs.ListLemmas.{members_in-members_of, IsRising-sorted}
+use Rattle.cacao_shape.specs.Members.{members_in}
+use Rattle.cacao_shape.proofs.ListLemmas.{members_in-members_of, IsRising-sorted}
 use Rattle.flow_core.proofs.bindings.pairs.Goals as goal
 
 pub returns-clause-members : goal.returns-clause-members

@@ -5,8 +5,8 @@ use Rattle.serde_json.specs.Find.{get}
 use Rattle.cacao_json.specs.Tree.{data_of, pair_data}
 use Rattle.cacao_ids.specs.Ids.{IsId}
 use Rattle.flow_rules.specs.Bindings.{IsFilter}
-use Rattle.cacao_book.specs.Members.{whole, members_at}
-use Rattle.cacao_book.proofs.ListLemmas.{fits_at, made_all}
+use Rattle.cacao_shape.specs.Members.{whole, members_at}
+use Rattle.cacao_shape.proofs.ListLemmas.{fits_at, made_all}
 use Rattle.flow_core.proofs.SetupRunnable.{members_all}
 use Rattle.flow_core.specs.SetupGivens.{AreInOrder}
 use Rattle.flow_core.proofs.SetupOrder.{entries_in_order}

@@ -4,9 +4,8 @@ use Rattle.serde_json.specs.Data.{Data}
 use Rattle.serde_json.specs.Find.{get}
 use Rattle.cacao_json.specs.Tree.{data_of, pair_data}
 use Rattle.cacao_vars.specs.Names.{IsName}
-use Rattle.cacao_book.specs.Members.{TextFits, IsShort}
-use Rattle.cacao_book.specs.Books.{text_of}
-use Rattle.cacao_book.proofs.ListLemmas.{fits_at, made_all}
+use Rattle.cacao_shape.specs.Members.{TextFits, IsShort, text_of}
+use Rattle.cacao_shape.proofs.ListLemmas.{fits_at, made_all}
 use Rattle.flow_core.proofs.SetupRunnable.{members_all}
 use Rattle.flow_core.proofs.bindings.read_variables.Goals as goal
 

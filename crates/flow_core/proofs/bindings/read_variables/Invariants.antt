@@ -1,7 +1,7 @@
 use Rattle.std.proofs.Common.{◌≡◌, map, take, List, ℕ}
 use Rattle.serde_json.specs.Data.{Data}
 use Rattle.cacao_json.specs.Tree.{pair_data}
-use Rattle.cacao_book.specs.Books.{text_of}
+use Rattle.cacao_shape.specs.Members.{text_of}
 use Rattle.flow_core.proofs.bindings.read_variables.Given as goal
 
 abbrev pub invariant-loop-pair : goal.invariant-loop-pair

@@ -6,7 +6,7 @@ use Rattle.cacao_json.specs.Tree.{data_of}
 use Rattle.cacao_book.specs.declared.books.Book.{Book}
 use Rattle.cacao_book.specs.Books.{book}
 use Rattle.cacao_book.specs.Steps.{AreSteps}
-use Rattle.cacao_book.proofs.ListLemmas.{made_more}
+use Rattle.cacao_shape.proofs.ListLemmas.{made_more}
 use Rattle.flow_core.proofs.SetupLists.{all_push}
 use Rattle.flow_core.proofs.SetupReasons.{shaped_none, shaped_more, shaped_all, shape_refused, get_mapped}
 use Rattle.flow_core.proofs.setup_reading.read_books.Goals as goal
