@@ -15,7 +15,8 @@ use Rattle.cacao_check.specs.declared.breaks.Mode.{Mode}
 use Rattle.cacao_check.specs.declared.rules.SenseRule.{SenseRule}
 use Rattle.cacao_check.specs.declared.rules.SenseRule.TheVariants as rule
 use Rattle.cacao_check.specs.Fits.{FitsKind}
-use Rattle.cacao_check.specs.Rules.{may_take, K19, K25}
+use Rattle.cacao_regions.specs.Flaws.{may_take}
+use Rattle.cacao_check.specs.Rules.{K19, K25}
 use Rattle.cacao_check.specs.Sense.{SenseDemand, sense_rank, IsSound, KeepsSense, KeepsOfStep, KeepsAt}
 use Rattle.cacao_check.specs.FirstBreak.{Demand, of_shape, of_sense, rank, Keeps, AreWellShaped}
 use Rattle.cacao_check.specs.Laws.{SoundGives, SoundEnds, ResultsFit, FirstBreakIs}

@@ -1,13 +1,4 @@
-pub mod TableLemmas
-pub mod SeenLemmas
-pub mod ChartLemmas
-pub mod EndLemmas
-pub mod SightLists
-pub mod SightLemmas
 pub mod WalkLemmas
-pub mod PairLemmas
 pub mod UriLemmas
-pub mod UseLemmas
 pub mod RuleLemmas
-pub mod LeadLemmas
 pub mod LawLemmas

@@ -1,5 +1,5 @@
 -- Rules of steps, from what their tests find.
-use Rattle.std.proofs.Common.{◌≡◌, ◌↔◌, ◌⊎◌, inl, inr, ℕ, zero, suc, ◌+◌, ◌<◌, ◌≤◌, Bool, true, false, IsTrue, List, [], ◌∷◌, ◌++◌, length, map, take, get_or, Option, Some, None, IsSome, IfSome, IsSomeAnd, IfNone, Contains, slice_get, is_some, option_map, refl, sym, ◌∙◌, ap, subst, arith}
+use Rattle.std.proofs.Common.{◌≡◌, ◌↔◌, ◌⊎◌, inl, inr, ℕ, ◌+◌, ◌<◌, ◌≤◌, Bool, true, false, IsTrue, List, [], ◌++◌, length, take, get_or, Option, Some, None, IsSome, IfSome, IfNone, Contains, slice_get, is_some, option_map, refl, sym, ◌∙◌, ap, subst, arith}
 use Rattle.std.specs.Prelude.{All, ◌||◌, ◌&&◌, not}
 use Rattle.std.specs.List.{list_all}
 use Rattle.std.proofs.lemmas.Bool.{false≢true, cases_lt, and_parts, and_from, or_from}
@@ -15,26 +15,19 @@ use Rattle.cacao_vars.specs.declared.kinds.Kind.TheVariants as kind
 use Rattle.cacao_vars.specs.Declarations.{declared}
 use Rattle.cacao_book.specs.declared.books.Book.{Book}
 use Rattle.cacao_book.specs.declared.steps.Step.{Step}
-use Rattle.cacao_check.specs.declared.flaws.Flaw.{Flaw}
-use Rattle.cacao_check.specs.declared.flaws.Flaw.TheVariants as flaw
-use Rattle.cacao_check.specs.Links.{declares}
-use Rattle.cacao_check.specs.Regions.{Sees, IsPlaced}
-use Rattle.cacao_check.specs.Uses.{Uses, in_args_of, out_args_of, is_action, version_of}
-use Rattle.cacao_check.specs.Calls.{called, LeadsTo}
-use Rattle.cacao_check.specs.Flaws.{same_kind, is_flawed, result_flaw, SeesFlaw}
-use Rattle.cacao_check.specs.Rules.{K19, K22, K23, K24, IsDeclaredAlike, may_take}
+use Rattle.cacao_regions.specs.declared.flaws.Flaw.{Flaw}
+use Rattle.cacao_regions.specs.declared.flaws.Flaw.TheVariants as flaw
+use Rattle.cacao_steps.specs.Links.{declares}
+use Rattle.cacao_regions.specs.Regions.{Sees, IsPlaced}
+use Rattle.cacao_steps.specs.Uses.{Uses, in_args_of, out_args_of, is_action, version_of}
+use Rattle.cacao_steps.specs.Calls.{called, LeadsTo}
+use Rattle.cacao_regions.specs.Flaws.{same_kind, may_take, is_flawed, result_flaw, SeesFlaw}
+use Rattle.cacao_check.specs.Rules.{K19, K22, K23, K24, IsDeclaredAlike}
 
 -- ---- lists
 
 pub list_all_iff : {X : Type 0} (p : X → Bool) (xs : List X) → list_all p xs ≡ true ↔ All (λ x. p x ≡ true) xs
 list_all_iff p xs = Decides-by_and p (λ x. p x ≡ true) (list_all p) (λ x. (λ e. e, λ e. e)) refl (λ x xs. refl) xs
-
--- what stands at one place of two lists that are seen alike
-pub mapped_at : {X Y Z : Type 0} (f : X → Z) (g : Y → Z) (xs : List X) (ys : List Y) (i : ℕ) (x : X) (y : Y) → map f xs ≡ map g ys → i < length ys → x ≡ get_or xs i x → y ≡ get_or ys i y → f x ≡ g y
-mapped_at f g xs [] i x y e lt atx aty = absurd (omega arith)
-mapped_at f g [] (b ∷ bs) i x y e lt atx aty = absurd (cc)
-mapped_at f g (a ∷ as') (b ∷ bs) zero x y e lt atx aty = ap f atx ∙ (let h : f a ≡ g b = cc in h) ∙ ap g (sym aty)
-mapped_at f g (a ∷ as') (b ∷ bs) (suc i) x y e lt atx aty = mapped_at f g as' bs i x y (let h : map f as' ≡ map g bs = cc in h) (omega arith) atx aty
 
 -- ---- K22
 
@@ -187,14 +180,6 @@ none_appended p a b r e ea =
       λ h. absurd (false≢true (sym e ∙ h)),
       λ h. absurd (false≢true (sym ea ∙ (and_parts (list_all p a) (list_all p b) (sym (list_all-append p a b) ∙ iff.1 h)).0)),
     )
-
--- ---- texts that are read
-
-pub spelled_in : {T : Type 0} (S : T → List ℕ → Type 0) (o : Option (List ℕ)) (text bytes : List ℕ) (t : T) → Some text ≡ o → bytes ≡ text → S t bytes → IsSomeAnd o (S t)
-spelled_in S o text bytes t at same h = let M : Option (List ℕ) → Type 0 = λ v. IsSomeAnd v (S t) in subst M at (subst (S t) same h)
-
-pub unspelled_in : {T : Type 0} (S : T → List ℕ → Type 0) (o : Option (List ℕ)) (text bytes : List ℕ) → Some text ≡ o → bytes ≡ text → ((t : T) → S t bytes → ⊥) → IfSome o (λ text. (t : T) → S t text → ⊥)
-unspelled_in {T} S o text bytes at same h = let M : Option (List ℕ) → Type 0 = λ v. IfSome v (λ text. (t : T) → S t text → ⊥) in subst M at (λ t s. h t (subst (S t) (sym same) s))
 
 module _ (books : List Book) (book : Book) (place : ℕ) (step : Step) (m : ℕ) (theirs : Book) (calls : called books step ≡ Some m) (at : slice_get books m ≡ Some theirs) where
   pub k24_then : (ins outs : List (List ℕ)) (a b : Bool) → ins ≡ in_args_of step.kind → outs ≡ out_args_of step.kind → (a ≡ true ↔ All (AsksAlike book place theirs true) ins) → a ≡ true → (b ≡ true ↔ All (AsksAlike book place theirs false) outs) → b ≡ true ↔ K24 books book place step

@@ -10,11 +10,11 @@ use Rattle.cacao_shape.specs.Shape.{ShapeDemand, shape_rank, KeepsShape, IsWellS
 use Rattle.cacao_book.specs.Books.{book}
 use Rattle.cacao_check.specs.declared.breaks.Mode.{Mode}
 use Rattle.cacao_check.specs.declared.rules.SenseRule.{SenseRule}
-use Rattle.cacao_check.specs.Regions.{Encloses}
-use Rattle.cacao_check.specs.Endings.{ReachesEnd}
-use Rattle.cacao_check.specs.Calls.{called, LeadsTo}
+use Rattle.cacao_regions.specs.Regions.{Encloses}
+use Rattle.cacao_regions.specs.Endings.{ReachesEnd}
+use Rattle.cacao_steps.specs.Calls.{called, LeadsTo}
 use Rattle.cacao_check.specs.Fits.{FitsKind}
-use Rattle.cacao_check.specs.Rules.{may_take}
+use Rattle.cacao_regions.specs.Flaws.{may_take}
 use Rattle.cacao_check.specs.Sense.{SenseDemand, sense_rank, IsSound, KeepsSense, KeepsOfBook, KeepsOfStep}
 use Rattle.cacao_check.specs.FirstBreak.{Demand, of_shape, of_sense, IsFirstBroken, IsAccepted, AreWellShaped}
 

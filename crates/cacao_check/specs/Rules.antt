@@ -1,5 +1,5 @@
 -- The rules K13 to K25, each as one predicate that holds where the rule is kept. A step stands at a place of a book, and a book has a number.
-use Rattle.std.specs.Prelude.{◌≡◌, ◌⊎◌, not, take, ℕ, ◌<◌, ◌≤◌, nat_lt, ◌&&◌, ◌||◌, Bool, true, false, List, [], ◌∷◌, ◌++◌, length, codes, All, Contains, Option, Some, None, IsSome, IfSome, IsSomeAnd, IsTrue, slice_get}
+use Rattle.std.specs.Prelude.{◌≡◌, ◌⊎◌, not, take, ℕ, ◌<◌, ◌≤◌, ◌&&◌, ◌||◌, Bool, true, false, List, [], ◌∷◌, ◌++◌, length, codes, All, Contains, Option, Some, None, IsSome, IfSome, IsSomeAnd, IsTrue, slice_get}
 use Rattle.std.specs.List.{list_all, list_any}
 use Rattle.std.specs.Str.{bytes_eq}
 use Rattle.cacao_json.specs.Reading.{tree}
@@ -7,8 +7,6 @@ use Rattle.cacao_vars.specs.Names.{IsName}
 use Rattle.cacao_vars.specs.References.{reference_text}
 use Rattle.cacao_vars.specs.Declarations.{declared}
 use Rattle.cacao_vars.specs.declared.declarations.Var.{Var}
-use Rattle.cacao_vars.specs.declared.kinds.Kind.{Kind}
-use Rattle.cacao_vars.specs.declared.kinds.Kind.TheVariants as kind
 use Rattle.cacao_cond.specs.Trees.{AnyTree}
 use Rattle.cacao_cond.specs.Grammar.{Spells}
 use Rattle.cacao_book.specs.declared.books.Book.{Book}
@@ -19,11 +17,12 @@ use Rattle.cacao_shape.specs.Members.{IsObject}
 use Rattle.cacao_book.specs.Steps.{place_of, step_with}
 use Rattle.cacao_check.specs.declared.breaks.Mode.{Mode}
 use Rattle.cacao_check.specs.declared.breaks.Mode.TheVariants.{Run}
-use Rattle.cacao_check.specs.Links.{next_keys, head_keys, declares}
-use Rattle.cacao_check.specs.Regions.{Sees, Encloses, IsPlaced}
-use Rattle.cacao_check.specs.Endings.{ReachesEnd}
-use Rattle.cacao_check.specs.Uses.{commands_of, addressees_of, in_args_of, out_args_of, condition_of, subject_of, call_of, version_of, is_action, Uses}
-use Rattle.cacao_check.specs.Calls.{book_with, called, LeadsTo}
+use Rattle.cacao_steps.specs.Links.{next_keys, head_keys, declares}
+use Rattle.cacao_regions.specs.Regions.{Sees, Encloses, IsPlaced}
+use Rattle.cacao_regions.specs.Endings.{ReachesEnd}
+use Rattle.cacao_regions.specs.Flaws.{may_take}
+use Rattle.cacao_steps.specs.Uses.{commands_of, addressees_of, in_args_of, out_args_of, condition_of, subject_of, call_of, version_of, is_action, Uses}
+use Rattle.cacao_steps.specs.Calls.{book_with, called, LeadsTo}
 use Rattle.cacao_check.specs.Fits.{FitsKind}
 
 -- K13 (CACAO 2.0, section 5): in mode `Run`, each command of an action is for a filter, with an object as its content, or for an operator, with a text.
@@ -88,15 +87,7 @@ K21 step = ConditionIsRead step × SubjectIsRead step
 abbrev pub K22 : Book → ℕ → Step → Type 0
 K22 book place step = (name : List ℕ) (seen : Option Var) → Uses step name → Sees book name place seen → IsSome seen
 
--- K23 (section 4.5): no result is written to a constant. Of the results of an action the first two may be numbers or texts, and the third is
--- a text; kinds outside the profile take any.
-abbrev pub may_take : ℕ → Kind → Bool
-may_take k kind.String = true
-may_take k kind.Integer = nat_lt k 2
-may_take k kind.Long = nat_lt k 2
-may_take k (kind.Other name) = true
-may_take k _ = false
-
+-- K23 (section 4.5): no result is written to a constant. A result of an action is written to a kind that takes it.
 abbrev pub K23 : Book → ℕ → Step → Type 0
 K23 book place step =
     (k : ℕ) (name : List ℕ) (var : Var) → slice_get (out_args_of step.kind) k ≡ Some name → Sees book name place (Some var)

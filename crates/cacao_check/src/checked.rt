@@ -1,12 +1,9 @@
 // Playbooks that break no rule.
 use crate::books::Books;
 use crate::breaks::Mode;
-use crate::looking::{seen_at_key, stands_in, step_with};
-use crate::parts::Parts;
-use crate::regions::Regions;
-use crate::seen::Seen;
-use crate::surveys::Survey;
 use cacao_book::{Book, Step};
+use cacao_regions::{Regions, Seen, Survey, seen_at_key, stands_in, step_with};
+use cacao_steps::Parts;
 use cacao_vars::Name;
 use std::alloc::{AllocError, Global};
 use std::marker::Model;
@@ -41,9 +38,9 @@ impl Checked {
     ghost use Rattle.cacao_book.specs.declared.steps.Step.{Step};
     ghost use Rattle.cacao_book.specs.Steps.{step_with as step_under};
     ghost use Rattle.cacao_check.specs.Sense.{IsSound};
-    ghost use Rattle.cacao_check.specs.Parts.{ReadsStep};
+    ghost use Rattle.cacao_steps.specs.Parts.{ReadsStep};
     ghost use Rattle.cacao_check.specs.Tables.{HasTables};
-    ghost use Rattle.cacao_check.specs.Looking.{StandsIn, ListsSights};
+    ghost use Rattle.cacao_regions.specs.Looking.{StandsIn, ListsSights};
 
     // Playbooks that are known to break no rule, with their tables.
     pub(crate) fn new(

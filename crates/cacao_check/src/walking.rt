@@ -3,22 +3,21 @@ ghost use Rattle.std.specs.Prelude.{◌≡◌, ◌↔◌, ◌<◌, ◌≤◌, �
 ghost use Rattle.std.specs.Option.{ForSome};
 ghost use Rattle.cacao_shape.specs.Shape.{place_rank};
 ghost use Rattle.cacao_book.specs.Steps.{KeepsLimits};
-ghost use Rattle.cacao_check.specs.Parts.{ReadsStep};
+ghost use Rattle.cacao_steps.specs.Parts.{ReadsStep};
 ghost use Rattle.cacao_check.specs.Sense.{sense_number, KeepsOfStep, KeepsIn};
-ghost use Rattle.cacao_check.specs.Surveys.{IsSurveyOf, AreSurveysOf, AreLeads};
-ghost use Rattle.cacao_check.specs.Memories.{Remembers};
+ghost use Rattle.cacao_regions.specs.Surveys.{IsSurveyOf, AreSurveysOf, AreLeads};
+ghost use Rattle.cacao_regions.specs.Memories.{Remembers};
 ghost use Rattle.cacao_check.specs.Walk.{FindsRule, FindsAt, FindsLeast};
 
 use crate::book_rules::{keeps_k20, keeps_of_book};
 use crate::breaks::{Break, Mode};
-use crate::memory::Memory;
-use crate::parts::Parts;
 use crate::rules::{SenseRule, number_of, rule_of};
 use crate::sight_rules::{keeps_k22, keeps_k23, keeps_k24};
 use crate::step_rules::{keeps_k13, keeps_k16, keeps_k17, keeps_k18, keeps_k19, keeps_k21};
-use crate::surveys::Survey;
 use cacao_book::{Book, Step};
 use cacao_json::Text;
+use cacao_regions::{Memory, Survey};
+use cacao_steps::Parts;
 use reachability::Bits;
 use std::alloc::{AllocError, Global};
 

@@ -1,9 +1,0 @@
-use Rattle.std.proofs.Common.{subst, sym}
-use Rattle.std.specs.Prelude.{All}
-use Rattle.std.proofs.lemmas.List.Elements.{All-nil}
-use Rattle.cacao_check.specs.Memories.{Remembers, IsExact}
-use Rattle.cacao_check.proofs.memory.Memory.new.Goals as goal
-
-pub returns : goal.returns
-unfolding Remembers
-returns c book = subst (All (IsExact book)) (sym c.new.ensures.items) (All-nil (IsExact book))

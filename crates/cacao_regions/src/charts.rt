@@ -1,0 +1,50 @@
+// The links of a book by the places of its steps, both ways.
+ghost use Rattle.std.specs.Prelude.{IfOk};
+ghost use Rattle.cacao_regions.specs.Charts.{IsChartOf};
+
+use cacao_book::Book;
+use cacao_steps::{head_table, next_table, start_row};
+use reachability::{Bits, Places, reached_past_guards, reversed};
+use std::alloc::{AllocError, Global};
+
+/// The links of a book. A row of a table has the places to which the step at its place goes on (`next`), at which its branches begin
+/// (`heads`), and the same backwards. `starts` has the places at which a run begins, and `reach` those that a run reaches.
+#[derive(Drop)]
+pub struct Chart {
+    pub next: Vec<Places>,
+    pub heads: Vec<Places>,
+    pub back_next: Vec<Places>,
+    pub back_heads: Vec<Places>,
+    pub starts: Places,
+    pub reach: Bits,
+}
+
+/// The chart of a book.
+pub(crate) fn chart_of(alloc: Global, book: &Book) -> Result<Chart, AllocError>
+    ensures { IfOk result (IsChartOf book.now) }
+{
+    let steps = book.steps.as_slice();
+    let next = next_table(alloc, steps)?;
+    let heads = head_table(alloc, steps)?;
+    let back_next = reversed(alloc, &next)?;
+    let back_heads = reversed(alloc, &heads)?;
+    let starts = start_row(alloc, book)?;
+    let none = Bits::new(alloc);
+    let reach = reached_past_guards(
+        alloc,
+        steps.len(),
+        &next,
+        &heads,
+        &none,
+        &none,
+        starts.as_slice(),
+    )?;
+    Ok(Chart {
+        next,
+        heads,
+        back_next,
+        back_heads,
+        starts,
+        reach,
+    })
+}

@@ -1,0 +1,4 @@
+pub mod PairLemmas
+pub mod LinkLemmas
+pub mod ReadLemmas
+pub mod UseLemmas
