@@ -13,7 +13,7 @@ use Rattle.cacao_book.specs.declared.books.Book.{Book}
 use Rattle.cacao_book.specs.declared.steps.Step.{Step}
 use Rattle.flow_rules.specs.Givens.{Given, book_at, step_at}
 use Rattle.flow_rules.specs.Places.{to_filter, is_manual, addressees, places_of, places}
-use Rattle.cacao_check.specs.Uses.{content_tree}
+use Rattle.cacao_steps.specs.Uses.{content_tree}
 use Rattle.flow_core.specs.declared.places.Place.{Place}
 use Rattle.flow_core.specs.declared.places.Place.TheVariants as place
 use Rattle.flow_core.specs.PlaceViews.{IsPlaceOf, IsOfCommand}

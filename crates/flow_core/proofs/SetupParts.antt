@@ -11,13 +11,13 @@ use Rattle.cacao_cond.specs.Grammar.{Spells}
 use Rattle.cacao_cond.specs.declared.trees.Cond.{Cond}
 use Rattle.cacao_book.specs.declared.books.Book.{Book}
 use Rattle.cacao_book.specs.declared.steps.Step.{Step}
-use Rattle.cacao_check.specs.declared.parts.Parts.{Parts}
-use Rattle.cacao_check.specs.Uses.{commands_of, content_tree}
-use Rattle.cacao_check.specs.Uses.{condition_of as condition_text}
+use Rattle.cacao_steps.specs.declared.parts.Parts.{Parts}
+use Rattle.cacao_steps.specs.Uses.{commands_of, content_tree}
+use Rattle.cacao_steps.specs.Uses.{condition_of as condition_text}
 use Rattle.flow_rules.specs.Conditions.{condition_of}
 use Rattle.flow_rules.specs.Laws.{ConditionsAreSpelled}
 use Rattle.flow_rules.specs.Givens.{Given}
-use Rattle.cacao_check.specs.Parts.{ReadsStep}
+use Rattle.cacao_steps.specs.Parts.{ReadsStep}
 use Rattle.flow_rules.specs.Givens.{step_at}
 use Rattle.flow_core.specs.SetupGivens.{AreParts}
 

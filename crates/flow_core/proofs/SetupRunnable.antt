@@ -22,9 +22,9 @@ use Rattle.cacao_book.specs.Books.{book, step_of, kind_at, action_of, playbook_a
 use Rattle.cacao_shape.proofs.ListLemmas.{members_fit}
 use Rattle.cacao_check.specs.declared.breaks.Mode.TheVariants.{Run}
 use Rattle.cacao_check.specs.declared.rules.SenseRule.TheVariants as rule
-use Rattle.cacao_check.specs.Links.{head_keys as check_head_keys}
-use Rattle.cacao_check.specs.Uses.{commands_of, call_of}
-use Rattle.cacao_check.specs.Calls.{book_with as check_book_with}
+use Rattle.cacao_steps.specs.Links.{head_keys as check_head_keys}
+use Rattle.cacao_steps.specs.Uses.{commands_of, call_of}
+use Rattle.cacao_steps.specs.Calls.{book_with as check_book_with}
 use Rattle.cacao_check.specs.Rules.{CanBeSent, IsFilterText, K13, K15, K16, K18}
 use Rattle.cacao_check.specs.Sense.{IsSound}
 use Rattle.cacao_check.specs.FirstBreak.{IsAccepted, of_shape, of_sense}

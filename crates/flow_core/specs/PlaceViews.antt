@@ -5,7 +5,7 @@ use Rattle.cacao_json.specs.Reading.{tree}
 use Rattle.cacao_book.specs.declared.commands.StepCommand.{StepCommand}
 use Rattle.flow_rules.specs.Places.{to_filter, to_operator}
 use Rattle.flow_rules.specs.Places.{Place as RulePlace}
-use Rattle.cacao_check.specs.Uses.{content_tree}
+use Rattle.cacao_steps.specs.Uses.{content_tree}
 use Rattle.flow_core.specs.declared.places.Place.{Place}
 use Rattle.flow_core.specs.declared.places.Place.TheVariants as place
 use Rattle.flow_core.specs.Questions.{question_of}

@@ -1,7 +1,7 @@
 -- The texts of commands for operators.
 use Rattle.std.specs.Prelude.{ℕ, List, Option, None, option_and_then, slice_get, if◌then◌else◌}
 use Rattle.cacao_book.specs.declared.commands.StepCommand.{StepCommand}
-use Rattle.cacao_check.specs.Uses.{commands_of}
+use Rattle.cacao_steps.specs.Uses.{commands_of}
 use Rattle.flow_rules.specs.Givens.{Given, step_at}
 use Rattle.flow_rules.specs.Places.{is_manual}
 

@@ -4,8 +4,8 @@ use Rattle.std.specs.List.{AllByRecursion}
 use Rattle.cacao_vars.specs.Declarations.{IsBefore}
 use Rattle.cacao_book.specs.declared.books.Book.{Book}
 use Rattle.cacao_book.specs.declared.steps.Step.{Step}
-use Rattle.cacao_check.specs.declared.parts.Parts.{Parts}
-use Rattle.cacao_check.specs.Parts.{ReadsStep}
+use Rattle.cacao_steps.specs.declared.parts.Parts.{Parts}
+use Rattle.cacao_steps.specs.Parts.{ReadsStep}
 use Rattle.flow_rules.specs.Givens.{Given}
 
 abbrev pub given_by : List Book → List (List ℕ) → List ℕ → List (List ℕ × ℕ) → List (List ℕ × List ℕ) → Given

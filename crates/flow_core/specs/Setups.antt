@@ -3,8 +3,8 @@ use Rattle.std.specs.Prelude.{◌≡◌, ℕ, ◌≤◌, List, length, All, Opti
 use Rattle.serde_json.specs.Data.{Data}
 use Rattle.cacao_cond.specs.Trees.{AnyTree}
 use Rattle.cacao_book.specs.Steps.{AreSteps}
-use Rattle.cacao_check.specs.Uses.{commands_of, content_tree}
-use Rattle.cacao_check.specs.Uses.{condition_of as condition_text}
+use Rattle.cacao_steps.specs.Uses.{commands_of, content_tree}
+use Rattle.cacao_steps.specs.Uses.{condition_of as condition_text}
 use Rattle.cacao_check.specs.declared.breaks.Mode.TheVariants.{Run}
 use Rattle.cacao_check.specs.FirstBreak.{IsAccepted}
 use Rattle.flow_rules.specs.Givens.{Given, step_at}

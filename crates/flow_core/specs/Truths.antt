@@ -6,7 +6,7 @@ use Rattle.cacao_cond.specs.Names.{named}
 use Rattle.cacao_cond.specs.Truth.{holds}
 use Rattle.cacao_cond.specs.Worths.{Worth}
 use Rattle.cacao_book.specs.declared.step_kinds.StepKind.{StepKind}
-use Rattle.cacao_check.specs.Uses.{condition_of as condition_text}
+use Rattle.cacao_steps.specs.Uses.{condition_of as condition_text}
 use Rattle.flow_rules.specs.Conditions.{condition_of}
 use Rattle.flow_rules.specs.State.{Lists}
 use Rattle.flow_rules.specs.Values.{worth_at}

@@ -3,7 +3,7 @@ use Rattle.std.specs.Prelude.{◌≡◌, ℕ, List, map, Option, option_map}
 use Rattle.serde_json.specs.Data.{Data}
 use Rattle.cacao_book.specs.declared.books.Book.{Book}
 use Rattle.cacao_book.specs.declared.steps.Step.{Step}
-use Rattle.cacao_check.specs.Uses.{commands_of, content_tree}
+use Rattle.cacao_steps.specs.Uses.{commands_of, content_tree}
 use Rattle.flow_core.specs.declared.wordings.StepWords.{StepWords}
 use Rattle.flow_core.specs.declared.wordings.BookWords.{BookWords}
 use Rattle.flow_core.specs.Contents.{content_data}

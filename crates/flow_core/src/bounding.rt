@@ -1,7 +1,7 @@
 // Whether a command, or what an operator is asked, has so many bytes or more. It is told before memory is taken for them.
 ghost use Rattle.std.specs.Prelude.{◌≡◌, IfOk, true};
 ghost use Rattle.flow_rules.specs.Changes.{command_at, question_at, next_command, next_question};
-ghost use Rattle.cacao_check.specs.Uses.{commands_of};
+ghost use Rattle.cacao_steps.specs.Uses.{commands_of};
 ghost use Rattle.flow_core.specs.PlaceViews.{place_view, IsOfCommand};
 ghost use Rattle.flow_core.specs.RunFacts.{shown_of, here_of, IsWell};
 ghost use Rattle.flow_core.specs.Issuings.{StandsThere};

@@ -4,7 +4,7 @@ ghost use Rattle.std.specs.Str.{IsUtf8, bytes_eq};
 ghost use Rattle.flow_rules.specs.declared.phases.Phase.TheVariants as phase;
 ghost use Rattle.flow_rules.specs.Tasks.{here_at};
 ghost use Rattle.flow_rules.specs.Changes.{command_at, question_at, issuing, next_command, next_question, send, ask};
-ghost use Rattle.cacao_check.specs.Uses.{commands_of};
+ghost use Rattle.cacao_steps.specs.Uses.{commands_of};
 ghost use Rattle.flow_core.specs.Planned.{edits_of, AreDeclared};
 ghost use Rattle.flow_core.specs.PlaceViews.{place_view, IsOfCommand};
 ghost use Rattle.flow_core.specs.RunFacts.{shown_of, here_of, IsWell};

@@ -3,7 +3,7 @@ ghost use Rattle.std.specs.Prelude.{◌≡◌, ◌≤◌, ℕ, List, suc, Some, 
 ghost use Rattle.std.specs.Option.{option_copied};
 ghost use Rattle.std.specs.List.{flat_map};
 ghost use Rattle.flow_rules.specs.Places.{is_manual, addressees, places_of, places};
-ghost use Rattle.cacao_check.specs.Uses.{commands_of};
+ghost use Rattle.cacao_steps.specs.Uses.{commands_of};
 ghost use Rattle.flow_core.specs.PlaceViews.{place_view, IsPlaceOf, IsOfCommand};
 
 use cacao_book::{StepCommand, StepKind};

@@ -1,7 +1,7 @@
 // What commands say, read once: contents for filters, and texts for operators.
 ghost use Rattle.std.specs.Prelude.{◌≡◌, ◌<◌, IfOk, Some, length, map, option_map, slice_get};
 ghost use Rattle.cacao_json.specs.Tree.{data_of};
-ghost use Rattle.cacao_check.specs.Uses.{commands_of, content_tree};
+ghost use Rattle.cacao_steps.specs.Uses.{commands_of, content_tree};
 ghost use Rattle.flow_core.specs.Contents.{content_data};
 ghost use Rattle.flow_core.specs.Questions.{question_of};
 ghost use Rattle.flow_core.specs.Wordings.{step_said, step_words, book_said, book_words, AreWordsOf};

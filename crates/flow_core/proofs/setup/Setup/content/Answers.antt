@@ -1,7 +1,7 @@
 use Rattle.std.proofs.Common.{◌∙◌, ap}
 use Rattle.std.specs.Prelude.{option_map, option_and_then, slice_get}
 use Rattle.cacao_book.specs.declared.steps.Step.{Step}
-use Rattle.cacao_check.specs.Uses.{commands_of, content_tree}
+use Rattle.cacao_steps.specs.Uses.{commands_of, content_tree}
 use Rattle.flow_rules.specs.Givens.{step_at}
 use Rattle.flow_core.specs.Contents.{content_data}
 use Rattle.flow_core.proofs.WordLemmas.{no_words, content_read}

@@ -2,7 +2,7 @@ use Rattle.std.proofs.Common.{◌≡◌, sym, ap, subst, arith, List, length, So
 use Rattle.std.specs.Prelude.{slice_get}
 use Rattle.cacao_book.specs.declared.books.Book.{Book}
 use Rattle.cacao_book.specs.declared.steps.Step.{Step}
-use Rattle.cacao_check.specs.Parts.{ReadsStep}
+use Rattle.cacao_steps.specs.Parts.{ReadsStep}
 use Rattle.flow_rules.specs.Givens.{Given}
 use Rattle.flow_core.proofs.SetupParts.{parts_at}
 use Rattle.flow_core.proofs.setup.Setup.parts.Goals as goal
