@@ -94,7 +94,7 @@ pub more_blocks : (file end i : ℕ) (start : List ℕ) (old mid new : SiteView)
     → IsReadUpTo file end i start old mid items tail ends → Begins (front items ++ tail) more behind → at ≡ min ends (4096 * (i + 1))
     → OnlyReads 1 mid new → new.disk.faults ≡ mid.disk.faults → (at ≤ after) × (after ≤ ends) → at + length next ≡ length behind + min (at + 4096) after
     → (IsTrue mid.disk.told → ends ≡ length (mid.disk.reads file)
-        → (after ≡ ends) × ((before : List ℕ) → before ++ behind ≡ take at (mid.disk.reads file) → before ++ next ≡ take (at + 4096) (mid.disk.reads file)))
+    → (after ≡ ends) × ((before : List ℕ) → before ++ behind ≡ take at (mid.disk.reads file) → before ++ next ≡ take (at + 4096) (mid.disk.reads file)))
     → IsReadUpTo file end (i + 1) start old new more next after
 more_blocks file end i start old mid new items more tail behind next at ends after was begins place call faults low long image = record {
   only = reads_then was.only call;

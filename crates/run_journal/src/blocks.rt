@@ -1,5 +1,5 @@
 // A file that is read block after block.
-ghost use Rattle.std.specs.Prelude.{◌≡◌, ◌≢◌, ◌⊎◌, ◌+◌, ◌-◌, ◌/◌, ◌≤◌, ◌++◌, ℕ, List, length, take, min, All, IsTrue, IfOk, OnErr, IsErrOf, Err};
+ghost use Rattle.std.specs.Prelude.{◌≡◌, ◌≢◌, ◌⊎◌, ◌+◌, ◌/◌, ◌≤◌, ◌++◌, ℕ, List, length, take, min, All, IsTrue, IfOk, OnErr, IsErrOf, Err};
 ghost use Rattle.cacao_site.specs.Counts.{Rose};
 ghost use Rattle.run_journal.specs.Blocks.{OnlyReads};
 ghost use Rattle.run_journal.specs.Layout.{IsEntry, front, header};
@@ -22,7 +22,8 @@ pub struct Taken {
 
 /// The entries of a file that ends at `end`. Of its first block the header was cut off, and `start` is what stood behind.
 ///
-/// An entry is taken as soon as it is whole, so that no more than one entry and two blocks are held beside those taken.
+/// An entry is taken as soon as it is whole, so that beside those taken no more is held than one entry and two blocks, or
+/// what stands behind a closed gate or damage.
 pub fn read_rest<D: Disk>(
     alloc: Global,
     disk: &mut D,
@@ -78,7 +79,7 @@ pub fn read_block<D: Disk>(
     ensures long { IfOk result (λ ends. at + length tail.new.items ≡ length tail.old.items + min (at + 4096) ends) }
     ensures image { IfOk result (λ ends. IsTrue (D.view disk.old).disk.told → end ≡ length ((D.view disk.old).disk.reads file)
         → (ends ≡ end) × ((before : List ℕ) → before ++ tail.old.items ≡ take at ((D.view disk.old).disk.reads file)
-            → before ++ tail.new.items ≡ take (at + 4096) ((D.view disk.old).disk.reads file))) }
+        → before ++ tail.new.items ≡ take (at + 4096) ((D.view disk.old).disk.reads file))) }
     ensures disk { IsErrOf result JournalError.Disk → Rose (D.view disk.old).disk.faults (D.view disk.new).disk.faults }
     ensures steady { result ≢ Err JournalError.Disk → (D.view disk.new).disk.faults ≡ (D.view disk.old).disk.faults }
     ensures no_other { OnErr result ((IsErrOf result JournalError.Disk) ⊎ (IsErrOf result JournalError.Memory)) }

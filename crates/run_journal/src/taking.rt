@@ -1,6 +1,6 @@
 // Entries that are taken out of the blocks of a file.
 ghost use Rattle.std.specs.Prelude.{◌≡◌, ◌≢◌, ◌≤◌, ◌∷◌, List, ℕ, drop, length, OnOk, IfOk, true, false};
-ghost use Rattle.run_journal.specs.Layout.{Entries, IsBroken, Begins};
+ghost use Rattle.run_journal.specs.Layout.{Begins, IsBroken};
 
 use crate::blocks::BLOCK;
 use crate::layout::{HEAD_SIZE, MOST_ENTRY, MOST_IMAGE};
@@ -32,11 +32,7 @@ pub fn take_entries(
 }
 
 /// Takes the first entry, if it is whole and longer than a block, in the memory that it was read into.
-fn take_long(
-    alloc: Global,
-    items: &mut Vec<Bytes>,
-    tail: &mut Vec<u8>,
-) -> Result<(), AllocError>
+fn take_long(alloc: Global, items: &mut Vec<Bytes>, tail: &mut Vec<u8>) -> Result<(), AllocError>
     requires { length tail.old.items ≤ 67_108_864 }
     ensures begins { OnOk result ((image : List ℕ) → Begins image items.old.items tail.old.items → Begins image items.new.items tail.new.items) }
     ensures low { OnOk result (length tail.new.items ≤ length tail.old.items) }

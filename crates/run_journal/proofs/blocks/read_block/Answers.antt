@@ -20,8 +20,7 @@ pub returns-else-count-wanted-clause-image : goal.returns-else-count-wanted-clau
 returns-else-count-wanted-clause-image g c = λ told size.
     let reads : List ℕ = (g.D.Disk.view c.args.disk.now).disk.reads c.args.file in
     let bytes = c.in-Ok.ensures.bytes told in
-    let items = c.in_ok-extend_from_slice-in-Ok.ensures.items in
-    (
+    let items = c.in_ok-extend_from_slice-in-Ok.ensures.items in (
       refl,
       λ before first.
           next_block reads before c.args.tail.now.items (take c.in-Ok.count c.read.new.into) c.extend_from_slice.new.self.items c.args.at c.min-wanted.result c.args.end size c.requires.low (omega arith)
