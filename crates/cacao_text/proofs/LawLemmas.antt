@@ -1,15 +1,14 @@
 -- Canonical text has the tree that it was made of.
-use Rattle.std.proofs.Common.{◌≡◌, ℕ, suc, ◌≤◌, List, [], ◌∷◌, ◌++◌, Bool, true, false, Option, Some, None, Less, nat_cmp, refl, sym, ap, ◌∙◌, arith}
+use Rattle.std.proofs.Common.{◌≡◌, ℕ, ◌≤◌, List, Bool, true, false, Option, Some, None, Less, nat_cmp, refl, sym, ap, ◌∙◌, arith}
 use Rattle.std.specs.Prelude.{option_map, codes, if◌then◌else◌}
 use Rattle.std.specs.Cmp.Lexicographic.{slice_cmp}
 use Rattle.std.specs.Str.{is_utf8, bytes_eq}
 use Rattle.std.proofs.lemmas.Str.{is_utf8-from_IsUtf8}
 use Rattle.std.proofs.lemmas.Cmp.{nat_list_cmp_total}
-use Rattle.serde_json.specs.Data.{Num, Data, null, boolean, number, string, array, object, Items, no_items, item, Members, no_members, member, depth, members_depth}
+use Rattle.serde_json.specs.Data.{Data, null, boolean, number, string, array, object, Members, no_members, member, depth, members_depth}
 use Rattle.serde_json.specs.Read.{read}
-use Rattle.cacao_json.specs.Counts.{is_whole, first_broken, numbers, numbers_of_items, numbers_of_pairs}
 use Rattle.cacao_json.specs.Reading.{reading, tree}
-use Rattle.cacao_json.specs.Profile.{IsBelow, IsFormed, AreFormed, AreFormedMembers, IsTree}
+use Rattle.cacao_json.specs.Profile.{IsBelow, AreFormedMembers, IsTree}
 use Rattle.cacao_json.proofs.Readings.{tree-from_reading}
 use Rattle.cacao_json.proofs.Profiles.{formed_whole}
 use Rattle.cacao_json.specs.Tree.{without}

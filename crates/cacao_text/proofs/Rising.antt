@@ -12,8 +12,9 @@ use Rattle.std.proofs.lemmas.Str.{chars-IsAscii}
 use Rattle.std.proofs.lemmas.List.{at_drop_more}
 use Rattle.cacao_json.specs.declared.tree.Pair.{Pair}
 use Rattle.cacao_json.specs.Tree.{pair_data}
+use Rattle.cacao_json.specs.Profile.{IsBelow, AreSortedMembers}
 use Rattle.cacao_text.specs.Canon.{units}
-use Rattle.cacao_text.specs.Arranged.{NoneBefore, AreInOrder}
+use Rattle.cacao_text.specs.Arranged.{NoneBefore, AreInOrder, pairs_data}
 
 each_alone : (k : List ℕ) → IsAscii k → flat_map encode_utf16 k ≡ k
 each_alone [] h = refl
@@ -48,7 +49,7 @@ not_less : (k b a : List ℕ) → is_lt (compare k b) ≡ false → is_lt (compa
 not_less k b a h w = not_less_by (compare k a) (above_by k b a (compare b a) h w refl)
 
 -- the names are of ASCII, and each is at least the one before
-abbrev pub AreRising : List ℕ → List (List ℕ) → Type 0
+abbrev AreRising : List ℕ → List (List ℕ) → Type 0
 AreRising b [] = Unit {0}
 AreRising b (k ∷ ks) = IsAscii k × (is_lt (slice_cmp nat_cmp k b) ≡ false) × AreRising k ks
 
@@ -61,16 +62,35 @@ none_before a b (k ∷ ks) i h w =
 itself : (k : List ℕ) → is_lt (compare k k) ≡ false
 itself k = not_less_by (compare k k) (λ e. cc (nat_list_cmp_total.antisymm k k ∙ ap ordering_reverse e))
 
-pub AreInOrder-AreRising : (b : List ℕ) (ks : List (List ℕ)) → AreRising b ks → AreInOrder ks
+AreInOrder-AreRising : (b : List ℕ) (ks : List (List ℕ)) → AreRising b ks → AreInOrder ks
 AreInOrder-AreRising b [] w = tt
 AreInOrder-AreRising b (k ∷ ks) w = (none_before k k ks w.0 (itself k) w.2, AreInOrder-AreRising k ks w.2)
 
 abbrev pub names : List Pair → List (List ℕ)
 names ps = map (λ p. (pair_data p).0) ps
 
--- one name more that is at least the one before
-pub rising_step : (before name : List ℕ) (ps : List Pair) (i : ℕ) (p : Pair) → i < length ps → p ≡ get_or ps i p → name ≡ (pair_data p).0 → IsAscii name → is_lt (slice_cmp nat_cmp name before) ≡ false
-    → AreRising name (names (drop (i + 1) ps)) → AreRising before (names (drop i ps))
-rising_step before name ps i p below at same ascii least w =
+-- the names are of ASCII
+abbrev pub AreAscii : List (List ℕ) → Type 0
+AreAscii [] = Unit {0}
+AreAscii (k ∷ ks) = IsAscii k × AreAscii ks
+
+rising : (b : List ℕ) (ps : List Pair) → IsBelow b (pairs_data ps) → AreSortedMembers (pairs_data ps) → AreAscii (names ps) → AreRising b (names ps)
+rising b [] below s a = tt
+rising b (p ∷ ps) below s a =
+    let k = (pair_data p).0 in
+    let above : compare k b ≡ Greater = nat_list_cmp_total.antisymm k b ∙ ap ordering_reverse below in
+    (a.0, ap is_lt above, rising k ps s.2 s.3 a.1)
+
+-- names of ASCII stand in the order of their units
+pub in_order_if_ascii : (ps : List Pair) → AreSortedMembers (pairs_data ps) → AreAscii (names ps) → AreInOrder (names ps)
+in_order_if_ascii [] s a = tt
+in_order_if_ascii (p ∷ ps) s a =
+    let k = (pair_data p).0 in
+    let w = rising k ps s.2 s.3 a.1 in
+    (none_before k k (names ps) a.0 (itself k) w, AreInOrder-AreRising k (names ps) w)
+
+-- one name more of ASCII
+pub ascii_step : (name : List ℕ) (ps : List Pair) (i : ℕ) (p : Pair) → i < length ps → p ≡ get_or ps i p → name ≡ (pair_data p).0 → IsAscii name → AreAscii (names (drop (i + 1) ps)) → AreAscii (names (drop i ps))
+ascii_step name ps i p below at same ascii w =
     let first : drop i ps ≡ p ∷ drop (i + 1) ps = at_drop_more (λ qs. qs) ps i p below ∙ ap (λ q. q ∷ drop (i + 1) ps) (sym at) in
-    subst (λ qs. AreRising before (names qs)) (sym first) (subst (λ k. IsAscii k × (is_lt (slice_cmp nat_cmp k before) ≡ false) × AreRising k (names (drop (i + 1) ps))) same (ascii, least, w))
+    subst (λ qs. AreAscii (names qs)) (sym first) (subst (λ k. IsAscii k) same ascii, w)

@@ -1,8 +1,6 @@
 -- How members are arranged, for private clauses.
 use Rattle.std.specs.Prelude.{◌≡◌, ◌+◌, ◌&&◌, ℕ, List, [], ◌∷◌, ◌++◌, Bool, false, not, map, flat_map, option_map, unwrap_or, slice_get, codes, if◌then◌else◌}
-use Rattle.std.specs.Ordering.{nat_cmp, is_lt}
-use Rattle.std.specs.Cmp.Lexicographic.{slice_cmp}
-use Rattle.std.specs.Str.{IsAscii, bytes_eq}
+use Rattle.std.specs.Str.{bytes_eq}
 use Rattle.json.specs.Token.{Token, key}
 use Rattle.json.specs.Tree.{json_tokens}
 use Rattle.json.specs.Written.{Written}
@@ -98,7 +96,3 @@ NoneBefore k (l ∷ ls) = (comes_before l k ≡ false) × NoneBefore k ls
 abbrev pub AreInOrder : List (List ℕ) → Type 0
 AreInOrder [] = Unit {0}
 AreInOrder (k ∷ ks) = NoneBefore k ks × AreInOrder ks
-
--- the name is of ASCII, and is not less than the one before
-abbrev pub Follows : List ℕ → List ℕ → Type 0
-Follows before name = IsAscii name × (is_lt (slice_cmp nat_cmp name before) ≡ false)

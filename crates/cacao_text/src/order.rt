@@ -2,7 +2,8 @@
 ghost use Rattle.std.specs.Prelude.{◌≡◌, IfOk, OnOk};
 ghost use Rattle.std.specs.BTreeMap.{insert_entry};
 ghost use Rattle.std.specs.Bool.{OnTrue};
-ghost use Rattle.cacao_text.specs.Arranged.{names_in, name_at, is_kept, kept_places, AreInOrder, Follows};
+ghost use Rattle.cacao_json.specs.Profile.{AreSortedMembers};
+ghost use Rattle.cacao_text.specs.Arranged.{names_in, name_at, is_kept, kept_places, AreInOrder, pairs_data};
 ghost use Rattle.cacao_text.specs.Keys.{key_cmp, places_in};
 ghost use Rattle.cacao_text.specs.Canon.{in_order};
 
@@ -18,26 +19,18 @@ struct Key {
     place: usize,
 }
 
-/// Whether the names are all of ASCII and rise, so that they stand in the order of their units. That is
-/// so for most objects that were read.
+/// Whether the names, which rise in byte order, are all of ASCII, so that they stand in the order of their units.
+/// That is so for most objects that were read.
 pub fn is_in_order(pairs: &[Pair]) -> bool
+    requires { AreSortedMembers (pairs_data pairs.now) }
     ensures { OnTrue result (AreInOrder (names_in pairs.now)) }
 {
-    let mut before = "";
     for pair in pairs {
-        let name = pair.name.as_str();
-        if !follows(before, name) {
+        if !pair.name.as_str().is_ascii() {
             return false;
         }
-        before = name;
     }
     true
-}
-
-fn follows(before: &str, name: &str) -> bool
-    ensures { OnTrue result (Follows before.now name.now) }
-{
-    name.is_ascii() && !(name < before)
 }
 
 /// The places of the members in the order of their names' units. An unsigned object has no member `signatures`.

@@ -1,6 +1,7 @@
 // From a tree to its canonical text.
 ghost use Rattle.std.specs.Prelude.{◌≡◌, ◌<◌, IfOk, OnOk, All, flat_map, length};
 ghost use Rattle.serde_json.specs.Data.{object, string};
+ghost use Rattle.cacao_json.specs.Profile.{AreSortedMembers};
 ghost use Rattle.cacao_json.specs.Tree.{data_of};
 ghost use Rattle.cacao_text.specs.Canon.{canon, book_text, unsigned_of};
 ghost use Rattle.cacao_text.specs.Arranged.{value_tokens, sorted_tokens, Adds, items_data, pairs_data, pair_tokens, place_tokens};
@@ -95,6 +96,7 @@ fn write_items(alloc: Global, writer: &mut Writer, items: &[Tree]) -> Result<(),
 
 #[cycle(write)]
 fn write_pairs(alloc: Global, writer: &mut Writer, pairs: &[Pair]) -> Result<(), AllocError>
+    requires { AreSortedMembers (pairs_data pairs.now) }
     ensures { OnOk result (Adds writer.old writer.new (value_tokens (object (pairs_data pairs.now)))) }
 {
     writer.begin_object()?;
@@ -105,6 +107,7 @@ fn write_pairs(alloc: Global, writer: &mut Writer, pairs: &[Pair]) -> Result<(),
 /// The members in the order of their names' units. Most stand in it.
 #[cycle(write)]
 fn write_members(alloc: Global, writer: &mut Writer, pairs: &[Pair]) -> Result<(), AllocError>
+    requires { AreSortedMembers (pairs_data pairs.now) }
     ensures { OnOk result (Adds writer.old writer.new (sorted_tokens (pairs_data pairs.now))) }
 {
     if is_in_order(pairs) {

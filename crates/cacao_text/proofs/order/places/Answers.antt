@@ -1,7 +1,7 @@
 use Rattle.std.proofs.Common.{◌≡◌, ◌+◌, refl, sym, ap, subst, ◌∙◌, IfOk}
 use Rattle.cacao_json.specs.Tree.{pair_data}
-use Rattle.cacao_text.specs.Canon.{units, in_order}
-use Rattle.cacao_text.specs.Arranged.{is_kept, name_at, kept_places}
+use Rattle.cacao_text.specs.Canon.{units}
+use Rattle.cacao_text.specs.Arranged.{is_kept}
 use Rattle.cacao_text.proofs.Keyed.{IsPlaced, placed_start, placed_kept, placed_passed, placed_end}
 use Rattle.cacao_text.specs.declared.order.Key.{Key}
 use Rattle.cacao_text.proofs.order.places.Goals as goal

@@ -1,15 +1,15 @@
-use Rattle.std.proofs.Common.{◌<◌, [], ◌∷◌, ◌++◌, length, sym, ap, subst, ◌∙◌, rules}
+use Rattle.std.proofs.Common.{◌<◌, [], ◌∷◌, length, sym, ap, subst, ◌∙◌, rules}
 use Rattle.std.specs.Prelude.{OnOk, All, flat_map}
 use Rattle.json.specs.Token.{begin_object, end_object, begin_array, end_array}
-use Rattle.serde_json.specs.Data.{array}
-use Rattle.cacao_text.specs.Arranged.{items_data, pairs_data, value_tokens, sorted_tokens, tree_tokens, pair_tokens, place_tokens, Adds}
+use Rattle.cacao_text.specs.Arranged.{pairs_data, value_tokens, sorted_tokens, tree_tokens, pair_tokens, place_tokens, Adds}
 use Rattle.cacao_text.proofs.Placed.{sorted_places_within, kept-all}
 use Rattle.cacao_text.proofs.Added.{step, step_place, looped, adds_then, adds_last, array_tokens, object_tokens, sorted_tokens-in_order, sorted_tokens-places}
 use Rattle.cacao_json.specs.Tree.{pair_data, members_of}
 use Rattle.std.proofs.Common.{map, false}
-use Rattle.std.proofs.Common.{arith, ◌*◌, get_or}
+use Rattle.std.proofs.Common.{arith, get_or}
 use Rattle.serde_json.specs.Data.{object}
 use Rattle.cacao_json.specs.Tree.{data_of}
+use Rattle.cacao_json.specs.Profile.{AreSortedMembers}
 use Rattle.cacao_json.proofs.Trees.{item_within, pair_within}
 use Rattle.cacao_text.proofs.write.+write.Goals as goal
 
@@ -17,6 +17,9 @@ pub write_tree-returns-in-Members : goal.write_tree-returns-in-Members
 write_tree-returns-in-Members t c =
     let same = ap (λ ms. object ms) c.as_slice-in-Members.ensures.value ∙ ap data_of (sym c.in-Members.is) in
     subst (λ d. OnOk c.write_pairs.result (Adds c.args.writer.now c.write_pairs.new.writer (value_tokens d))) same c.write_pairs.ensures
+
+pub write_tree-write_pairs-requires : goal.write_tree-write_pairs-requires
+write_tree-write_pairs-requires t c = (search rules, subst AreSortedMembers (sym c.as_slice-in-Members.ensures.value) c.as_slice-in-Members.ensures.sorted)
 
 pub write_items-write_tree-requires : goal.write_items-write_tree-requires
 write_items-write_tree-requires t c = omega (arith, item_within c.args.items.now c.loop-tree.tree-index c.tree-item.result c.loop-tree-test.true c.tree-item.is)
