@@ -5,7 +5,7 @@ use Rattle.std.specs.List.{list_any}
 use Rattle.std.proofs.lemmas.Option.{none-some}
 use Rattle.serde_json.specs.Data.{Data}
 use Rattle.cacao_site.specs.View.{SiteView}
-use Rattle.flow_core.specs.declared.setup_errors.SetupError.TheVariants as setup_error
+use Rattle.flow_setup.specs.declared.setup_errors.SetupError.TheVariants as setup_error
 use Rattle.flow_engine.specs.Answers as told
 use Rattle.flow_engine.proofs.AnswerLawLemmas.{bad_lines_tell_nothing}
 use Rattle.run_reports.proofs.AcceptLemmas.{not-accepted}

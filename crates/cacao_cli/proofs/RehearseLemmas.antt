@@ -7,7 +7,7 @@ use Rattle.cacao_site.specs.Counts.{Rose, next_count}
 use Rattle.memory_site.specs.MemorySite.{view_of}
 use Rattle.cacao_site.specs.View.{SiteView}
 use Rattle.memory_site.specs.declared.site.MemorySite.{MemorySite}
-use Rattle.flow_core.specs.declared.setup_errors.SetupError.TheVariants as setup_error
+use Rattle.flow_setup.specs.declared.setup_errors.SetupError.TheVariants as setup_error
 use Rattle.flow_rules.specs.Givens.{Given}
 use Rattle.flow_world.specs.declared.close.Close.{Close}
 use Rattle.flow_world.specs.declared.close.Close.TheVariants as close

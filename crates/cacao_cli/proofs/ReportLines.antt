@@ -39,8 +39,8 @@ use Rattle.run_reports.specs.RunLines.{Reports, each_line, lines_of, no_run}
 use Rattle.serde_json.specs.Data.{Members}
 use Rattle.serde_json.specs.Find.{as_object}
 use Rattle.std.proofs.lemmas.Option.{none-some}
-use Rattle.flow_core.proofs.SetupLists.{mapped_at}
-use Rattle.flow_core.proofs.SetupRunnable.{members_all}
+use Rattle.flow_setup.proofs.SetupLists.{mapped_at}
+use Rattle.flow_setup.proofs.SetupRunnable.{members_all}
 use Rattle.flow_core.specs.Setups.{AreAccepted}
 use Rattle.flow_rules.specs.Accepted.{Accepted}
 use Rattle.flow_rules.specs.Changes.{moment_of}

@@ -23,7 +23,7 @@ use Rattle.flow_rules.proofs.QuietLemmas.{IsQuiet}
 use Rattle.flow_rules.proofs.OrderLemmas.{change_fine}
 use Rattle.flow_rules.proofs.PlacedLemmas.{Placed, change-placed}
 use Rattle.flow_rules.proofs.SaneRuns.{Sound, runs_are_sound}
-use Rattle.flow_core.specs.Fits.{AllFit, IsNewTask}
+use Rattle.flow_tables.specs.Fits.{AllFit, IsNewTask}
 use Rattle.flow_core.specs.Views.{View, begins, blank_lists, taken, is_makes}
 use Rattle.flow_core.specs.Flows.{IsStateOf, IsReached}
 use Rattle.flow_core.proofs.EditFits.{Shaped, with_end, fits_shaped}

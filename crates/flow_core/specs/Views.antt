@@ -1,19 +1,20 @@
 -- What contracts see of a flow, and its answers.
-use Rattle.std.specs.Prelude.{◌≡◌, ℕ, suc, ◌+◌, ◌==◌, ◌&&◌, nat_lt, nat_le, nat_eq, Bool, true, false, not, List, [], length, count_by, Option, Some, None, IsSome, Result, Ok, Err, ⊤, option_and_then, if◌then◌else◌}
-use Rattle.std.specs.Str.{IsUtf8, bytes_eq}
-use Rattle.std.specs.Cmp.Lexicographic.{pointwise}
+use Rattle.std.specs.Prelude.{◌≡◌, ℕ, suc, ◌+◌, ◌==◌, nat_lt, Bool, true, false, not, List, length, count_by, Option, Some, None, IsSome, Result, Ok, Err, ⊤, option_and_then, if◌then◌else◌}
+use Rattle.std.specs.Str.{IsUtf8}
 use Rattle.std.specs.List.{list_any}
 use Rattle.run_records.specs.declared.record.Record.{Record}
 use Rattle.run_records.specs.declared.record.Record.TheVariants as entry
-use Rattle.run_records.specs.Ranges.{most_text, last_moment}
+use Rattle.run_records.specs.Ranges.{most_text}
 use Rattle.flow_rules.specs.declared.moves.Move.{Move}
 use Rattle.flow_rules.specs.Givens.{Given}
-use Rattle.flow_rules.specs.State.{Lists, Shown}
+use Rattle.flow_rules.specs.State.{Shown}
 use Rattle.flow_rules.specs.Edits.{Edit}
 use Rattle.flow_rules.specs.Edits.Edit.{makes, issues}
 use Rattle.flow_rules.specs.Changes.{change, moment_of}
-use Rattle.flow_rules.specs.Runs.{first_edits, shown_after}
+use Rattle.flow_rules.specs.Runs.{shown_after}
 use Rattle.flow_rules.specs.Moves.{record_of}
+use Rattle.flow_tables.specs.TableFacts.{blank_lists}
+pub use Rattle.flow_plans.specs.Begins.{begins}
 use Rattle.flow_core.specs.declared.flow_errors.FlowError.{FlowError}
 use Rattle.flow_core.specs.declared.flow_errors.FlowError.TheVariants as flow_error
 use Rattle.flow_core.specs.declared.flow_errors.LimitKind.{LimitKind}
@@ -35,18 +36,8 @@ abbrev pub has_begun : View → Bool
 has_begun v = not (v.count == 0)
 
 -- what is shown before the Begin
-abbrev pub blank_lists : Lists
-blank_lists = record { is_upgraded = false; tasks = []; scopes = []; texts = []; issues = [] }
-
 abbrev pub blank_shown : Given → ℕ → Shown
 blank_shown given run = record { moment = 0; run = run; given = given; lists = blank_lists }
-
--- What the Begin of this run changes, at a moment that is not past the last one. No other record comes first.
-abbrev pub begins : Shown → Record → Option (List Edit)
-begins s (entry.Begin run moment books bind) =
-    if nat_le moment last_moment && (run == s.run) && pointwise (pointwise nat_eq) books s.given.texts && bytes_eq bind s.given.bind
-    then first_edits s.given moment else None
-begins s other = None
 
 -- what a record changes, where it may come next
 abbrev pub taken : View → Record → Option (List Edit)

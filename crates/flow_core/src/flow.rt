@@ -2,19 +2,18 @@
 ghost use Rattle.std.specs.Prelude.{◌≡◌, ◌+◌, ◌<◌, ◌≤◌, length, None, Some, IfOk, IfSome, IfErr, OnOk, OnErr, option_map, true};
 ghost use Rattle.flow_rules.specs.Runs.{begin_of};
 ghost use Rattle.flow_rules.specs.Moves.{record_of};
-ghost use Rattle.flow_core.specs.Planned.{edits_of, AreDeclared};
+ghost use Rattle.flow_tables.specs.Planned.{edits_of, AreDeclared};
 ghost use Rattle.flow_core.specs.Flows.{plan_of, HasSizes, IsReached};
-ghost use Rattle.flow_core.specs.Setups.{IsSetup};
+ghost use Rattle.flow_setup.specs.Setups.{IsSetup};
 ghost use Rattle.flow_core.specs.Views.{blank_shown, taken, taken_by, passed, AsksText, IsReadyFor, Takes, Answers};
 
-use crate::flow_errors::{FlowError, LimitKind};
+use crate::flow_errors::FlowError;
 use crate::limits::{MOST_EDITS, passed};
-use crate::planned::Planned;
-use crate::planning::moment_of;
-use crate::run::Run;
-use crate::setup::{Setup, setup_law};
-use crate::tables::Tables;
+use flow_plans::{begin, change, first_change, moment_of};
 use flow_rules::Move;
+use flow_setup::{Setup, setup_law};
+use flow_tables::{Planned, Tables};
+use flow_values::Run;
 use run_records::Record;
 use std::alloc::{AllocError, Global};
 use std::marker::Model;
@@ -82,7 +81,7 @@ impl Flow {
     pub fn begin(&self, moment: u64) -> Result<Record, AllocError>
         ensures { IfOk result (λ item. item ≡ begin_of self.now.seen.given self.now.seen.run moment) }
     {
-        self.run.begin(self.alloc, moment)
+        begin(&self.run, self.alloc, moment)
     }
 
     /// What a record changes; None where it may not come next.
@@ -91,13 +90,13 @@ impl Flow {
         ensures declared { IfOk result (λ o. IfSome o (λ plan. AreDeclared plan.items)) }
     {
         if self.count == 0 {
-            return self.run.first(self.alloc, item);
+            return first_change(&self.run, self.alloc, item);
         }
         if !self.run.has_numbers() {
             return Err(AllocError);
         }
         setup_law(&self.run.setup);
-        self.run.change(self.alloc, item)
+        change(&self.run, self.alloc, item)
     }
 
     /// Keeps a plan, and takes the room for it. A refusal changes nothing.

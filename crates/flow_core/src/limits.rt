@@ -2,20 +2,18 @@
 ghost use Rattle.std.specs.Prelude.{◌≡◌, ◌≤◌, length, count_by};
 ghost use Rattle.std.specs.List.{list_any};
 ghost use Rattle.flow_rules.specs.State.{Shown};
-ghost use Rattle.flow_core.specs.Planned.{edit_of, edits_of};
+ghost use Rattle.flow_tables.specs.Planned.{edit_of, edits_of};
 ghost use Rattle.flow_core.specs.Views.{is_makes, is_long_command, passed};
 
 use crate::flow_errors::LimitKind;
-use crate::planned::Planned;
+use flow_tables::Planned;
+use flow_values::MOST_COMMAND;
 
 /// The most tasks of a run.
 const MOST_TASKS: usize = 1_000_000;
 
 /// The most edits for which room is taken at once; no record has so many.
 pub(crate) const MOST_EDITS: usize = 1_000_000;
-
-/// The most bytes of a command, or of what an operator is asked.
-pub(crate) const MOST_COMMAND: usize = 1_048_576;
 
 fn is_makes(edit: &Planned) -> bool
     ensures { result ≡ is_makes (edit_of edit.now) }

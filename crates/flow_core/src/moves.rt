@@ -8,16 +8,16 @@ ghost use Rattle.flow_rules.specs.Waiting.{AlwaysWaits};
 ghost use Rattle.flow_core.specs.MoveKinds.{is_operators};
 ghost use Rattle.flow_dues.specs.Pairs.{IsQueue, rising};
 ghost use Rattle.flow_dues.specs.Least.{sooner};
-ghost use Rattle.flow_core.specs.RunFacts.{shown_of, IsWell};
+ghost use Rattle.flow_values.specs.RunFacts.{shown_of, IsWell};
 ghost use Rattle.flow_core.specs.Views.{AsksText, has_begun};
 
 use crate::flow::Flow;
-use crate::places::{Place, place_in};
-use crate::run::Run;
-use crate::setup::setup_law;
 use cacao_book::StepKind;
 use flow_dues::Dues;
+use flow_plans::{next_command, next_question};
 use flow_rules::{Issue, Move, Phase};
+use flow_setup::setup_law;
+use flow_values::{Place, Run, place_in};
 use run_records::Record;
 use std::alloc::{AllocError, Global};
 
@@ -54,78 +54,74 @@ fn is_operators_place(kind: &StepKind, place: u32) -> bool
     }
 }
 
-impl Run {
-    /// The move of a task that can go on at a moment.
-    fn move_of(&self, now: u64, t: u32) -> Option<Move>
-        ensures { is_some (move_at (shown_of self.now) now t) ≡ true → result ≡ move_at (shown_of self.now) now t }
-    {
-        let stand = self.here(now, t)?;
-        match stand.task.phase {
-            Phase::Sending { place } => {
-                if !is_operators_place(&stand.step.kind, place) {
-                    Some(Move::Send { task: t })
-                } else if self.tables.is_upgraded {
-                    Some(Move::Ask { task: t })
-                } else {
-                    Some(Move::Upgrade)
-                }
+/// The move of a task that can go on at a moment.
+fn move_of(run: &Run, now: u64, t: u32) -> Option<Move>
+    ensures { is_some (move_at (shown_of run.now) now t) ≡ true → result ≡ move_at (shown_of run.now) now t }
+{
+    let stand = run.here(now, t)?;
+    match stand.task.phase {
+        Phase::Sending { place } => {
+            if !is_operators_place(&stand.step.kind, place) {
+                Some(Move::Send { task: t })
+            } else if run.tables.is_upgraded {
+                Some(Move::Ask { task: t })
+            } else {
+                Some(Move::Upgrade)
             }
-            _ => Some(Move::Walk { task: t }),
         }
+        _ => Some(Move::Walk { task: t }),
     }
 }
 
-impl Run {
-    /// The record of the command that a task sends next.
-    fn send_record(
-        &self,
-        alloc: Global,
-        task: u32,
-        moment: u64,
-    ) -> Result<Option<Record>, AllocError>
-        requires { IsWell self.now }
-        ensures made { IfOk result (λ o. o ≡ record_of (shown_of self.now) moment (does_move.Send task)) }
-        ensures text { IfOk result (λ o. IfSome o AsksText) }
-    {
-        let issue = self.tables.issues.len() as u32;
-        let found = self.next_command(alloc, moment, task)?;
-        let Some(made) = found else {
-            return Ok(None);
-        };
-        let Issue { agent, bytes, .. } = made.issue;
-        Ok(Some(Record::Send {
-            task,
-            issue,
-            agent,
-            moment,
-            bytes,
-        }))
-    }
+/// The record of the command that a task sends next.
+fn send_record(
+    run: &Run,
+    alloc: Global,
+    task: u32,
+    moment: u64,
+) -> Result<Option<Record>, AllocError>
+    requires { IsWell run.now }
+    ensures made { IfOk result (λ o. o ≡ record_of (shown_of run.now) moment (does_move.Send task)) }
+    ensures text { IfOk result (λ o. IfSome o AsksText) }
+{
+    let issue = run.tables.issues.len() as u32;
+    let found = next_command(run, alloc, moment, task)?;
+    let Some(made) = found else {
+        return Ok(None);
+    };
+    let Issue { agent, bytes, .. } = made.issue;
+    Ok(Some(Record::Send {
+        task,
+        issue,
+        agent,
+        moment,
+        bytes,
+    }))
+}
 
-    /// The record of what a task asks an operator next.
-    fn ask_record(
-        &self,
-        alloc: Global,
-        task: u32,
-        moment: u64,
-    ) -> Result<Option<Record>, AllocError>
-        requires { IsWell self.now }
-        ensures made { IfOk result (λ o. o ≡ record_of (shown_of self.now) moment (does_move.Ask task)) }
-        ensures text { IfOk result (λ o. IfSome o AsksText) }
-    {
-        let issue = self.tables.issues.len() as u32;
-        let found = self.next_question(alloc, moment, task)?;
-        let Some(made) = found else {
-            return Ok(None);
-        };
-        let Issue { bytes, .. } = made.issue;
-        Ok(Some(Record::Ask {
-            task,
-            issue,
-            moment,
-            bytes,
-        }))
-    }
+/// The record of what a task asks an operator next.
+fn ask_record(
+    run: &Run,
+    alloc: Global,
+    task: u32,
+    moment: u64,
+) -> Result<Option<Record>, AllocError>
+    requires { IsWell run.now }
+    ensures made { IfOk result (λ o. o ≡ record_of (shown_of run.now) moment (does_move.Ask task)) }
+    ensures text { IfOk result (λ o. IfSome o AsksText) }
+{
+    let issue = run.tables.issues.len() as u32;
+    let found = next_question(run, alloc, moment, task)?;
+    let Some(made) = found else {
+        return Ok(None);
+    };
+    let Issue { bytes, .. } = made.issue;
+    Ok(Some(Record::Ask {
+        task,
+        issue,
+        moment,
+        bytes,
+    }))
 }
 
 impl Flow {
@@ -145,7 +141,7 @@ impl Flow {
                     return Err(AllocError);
                 }
                 setup_law(&self.run.setup);
-                self.run.send_record(self.alloc, task, moment)
+                send_record(&self.run, self.alloc, task, moment)
             }
             Move::Ask { task } => {
                 if self.count == 0 {
@@ -155,7 +151,7 @@ impl Flow {
                     return Err(AllocError);
                 }
                 setup_law(&self.run.setup);
-                self.run.ask_record(self.alloc, task, moment)
+                ask_record(&self.run, self.alloc, task, moment)
             }
         }
     }
@@ -169,7 +165,7 @@ impl Flow {
         }
         setup_law(&self.run.setup);
         match self.run.tables.ready.least_by(moment) {
-            Some(t) => self.run.move_of(moment, t),
+            Some(t) => move_of(&self.run, moment, t),
             None => None,
         }
     }

@@ -2,15 +2,15 @@
 ghost use Rattle.std.specs.Prelude.{◌≡◌, ◌∷◌, ◌++◌, ◌≤◌, [], ℕ, IfOk, OnOk, codes, decimal, true, length, slice_get, unwrap_or, Some};
 ghost use Rattle.flow_rules.specs.Lines.{report, line_from, line, maybe_number, phase_words, issue_words, agent_word, maybe_text, outcome_words, well_words, key_of, task_lines, issue_lines, variable_lines};
 ghost use Rattle.flow_rules.specs.Changes.{outcome};
-ghost use Rattle.flow_core.specs.RunFacts.{shown_of};
+ghost use Rattle.flow_values.specs.RunFacts.{shown_of};
 ghost use Rattle.flow_core.specs.Views.{has_begun};
 
 use crate::flow::Flow;
-use crate::run::Run;
 use cacao_site::Bytes;
 use cacao_text::canonical_string;
 use cacao_vars::{Name, Word};
 use flow_rules::{Issue, IssuePhase, Phase, Task};
+use flow_values::Run;
 use itoa::Buffer;
 use std::alloc::{AllocError, Global};
 use std::collections::BTreeMap;
@@ -193,74 +193,62 @@ fn add_variables(
     Ok(())
 }
 
-impl Run {
-    /// The key of the step at which a task stands.
-    pub(crate) fn key_of(&self, task: &Task) -> &str
-        ensures { (t : ℕ) → slice_get self.now.tables.tasks.items t ≡ Some task.now → result.now ≡ key_of (shown_of self.now) t }
-    {
-        match self.setup.step(task.book, task.step) {
-            Some(step) => step.key.text(),
-            None => "",
+/// Adds how a task stands, and the end of the line.
+fn add_phase(run: &Run, out: &mut Vec<u8>, task: &Task) -> Result<(), AllocError>
+    ensures { (t : ℕ) → slice_get run.now.tables.tasks.items t ≡ Some task.now
+        → OnOk result (out.new.items ≡ out.old.items ++ line (phase_words (shown_of run.now) t task.now.phase)) }
+{
+    match task.phase {
+        Phase::Ended { well } => add_end(out, well),
+        _ => {
+            add_word(out, b"at")?;
+            add_word(out, run.key_of(task).as_bytes())?;
+            end(out)
         }
     }
+}
 
-    /// Adds how a task stands, and the end of the line.
-    fn add_phase(&self, out: &mut Vec<u8>, task: &Task) -> Result<(), AllocError>
-        ensures { (t : ℕ) → slice_get self.now.tables.tasks.items t ≡ Some task.now
-            → OnOk result (out.new.items ≡ out.old.items ++ line (phase_words (shown_of self.now) t task.now.phase)) }
-    {
-        match task.phase {
-            Phase::Ended { well } => add_end(out, well),
-            _ => {
-                add_word(out, b"at")?;
-                add_word(out, self.key_of(task).as_bytes())?;
-                end(out)
-            }
-        }
+/// Adds the line of a task.
+fn add_task(run: &Run, out: &mut Vec<u8>, number: u64, task: &Task) -> Result<(), AllocError>
+    requires { slice_get run.now.tables.tasks.items number ≡ Some task.now }
+    ensures { OnOk result (out.new.items ≡ out.old.items
+        ++ line_from (codes "task") (decimal number ∷ maybe_number task.now.parent ∷ phase_words (shown_of run.now) number task.now.phase)) }
+{
+    add(out, b"task")?;
+    add_number(out, number)?;
+    add_maybe_number(out, task.parent)?;
+    add_phase(run, out, task)
+}
+
+/// Adds the lines of all tasks.
+fn add_tasks(run: &Run, out: &mut Vec<u8>) -> Result<(), AllocError>
+    ensures { OnOk result (out.new.items ≡ out.old.items ++ task_lines (shown_of run.now) 0 run.now.tables.tasks.items) }
+{
+    let tasks = run.tables.tasks.as_slice();
+    for number in 0..tasks.len() {
+        let task = &tasks[number];
+        add_task(run, out, number as u64, task)?;
     }
+    Ok(())
+}
 
-    /// Adds the line of a task.
-    fn add_task(&self, out: &mut Vec<u8>, number: u64, task: &Task) -> Result<(), AllocError>
-        requires { slice_get self.now.tables.tasks.items number ≡ Some task.now }
-        ensures { OnOk result (out.new.items ≡ out.old.items
-            ++ line_from (codes "task") (decimal number ∷ maybe_number task.now.parent ∷ phase_words (shown_of self.now) number task.now.phase)) }
-    {
-        add(out, b"task")?;
-        add_number(out, number)?;
-        add_maybe_number(out, task.parent)?;
-        self.add_phase(out, task)
-    }
+/// Adds the first three lines.
+fn add_head(run: &Run, out: &mut Vec<u8>, count: u32) -> Result<(), AllocError>
+    ensures { OnOk result (out.new.items ≡ out.old.items ++ (line_from (codes "run") (decimal run.now.number ∷ [])
+        ++ (line_from (codes "records") (decimal count ∷ []) ++ line_from (codes "moment") (decimal run.now.moment ∷ [])))) }
+{
+    add_number_line(out, b"run", run.number)?;
+    add_number_line(out, b"records", count as u64)?;
+    add_number_line(out, b"moment", run.moment)
+}
 
-    /// Adds the lines of all tasks.
-    fn add_tasks(&self, out: &mut Vec<u8>) -> Result<(), AllocError>
-        ensures { OnOk result (out.new.items ≡ out.old.items ++ task_lines (shown_of self.now) 0 self.now.tables.tasks.items) }
-    {
-        let tasks = self.tables.tasks.as_slice();
-        for number in 0..tasks.len() {
-            let task = &tasks[number];
-            self.add_task(out, number as u64, task)?;
-        }
-        Ok(())
-    }
-
-    /// Adds the first three lines.
-    fn add_head(&self, out: &mut Vec<u8>, count: u32) -> Result<(), AllocError>
-        ensures { OnOk result (out.new.items ≡ out.old.items ++ (line_from (codes "run") (decimal self.now.number ∷ [])
-            ++ (line_from (codes "records") (decimal count ∷ []) ++ line_from (codes "moment") (decimal self.now.moment ∷ [])))) }
-    {
-        add_number_line(out, b"run", self.number)?;
-        add_number_line(out, b"records", count as u64)?;
-        add_number_line(out, b"moment", self.moment)
-    }
-
-    /// Adds the lines of the variables of the first playbook.
-    fn add_first_variables(&self, alloc: Global, out: &mut Vec<u8>) -> Result<(), AllocError>
-        ensures { OnOk result (out.new.items ≡ out.old.items ++ variable_lines (unwrap_or (slice_get self.now.tables.texts.items 0) [])) }
-    {
-        match self.tables.texts.first() {
-            Some(texts) => add_variables(alloc, out, texts.as_map()),
-            None => Ok(()),
-        }
+/// Adds the lines of the variables of the first playbook.
+fn add_first_variables(run: &Run, alloc: Global, out: &mut Vec<u8>) -> Result<(), AllocError>
+    ensures { OnOk result (out.new.items ≡ out.old.items ++ variable_lines (unwrap_or (slice_get run.now.tables.texts.items 0) [])) }
+{
+    match run.tables.texts.first() {
+        Some(texts) => add_variables(alloc, out, texts.as_map()),
+        None => Ok(()),
     }
 }
 
@@ -272,10 +260,10 @@ impl Flow {
         ensures { IfOk result (λ lines. lines ≡ report self.now.seen self.now.count) }
     {
         let mut out = Vec::new(self.alloc);
-        self.run.add_head(&mut out, self.count)?;
-        self.run.add_tasks(&mut out)?;
+        add_head(&self.run, &mut out, self.count)?;
+        add_tasks(&self.run, &mut out)?;
         add_issues(&mut out, self.run.tables.issues.as_slice())?;
-        self.run.add_first_variables(self.alloc, &mut out)?;
+        add_first_variables(&self.run, self.alloc, &mut out)?;
         add_outcome(&mut out, self.run.outcome())?;
         Ok(Bytes::from_vec(out))
     }

@@ -7,9 +7,9 @@ ghost use Rattle.flow_rules.specs.Lines.{key_of};
 ghost use Rattle.flow_rules.specs.Moves.{deadline_of};
 
 use crate::flow::Flow;
-use crate::setup::Setup;
 use cacao_vars::{Name, Word};
 use flow_rules::IssuePhase;
+use flow_setup::Setup;
 use std::collections::BTreeMap;
 
 impl Flow {

@@ -20,7 +20,7 @@ use Rattle.flow_rules.specs.declared.moves.Move.TheVariants as move
 use Rattle.flow_rules.proofs.CanEndLemmas.{ended_is_all_over}
 use Rattle.flow_rules.proofs.IssueLemmas.{issues_have_records}
 use Rattle.flow_rules.proofs.SaneRuns.{runs_are_sane}
-use Rattle.flow_core.proofs.SetupRunnable.{accepted_is_runnable}
+use Rattle.flow_setup.proofs.SetupRunnable.{accepted_is_runnable}
 use Rattle.flow_engine.specs.EngineView.{EngineView, HistoryView}
 use Rattle.flow_engine.specs.Histories.{IsHistory, IsSoFar}
 use Rattle.flow_laws.proofs.Basics.{same_some}

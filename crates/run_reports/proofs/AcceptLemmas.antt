@@ -17,8 +17,8 @@ use Rattle.flow_rules.specs.Bindings.{BindRule, KeepsBind, bindings_of}
 use Rattle.flow_rules.specs.Givens.{Given}
 use Rattle.flow_core.specs.Setups.{AreAccepted}
 use Rattle.flow_core.specs.SetupReading.{RefusesTexts, texts_read}
-use Rattle.flow_core.specs.declared.setup_errors.SetupError.{SetupError}
-use Rattle.flow_core.specs.declared.setup_errors.SetupError.TheVariants.{Unreadable, Broken, Bind, Memory}
+use Rattle.flow_setup.specs.declared.setup_errors.SetupError.{SetupError}
+use Rattle.flow_setup.specs.declared.setup_errors.SetupError.TheVariants.{Unreadable, Broken, Bind, Memory}
 use Rattle.run_reports.specs.Beginnings.{NoneAccepted}
 
 heads : {A : Type 0} (x y : A) (xs ys : List A) → x ∷ xs ≡ y ∷ ys → (x ≡ y) × (xs ≡ ys)

@@ -1,0 +1,5 @@
+pub mod AddingLemmas
+pub mod AnswerLemmas
+pub mod EnteredLemmas
+pub mod StandLemmas
+pub mod WaitLemmas

@@ -1,0 +1,15 @@
+//! What each record of a run changes: the edits that are planned for it.
+#![tactic(auto)]
+
+mod answers;
+mod branching;
+mod entering;
+mod going;
+mod issuing;
+mod joining;
+mod planning;
+mod walking;
+mod writing;
+
+pub use issuing::{Made, next_command, next_question};
+pub use planning::{begin, change, first_change, moment_of};

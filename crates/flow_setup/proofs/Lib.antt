@@ -1,0 +1,9 @@
+pub mod SetupAgain
+pub mod SetupLists
+pub mod SetupOrder
+pub mod SetupParts
+pub mod SetupReasons
+pub mod SetupRunnable
+pub mod SetupSearch
+pub mod SetupWhole
+pub mod WordLemmas

@@ -1,0 +1,4 @@
+pub mod SetupGivens
+pub mod SetupLaws
+pub mod SetupReading
+pub mod Setups

@@ -1,0 +1,9 @@
+pub mod CountLemmas
+pub mod DeclaredLemmas
+pub mod EntryLemmas
+pub mod IssueEdits
+pub mod MoveEdits
+pub mod PlanLemmas
+pub mod PresentLemmas
+pub mod TableLemmas
+pub mod TaskEdits

@@ -1,0 +1,12 @@
+//! The tables of a run, and the edits that change them.
+#![tactic(auto)]
+
+mod planned;
+mod present;
+mod tables;
+mod tables_edits;
+mod tables_parts;
+
+pub use planned::Planned;
+pub use present::Present;
+pub use tables::{Tables, Wait};

@@ -1,0 +1,5 @@
+pub mod ContentLemmas
+pub mod MemberLemmas
+pub mod PhraseLemmas
+pub mod UnitLemmas
+pub mod WholeLemmas

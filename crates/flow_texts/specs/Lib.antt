@@ -1,0 +1,5 @@
+pub mod ContentFalls
+pub mod Contents
+pub mod Phrases
+pub mod Questions
+pub mod Wordings

@@ -1,0 +1,9 @@
+pub mod AddressLemmas
+pub mod FillLemmas
+pub mod HereLemmas
+pub mod HomeLemmas
+pub mod LookLemmas
+pub mod PlaceLemmas
+pub mod RunLemmas
+pub mod SizeLemmas
+pub mod TruthLemmas
