@@ -6,8 +6,8 @@ use Rattle.cacao_check.specs.Fits.{FitsKind}
 use Rattle.cacao_site.specs.View.{SiteView}
 use Rattle.flow_core.specs.SetupReading.{AreTreesOf, BreaksBindRule}
 use Rattle.flow_core.specs.Setups.{AreAccepted}
-use Rattle.flow_engine.specs.Answers as told
-use Rattle.flow_engine.specs.declared.answers.OperatorAnswer.{OperatorAnswer}
+use Rattle.operator_answers.specs.Answers as told
+use Rattle.operator_answers.specs.declared.answers.OperatorAnswer.{OperatorAnswer}
 use Rattle.flow_rules.specs.Accepted.{Accepted}
 use Rattle.flow_rules.specs.Bindings.{bindings_of}
 use Rattle.flow_rules.specs.Givens.{Given}

@@ -15,7 +15,7 @@ use Rattle.run_reports.proofs.AcceptLemmas.{accepted-one}
 use Rattle.flow_core.specs.Setups.{AreAccepted}
 use Rattle.flow_rules.specs.Accepted.{Accepted}
 use Rattle.flow_rules.specs.Givens.{Given}
-use Rattle.flow_engine.specs.declared.answers.OperatorAnswer.{OperatorAnswer}
+use Rattle.operator_answers.specs.declared.answers.OperatorAnswer.{OperatorAnswer}
 use Rattle.slpf_actuator.specs.Damage as filter_file
 use Rattle.flow_world.specs.Sessions.{HasClosed, HasRefused, IsStart, KeepsAgreement}
 use Rattle.flow_world.specs.declared.close.Close.{Close}

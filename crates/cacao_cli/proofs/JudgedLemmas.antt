@@ -6,8 +6,8 @@ use Rattle.std.proofs.lemmas.Option.{none-some}
 use Rattle.serde_json.specs.Data.{Data}
 use Rattle.cacao_site.specs.View.{SiteView}
 use Rattle.flow_setup.specs.declared.setup_errors.SetupError.TheVariants as setup_error
-use Rattle.flow_engine.specs.Answers as told
-use Rattle.flow_engine.proofs.AnswerLawLemmas.{bad_lines_tell_nothing}
+use Rattle.operator_answers.specs.Answers as told
+use Rattle.operator_answers.proofs.AnswerLawLemmas.{bad_lines_tell_nothing}
 use Rattle.run_reports.proofs.AcceptLemmas.{not-accepted}
 use Rattle.cacao_words.specs.Words.{Text}
 use Rattle.cacao_cli.specs.Causes.{LacksTree}

@@ -13,14 +13,15 @@ use Rattle.flow_rules.specs.Accepted.{Accepted}
 use Rattle.flow_rules.specs.Changes.{outcome}
 use Rattle.flow_rules.specs.Givens.{Given}
 use Rattle.flow_rules.specs.State.{Shown}
-use Rattle.flow_engine.specs.EngineView.{EngineView, HoldsRecords}
-use Rattle.flow_engine.specs.Histories.{IsSoFar}
-use Rattle.flow_engine.specs.Laws.{HoldsRun}
-use Rattle.flow_engine.specs.Openings.{IsRefusedOpening, RefusesAsEntries, RefusesImage}
-use Rattle.flow_engine.specs.declared.answers.OperatorAnswer.{OperatorAnswer}
-use Rattle.flow_engine.specs.declared.error.EngineError.{EngineError}
-use Rattle.flow_engine.specs.declared.error.EngineError.TheVariants as refusal
-use Rattle.flow_engine.proofs.RefusalLaws.{one_refusal}
+use Rattle.engine_history.specs.HistoryView.{HoldsRecords}
+use Rattle.engine_history.specs.Histories.{IsSoFar}
+use Rattle.engine_history.specs.Laws.{HoldsRun}
+use Rattle.engine_history.specs.Openings.{IsRefusedOpening, RefusesAsEntries, RefusesImage}
+use Rattle.operator_answers.specs.declared.answers.OperatorAnswer.{OperatorAnswer}
+use Rattle.engine_history.specs.declared.error.EngineError.{EngineError}
+use Rattle.engine_history.specs.declared.error.EngineError.TheVariants as refusal
+use Rattle.engine_history.proofs.RefusalLaws.{one_refusal}
+use Rattle.flow_engine.specs.EngineView.{EngineView}
 use Rattle.flow_laws.specs.Images.{IsRecords}
 use Rattle.flow_steps.specs.Causes.{AskedFirst}
 use Rattle.flow_steps.specs.Unbroken.{IsJournalSure}

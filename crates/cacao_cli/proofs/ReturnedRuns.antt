@@ -18,12 +18,12 @@ use Rattle.flow_rules.specs.Givens.{Given}
 use Rattle.flow_rules.specs.Runs.{begin_of}
 use Rattle.flow_rules.specs.State.{Shown}
 use Rattle.flow_rules.proofs.RunLemmas.{list_heads}
-use Rattle.flow_engine.specs.EngineView.{HoldsRecords}
-use Rattle.flow_engine.specs.Histories.{IsShownAfter, IsSoFar}
-use Rattle.flow_engine.specs.Laws.{HoldsRun}
-use Rattle.flow_engine.specs.Openings.{BeginsWith, RefusesAsEntries}
-use Rattle.flow_engine.specs.declared.answers.OperatorAnswer.{OperatorAnswer}
-use Rattle.flow_engine.specs.declared.error.EngineError.TheVariants as refusal
+use Rattle.engine_history.specs.HistoryView.{HoldsRecords}
+use Rattle.engine_history.specs.Histories.{IsShownAfter, IsSoFar}
+use Rattle.engine_history.specs.Laws.{HoldsRun}
+use Rattle.engine_history.specs.Openings.{BeginsWith, RefusesAsEntries}
+use Rattle.operator_answers.specs.declared.answers.OperatorAnswer.{OperatorAnswer}
+use Rattle.engine_history.specs.declared.error.EngineError.TheVariants as refusal
 use Rattle.flow_laws.specs.Images.{IsRecords}
 use Rattle.flow_laws.proofs.OneList.{records_of_layout, same_records}
 use Rattle.slpf_actuator.specs.ActuatorView.{ActuatorView, HoldsActs}

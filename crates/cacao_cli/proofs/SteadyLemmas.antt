@@ -2,7 +2,7 @@
 use Rattle.std.proofs.Common.{◌≡◌, ◌⊎◌, inl, inr, ◌∙◌, ap, subst, ℕ, List, Option}
 use Rattle.std.proofs.lemmas.Bool.{true≢false}
 use Rattle.cacao_site.specs.View.{SiteView}
-use Rattle.flow_engine.specs.declared.answers.OperatorAnswer.{OperatorAnswer}
+use Rattle.operator_answers.specs.declared.answers.OperatorAnswer.{OperatorAnswer}
 use Rattle.flow_rules.specs.Givens.{Given}
 use Rattle.flow_world.proofs.Steady.{closes_steady, refusals_steady}
 use Rattle.run_reports.specs.RunLines.{lines_of}

@@ -9,7 +9,7 @@ use Rattle.cacao_site.specs.View.{DiskView, LinkView, SiteView}
 use Rattle.run_records.specs.Layout.{act_layout, layout}
 use Rattle.run_records.specs.declared.act.Act.{Act}
 use Rattle.run_records.specs.declared.record.Record.{Record}
-use Rattle.flow_engine.specs.declared.answers.OperatorAnswer.{OperatorAnswer}
+use Rattle.operator_answers.specs.declared.answers.OperatorAnswer.{OperatorAnswer}
 use Rattle.flow_rules.specs.Givens.{Given}
 use Rattle.flow_steps.specs.Sums.{total}
 use Rattle.flow_steps.specs.Steps.{Steps}

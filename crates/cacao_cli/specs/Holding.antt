@@ -9,9 +9,9 @@ use Rattle.flow_core.specs.SetupReading.{BreaksBindRule, BreaksRule}
 use Rattle.flow_core.specs.Setups.{AreAccepted}
 use Rattle.flow_core.specs.declared.flow_errors.LimitKind.{LimitKind}
 use Rattle.flow_core.specs.declared.flow_errors.LimitKind.TheVariants as kind
-use Rattle.flow_engine.specs.Answers.{IsFirstBadLine}
-use Rattle.flow_engine.specs.Answers as told
-use Rattle.flow_engine.specs.declared.answers.OperatorAnswer.{OperatorAnswer}
+use Rattle.operator_answers.specs.Answers.{IsFirstBadLine}
+use Rattle.operator_answers.specs.Answers as told
+use Rattle.operator_answers.specs.declared.answers.OperatorAnswer.{OperatorAnswer}
 use Rattle.flow_world.specs.Sessions.{HasClosed, HasRefused, IsStart, KeepsAgreement}
 use Rattle.flow_world.specs.declared.close.Close.{Close}
 use Rattle.flow_world.specs.declared.close.Close.TheVariants as close

@@ -11,8 +11,8 @@ use Rattle.flow_rules.specs.Changes.{outcome}
 use Rattle.flow_rules.specs.Givens.{Given}
 use Rattle.flow_rules.specs.Moves.{asks, due}
 use Rattle.flow_rules.specs.State.{Shown}
-use Rattle.flow_engine.specs.Openings.{RefusesAsEntries}
-use Rattle.flow_engine.specs.declared.error.EngineError.TheVariants as refused
+use Rattle.engine_history.specs.Openings.{RefusesAsEntries}
+use Rattle.engine_history.specs.declared.error.EngineError.TheVariants as refused
 use Rattle.flow_laws.specs.Images.{IsRecords}
 use Rattle.slpf_actuator.specs.ActuatorView.{HoldsActs}
 use Rattle.session_laws.specs.Returned.{ReadsAsRun}

@@ -5,7 +5,7 @@ use Rattle.cacao_json.specs.declared.error.JsonError.{JsonError}
 use Rattle.cacao_site.specs.View.{SiteView}
 use Rattle.flow_core.specs.SetupReading.{AreTreesOf, IsFirstUnreadable, texts_read}
 use Rattle.flow_rules.specs.Bindings.{bindings_of}
-use Rattle.flow_engine.specs.Answers.{IsFirstBadLine}
+use Rattle.operator_answers.specs.Answers.{IsFirstBadLine}
 use Rattle.cacao_words.specs.Requests.{RunRequest}
 use Rattle.cacao_words.specs.Words.{Text}
 use Rattle.cacao_cli.specs.Command.{end_of, text_of}

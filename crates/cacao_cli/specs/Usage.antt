@@ -5,7 +5,7 @@ use Rattle.std.specs.Prelude.{Option, Some, None, IfSome, option_map, option_to_
 use Rattle.cacao_site.specs.View.{DiskView, SiteView}
 use Rattle.run_records.specs.Layout.{act_layout, layout}
 use Rattle.run_records.specs.declared.act.Act.{Act}
-use Rattle.flow_engine.specs.declared.answers.OperatorAnswer.{OperatorAnswer}
+use Rattle.operator_answers.specs.declared.answers.OperatorAnswer.{OperatorAnswer}
 use Rattle.flow_rules.specs.Givens.{Given}
 use Rattle.flow_steps.specs.Sums.{total}
 use Rattle.flow_world.specs.Openings.{RefusesOpening}

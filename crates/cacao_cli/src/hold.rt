@@ -3,7 +3,7 @@ ghost use Rattle.std.specs.Prelude.{◌≡◌, ◌≤◌, IfOk, IfErr, length};
 ghost use Rattle.cacao_check.specs.Fits.{FitsKind};
 ghost use Rattle.flow_core.specs.Setups.{AreAccepted};
 ghost use Rattle.flow_rules.specs.Accepted.{Accepted};
-ghost use Rattle.flow_engine.specs.Answers.{Answers as TellAnswers};
+ghost use Rattle.operator_answers.specs.Answers.{Answers as TellAnswers};
 ghost use Rattle.cacao_words.specs.Commands.{run_request};
 ghost use Rattle.cacao_cli.specs.Command.{end_of};
 ghost use Rattle.cacao_cli.specs.Holding.{HoldsSo, close_end, error_end, limit_of};
@@ -18,8 +18,8 @@ use cacao_json::JsonError;
 use cacao_site::Site;
 use cacao_words::RunWords;
 use flow_core::{LimitKind, Setup, SetupError};
-use flow_engine::{AnswerError, Answers, read_answers};
 use flow_world::{Close, WorldError, session};
+use operator_answers::{AnswerError, Answers, read_answers};
 use std::alloc::Global;
 
 /// The quantity whose limit a session would pass.

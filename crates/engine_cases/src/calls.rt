@@ -1,7 +1,8 @@
 // Calls of an engine, each made where it may be.
 ghost use Rattle.std.specs.Prelude.{◌≡◌, ◌≤◌, length, IfOk};
 ghost use Rattle.flow_rules.specs.Changes.{is_in_time};
-ghost use Rattle.flow_engine.specs.EngineView.{EngineView, IsReady};
+ghost use Rattle.engine_history.specs.HistoryView.{IsReady};
+ghost use Rattle.flow_engine.specs.EngineView.{EngineView};
 
 use cacao_site::{Bytes, Disk, Parcel, Site};
 use flow_core::Setup;

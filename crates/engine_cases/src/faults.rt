@@ -1,5 +1,6 @@
 // Device calls that fail, and crashes behind them.
-ghost use Rattle.flow_engine.specs.EngineView.{EngineView, IsReady};
+ghost use Rattle.engine_history.specs.HistoryView.{IsReady};
+ghost use Rattle.flow_engine.specs.EngineView.{EngineView};
 
 use crate::books::{DENY, OTHER, setup};
 use crate::calls::{expire, open, reply, reply_of, send, start, step, upgrade};

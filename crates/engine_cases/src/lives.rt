@@ -1,6 +1,7 @@
 // Runs that are kept.
 ghost use Rattle.std.specs.Prelude.{◌≤◌, length};
-ghost use Rattle.flow_engine.specs.EngineView.{EngineView, IsReady};
+ghost use Rattle.engine_history.specs.HistoryView.{IsReady};
+ghost use Rattle.flow_engine.specs.EngineView.{EngineView};
 
 use crate::books::{DENY, setup};
 use crate::calls::{expire, open, reply, reply_of, send, start, step};

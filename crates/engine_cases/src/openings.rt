@@ -1,5 +1,6 @@
 // Files that are opened again.
-ghost use Rattle.flow_engine.specs.EngineView.{EngineView, IsReady};
+ghost use Rattle.engine_history.specs.HistoryView.{IsReady};
+ghost use Rattle.flow_engine.specs.EngineView.{EngineView};
 
 use crate::books::{DENY, OTHER, setup};
 use crate::calls::open;

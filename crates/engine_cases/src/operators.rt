@@ -1,6 +1,6 @@
 // What operators answer.
 use crate::says::text_of;
-use flow_engine::{AnswerError, read_answers};
+use operator_answers::{AnswerError, read_answers};
 use std::io;
 
 /// Prints the answers for run 7 in a text, or its first bad line.

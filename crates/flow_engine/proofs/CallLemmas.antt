@@ -13,11 +13,13 @@ use Rattle.flow_rules.specs.Runs.{Next, after, shown_after}
 use Rattle.flow_rules.specs.State.{Lists, Shown, State, shown}
 use Rattle.flow_core.specs.Flows.{IsReached, IsStateOf}
 use Rattle.flow_core.specs.Views.{View, begins, taken}
-use Rattle.flow_engine.specs.EngineCalls.{Adds, Appends, Is, IsStanding, MayCome, Offers, PassesLimit, Refused, Refuses}
-use Rattle.flow_engine.specs.EngineView.{EngineView, HistoryView, flow_of}
+use Rattle.engine_history.specs.HistoryCalls.{Adds, Is, MayCome, Offers, PassesLimit, Refuses}
+use Rattle.engine_history.specs.HistoryView.{HistoryView, flow_of}
+use Rattle.engine_history.specs.declared.error.EngineError.{EngineError}
+use Rattle.engine_history.specs.declared.error.EngineError.TheVariants as refused
+use Rattle.flow_engine.specs.EngineCalls.{Appends, IsStanding, Refused}
+use Rattle.flow_engine.specs.EngineView.{EngineView}
 use Rattle.flow_engine.specs.OpenIssues.{ArePut, OpenIssues, without_ended}
-use Rattle.flow_engine.specs.declared.error.EngineError.{EngineError}
-use Rattle.flow_engine.specs.declared.error.EngineError.TheVariants as refused
 use Rattle.flow_engine.proofs.EndedPuts.{KeepsOthers, puts_stay}
 
 -- ---- one record, and one of a kind

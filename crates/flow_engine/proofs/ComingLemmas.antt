@@ -38,12 +38,13 @@ use Rattle.flow_core.specs.Views.{AsksText, Answers, View, begins, blank_shown, 
 use Rattle.flow_core.specs.declared.flow_errors.LimitKind.{LimitKind}
 use Rattle.flow_core.specs.declared.flow_errors.LimitKind.TheVariants as limit
 use Rattle.flow_core.proofs.FlowLemmas.{reached_state}
+use Rattle.engine_history.specs.HistoryCalls.{PassesLimit, with_record}
+use Rattle.engine_history.specs.HistoryView.{HistoryView, entries_of, flow_of, length_with}
+use Rattle.engine_history.specs.Histories.{IsHistory}
 use Rattle.flow_engine.specs.declared.puts.Puts.{Puts}
-use Rattle.flow_engine.specs.Answers.{IsOperatorAnswer}
-use Rattle.flow_engine.specs.declared.answers.OperatorAnswer.{OperatorAnswer}
-use Rattle.flow_engine.specs.EngineCalls.{IsComing, IsMove, IsStanding, IsWaiting, PassesLimit, with_record}
-use Rattle.flow_engine.specs.EngineView.{HistoryView, entries_of, flow_of, length_with}
-use Rattle.flow_engine.specs.Histories.{IsHistory}
+use Rattle.operator_answers.specs.Answers.{IsOperatorAnswer}
+use Rattle.operator_answers.specs.declared.answers.OperatorAnswer.{OperatorAnswer}
+use Rattle.flow_engine.specs.EngineCalls.{IsComing, IsMove, IsStanding, IsWaiting}
 use Rattle.flow_engine.specs.OpenIssues.{ArePut, IsPut, OpenIssues, puts_of}
 
 inner : {A : Type 0} (a b : A) → Some a ≡ Some b → a ≡ b

@@ -20,10 +20,10 @@ use Rattle.flow_rules.specs.Runnable.{IsRunnable}
 use Rattle.flow_rules.specs.State.{State, Shown, shown}
 use Rattle.flow_core.specs.SetupLaws.{AcceptedIsRunnable}
 use Rattle.flow_core.specs.Views.{blank_shown}
+use Rattle.engine_history.specs.HistoryView.{HistoryView, IsReady, entries_of}
+use Rattle.engine_history.specs.Histories.{IsHistory, IsSoFar}
 use Rattle.flow_engine.specs.declared.puts.Puts.{Puts}
-use Rattle.flow_engine.specs.EngineView.{HistoryView, IsReady, entries_of}
 use Rattle.flow_engine.specs.EngineCalls.{IsOpen, IsWaiting}
-use Rattle.flow_engine.specs.Histories.{IsHistory, IsSoFar}
 use Rattle.flow_engine.specs.KeptPuts.{AreCounted, IsCounted}
 use Rattle.flow_engine.specs.OpenIssues.{OpenIssues, puts_of, ArePut, IsPut}
 use Rattle.flow_engine.proofs.OverdueLemmas.{put_at}

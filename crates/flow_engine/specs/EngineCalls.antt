@@ -1,37 +1,30 @@
 -- What the calls of an engine do.
-use Rattle.std.specs.Prelude.{◌≡◌, ◌≢◌, ◌⊎◌, ℕ, ◌+◌, ◌<◌, ◌≤◌, nat_lt, true, false, List, [], ◌∷◌, ◌++◌, length, Option, Some, None, IsSome, option_and_then, option_map, slice_get, if◌then◌else◌}
-use Rattle.std.specs.Option.{option_or}
-use Rattle.cacao_site.specs.Counts.{Rose}
+use Rattle.std.specs.Prelude.{◌≡◌, ◌≢◌, ℕ, ◌<◌, ◌≤◌, true, false, List, [], length, Option, Some, IsSome, option_and_then, option_map, slice_get}
 use Rattle.cacao_site.specs.declared.parcel.Parcel.{Parcel}
-use Rattle.cacao_site.specs.DiskCalls.{OnlyFile}
 use Rattle.cacao_site.specs.SiteCalls.{Puts}
 use Rattle.cacao_site.specs.View.{SiteView}
 use Rattle.oc2_msg.specs.declared.answers.Answer.{Answer}
 use Rattle.oc2_msg.specs.Responses.{answer}
-use Rattle.run_journal.specs.Durable.{header_calls, header_bytes}
-use Rattle.run_records.specs.Layout.{layout}
 use Rattle.run_records.specs.Ranges.{InRange}
 use Rattle.run_records.specs.declared.record.Record.{Record}
 use Rattle.run_records.specs.declared.record.Record.TheVariants as entry
-use Rattle.flow_rules.specs.Changes.{is_waiting, moment_of}
-use Rattle.flow_rules.specs.Edits.{Edit}
+use Rattle.flow_rules.specs.Changes.{is_waiting}
 use Rattle.flow_rules.specs.Laws.{HasRecords}
 use Rattle.flow_rules.specs.Moves.{deadline_of, enabled_move, record_of}
-use Rattle.flow_rules.specs.Runs.{begin_of, shown_after}
+use Rattle.flow_rules.specs.Runs.{begin_of}
 use Rattle.flow_rules.specs.State.{Shown}
 use Rattle.flow_rules.specs.declared.issues.Issue.{Issue}
 use Rattle.flow_rules.specs.declared.moves.Move.{Move}
 use Rattle.flow_core.specs.Flows.{HasSizes, IsReached}
 use Rattle.flow_core.specs.Setups.{IsSetup}
-use Rattle.flow_core.specs.Views.{passed, taken}
-use Rattle.flow_core.specs.declared.flow_errors.LimitKind.{LimitKind}
-use Rattle.flow_core.specs.declared.flow_errors.LimitKind.TheVariants as limit
-use Rattle.flow_engine.specs.EngineView.{EngineView, HistoryView, HoldsRecords, flow_of, length_with}
+use Rattle.flow_core.specs.Views.{taken}
+use Rattle.engine_history.specs.HistoryCalls.{Adds, Refuses}
+use Rattle.engine_history.specs.HistoryView.{HistoryView, flow_of}
+use Rattle.engine_history.specs.declared.error.EngineError.{EngineError}
+use Rattle.flow_engine.specs.EngineView.{EngineView}
 use Rattle.flow_engine.specs.OpenIssues.{puts_of, with_put, without_ended}
-use Rattle.flow_engine.specs.declared.error.EngineError.{EngineError}
-use Rattle.flow_engine.specs.declared.error.EngineError.TheVariants as refused
 
--- ---- the record that a call appends
+-- ---- the record that a call appends: `expire`, `upgrade` and `told` say the record itself
 
 -- `start`: the Begin of the run
 pub record IsBeginning (h : HistoryView) (moment : ℕ) (next : Record) : Type 0 where
@@ -74,10 +67,6 @@ pub record IsReply (h : HistoryView) (parcel : Parcel) (moment : ℕ) (next : Re
   pub to : IsReplyTo h parcel read
   pub is : next ≡ entry.Reply parcel.issue moment read.status read.rule read.text
 
--- the record itself: `expire`, `upgrade` and `told` say which
-abbrev pub Is : Record → Record → Type 0
-Is r next = next ≡ r
-
 -- ---- where it comes
 
 -- What holds of the run of an engine: it shows the state after so many records, within the limits, of what a setup gives.
@@ -94,65 +83,12 @@ pub record IsComing (h : HistoryView) (next : Record) : Type 0 where
 
 -- ---- what becomes of it
 
--- the limit that a record passes which changes so much: that on tasks, on the bytes of a command, or on those of the file
-abbrev pub limit_of : HistoryView → Record → List Edit → Option LimitKind
-limit_of h next edits =
-    option_or (passed h.seen edits) (if nat_lt 67_108_864 (length_with h.records next) then Some limit.Journal else None)
-
--- A record of that kind may come next, and changes so much. (One that passes the limit on the bytes of a command is not in range.)
-pub record MayCome (h : HistoryView) (IsNext : Record → Type 0) : Type 0 where
-  pub next : Record
-  pub edits : List Edit
-  pub is : IsNext next
-  pub takes : taken (flow_of h) next ≡ Some edits
-
--- Such a record may have been added: file 0 alone may have changed, and each image of it at each beat stands for the records, or
--- for these and that one.
-pub record Offers (h : HistoryView) (IsNext : Record → Type 0) (old new : SiteView) : Type 0 where
-  pub comes : MayCome h IsNext
-  pub in_range : InRange comes.next
-  pub within : limit_of h comes.next comes.edits ≡ None
-  pub whole : h.broken ≡ false
-  pub file : OnlyFile 0 old new (λ image. HoldsRecords h.records image ⊎ HoldsRecords (h.records ++ comes.next ∷ []) image)
-  pub calls : new.disk.calls ≤ old.disk.calls + (header_calls h.prepared + 4)
-  pub written : new.disk.written ≤ old.disk.written + (header_bytes h.prepared + (length (layout comes.next) + 6))
-
--- the run with such a record
-abbrev pub with_record : HistoryView → Record → List Edit → HistoryView
-with_record h next edits = record {
-  records = h.records ++ next ∷ [];
-  seen = shown_after (moment_of next) edits h.seen;
-  prepared = true;
-  broken = false;
-}
-
--- it was added, and no call of the disk failed
-pub record Adds (h k : HistoryView) (IsNext : Record → Type 0) (old new : SiteView) : Type 0 where
-  pub offers : Offers h IsNext old new
-  pub steady : new.disk.faults ≡ old.disk.faults
-  pub view : k ≡ with_record h offers.comes.next offers.comes.edits
-
 -- it was added, and the issue that it ends, if it ends one, is no longer open
 pub record Appends (v w : EngineView) (IsNext : Record → Type 0) (old new : SiteView) : Type 0 where
   pub adds : Adds v.history w.history IsNext old new
   pub puts : w.puts ≡ without_ended v.puts adds.offers.comes.next
 
--- such a record would pass this limit
-pub record PassesLimit (h : HistoryView) (IsNext : Record → Type 0) (what : LimitKind) : Type 0 where
-  pub comes : MayCome h IsNext
-  pub passes : limit_of h comes.next comes.edits ≡ Some what
-  pub whole : h.broken ≡ false
-
--- Each refusal with its cause and what it left. Want of memory is free. Where the disk failed the record may stand in the file.
-abbrev pub Refuses : HistoryView → HistoryView → (Record → Type 0) → EngineError → SiteView → SiteView → Type 0
-Refuses h k IsNext refused.Disk old new =
-    Offers h IsNext old new × (k ≡ record h { prepared = k.prepared; broken = true }) × Rose old.disk.faults new.disk.faults
-Refuses h k IsNext (refused.Limit what) old new = PassesLimit h IsNext what × (k ≡ h) × (new ≡ old)
-Refuses h k IsNext refused.Broken old new = (h.broken ≡ true) × (k ≡ h) × (new ≡ old)
-Refuses h k IsNext refused.Memory old new = (h.broken ≡ false) × (k ≡ h) × (new ≡ old)
-Refuses h k IsNext other old new = ⊥
-
--- the same of an engine
+-- each refusal with its cause and what it left; no issue was put or ended
 abbrev pub Refused : EngineView → EngineView → (Record → Type 0) → EngineError → SiteView → SiteView → Type 0
 Refused v w IsNext error old new = Refuses v.history w.history IsNext error old new × (w.puts ≡ v.puts)
 

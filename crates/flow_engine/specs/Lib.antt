@@ -1,17 +1,5 @@
-pub mod AnswerLaws
-pub mod AnswerReading
-pub mod Answers
-pub mod Appending
-pub mod Books
 pub mod EngineCalls
 pub mod EngineView
-pub mod Errors
-pub mod Histories
 pub mod Inside
-pub mod KeptHistory
 pub mod KeptPuts
-pub mod Laws
-pub mod LineParts
 pub mod OpenIssues
-pub mod Openings
-pub mod Replays

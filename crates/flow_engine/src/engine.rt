@@ -4,17 +4,17 @@ ghost use Rattle.cacao_site.specs.DiskCalls.{IsDurable, IsLeft, OnlyFile};
 ghost use Rattle.flow_dues.specs.Pairs.{is_by, IsFirstBy};
 ghost use Rattle.flow_rules.specs.Moves.{deadline_of};
 ghost use Rattle.flow_rules.specs.declared.issues.Issue.{Issue};
+ghost use Rattle.engine_history.specs.HistoryView.{HoldsRecords, IsReady};
+ghost use Rattle.engine_history.specs.Histories.{IsHistory, IsLineAt};
+ghost use Rattle.engine_history.specs.Openings.{IsRefusedOpening};
 ghost use Rattle.flow_engine.specs.EngineCalls.{put_deadline, IsWaiting};
-ghost use Rattle.flow_engine.specs.EngineView.{EngineView, HoldsRecords, IsReady};
-ghost use Rattle.flow_engine.specs.Histories.{IsHistory, IsLineAt};
+ghost use Rattle.flow_engine.specs.EngineView.{EngineView};
 ghost use Rattle.flow_engine.specs.OpenIssues.{puts_of, ArePut, IsNextPut};
-ghost use Rattle.flow_engine.specs.Openings.{IsRefusedOpening};
 
-use crate::error::EngineError;
-use crate::history::History;
 use crate::open_puts::OpenPuts;
 use crate::puts::Puts;
 use cacao_site::{Bytes, Disk};
+use engine_history::{EngineError, History};
 use flow_core::{Flow, Setup};
 use indexmap::IndexMap;
 use std::alloc::{AllocError, Global};
@@ -26,6 +26,7 @@ use std::marker::Model;
 /// Moments are in milliseconds. After `Disk` it answers `Broken` until the file is opened again.
 #[derive(Drop)]
 pub struct Engine {
+    pub(crate) alloc: Global,
     pub(crate) history: History,
     pub(crate) puts: OpenPuts,
 }
@@ -82,6 +83,7 @@ impl Engine {
     {
         let history = History::open_on(alloc, disk, setup, run)?;
         Ok(Engine {
+            alloc,
             history,
             puts: OpenPuts::new(alloc),
         })

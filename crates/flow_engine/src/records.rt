@@ -9,20 +9,22 @@ ghost use Rattle.flow_rules.specs.Changes.{is_in_time, is_waiting, outcome};
 ghost use Rattle.flow_rules.specs.Moves.{deadline_of, enabled_move};
 ghost use Rattle.flow_rules.specs.declared.issues.Issue.{Issue};
 ghost use Rattle.flow_core.specs.Views.{taken};
-ghost use Rattle.flow_engine.specs.Answers.{IsOperatorAnswer};
-ghost use Rattle.flow_engine.specs.EngineCalls.{Appends, Is, IsBeginning, IsComing, IsFinal, IsFromFilter, IsMove, IsReply, IsReplyTo, IsStanding, IsWaiting, Refused, Refuses};
-ghost use Rattle.flow_engine.specs.EngineView.{EngineView, IsReady, flow_of};
+ghost use Rattle.engine_history.specs.HistoryCalls.{Is, Refuses};
+ghost use Rattle.engine_history.specs.HistoryView.{IsReady, flow_of};
+ghost use Rattle.operator_answers.specs.Answers.{IsOperatorAnswer};
+ghost use Rattle.flow_engine.specs.EngineCalls.{Appends, IsBeginning, IsComing, IsFinal, IsFromFilter, IsMove, IsReply, IsReplyTo, IsStanding, IsWaiting, Refused};
+ghost use Rattle.flow_engine.specs.EngineView.{EngineView};
 ghost use Rattle.flow_engine.specs.OpenIssues.{puts_of};
 
-use crate::answers::OperatorAnswer;
 use crate::engine::Engine;
-use crate::error::EngineError;
 use cacao_site::{Bytes, Disk, Parcel, Site};
+use engine_history::EngineError;
 use flow_core::{Flow, FlowError, Move};
 use flow_rules::{
     moves_are_in_range, moves_have_records, records_keep_issues, runs_are_sane, waiting_can_end,
 };
 use oc2_msg::{Answer, ResponseError, read_response};
+use operator_answers::OperatorAnswer;
 use run_records::Record;
 use std::alloc::{AllocError, Global};
 
@@ -270,7 +272,7 @@ impl Engine {
         if !self.is_from_filter(parcel) {
             return Ok(false);
         }
-        let found = final_answer(self.history.alloc, parcel.bytes.as_slice())?;
+        let found = final_answer(self.alloc, parcel.bytes.as_slice())?;
         let Some(read) = found else {
             return Ok(false);
         };
@@ -365,7 +367,7 @@ impl Engine {
             issue,
             moment,
             status,
-            text: text.copy(self.history.alloc)?,
+            text: text.copy(self.alloc)?,
         };
         self.append(site, &next)
     }

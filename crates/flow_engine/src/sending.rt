@@ -2,23 +2,23 @@
 ghost use Rattle.std.specs.Prelude.{◌≡◌, ◌≢◌, ◌⊎◌, ◌<◌, true, false, Some, IfOk, OnOk, OnErr, IsErrOf, length, slice_get};
 ghost use Rattle.flow_rules.specs.Changes.{is_in_time};
 ghost use Rattle.flow_rules.specs.declared.issues.Issue.{Issue};
+ghost use Rattle.engine_history.specs.HistoryView.{IsReady};
 ghost use Rattle.flow_engine.specs.EngineCalls.{IsWaiting, Sends, command_of};
-ghost use Rattle.flow_engine.specs.EngineView.{EngineView, IsReady};
+ghost use Rattle.flow_engine.specs.EngineView.{EngineView};
 
 use crate::engine::Engine;
-use crate::error::EngineError;
-use crate::history::History;
 use cacao_site::{Bytes, Parcel, Site};
+use engine_history::EngineError;
 use flow_core::accepted_is_runnable;
 use flow_rules::issues_have_records;
 use std::alloc::AllocError;
 
-impl History {
+impl Engine {
     /// The command of an issue.
     fn command(&self, issue: u32) -> Result<Parcel, AllocError>
-        requires { issue < length self.now.seen.lists.issues }
-        ensures { IfOk result (λ parcel. (it : Issue) → slice_get self.now.seen.lists.issues issue ≡ Some it
-            → parcel ≡ command_of self.now issue it) }
+        requires { issue < length self.now.history.seen.lists.issues }
+        ensures { IfOk result (λ parcel. (it : Issue) → slice_get self.now.history.seen.lists.issues issue ≡ Some it
+            → parcel ≡ command_of self.now.history issue it) }
     {
         let flow = self.flow();
         Ok(Parcel {
@@ -29,9 +29,7 @@ impl History {
             bytes: Bytes::from_slice(self.alloc, flow.bytes_of(issue))?,
         })
     }
-}
 
-impl Engine {
     /// Puts the command of an issue of a filter that waits, and counts the put. It is put again where it was put before: its filter
     /// acts on it once.
     pub fn send<S: Site>(
@@ -57,7 +55,7 @@ impl Engine {
         self.stand();
         accepted_is_runnable();
         issues_have_records();
-        let parcel = self.history.command(issue)?;
+        let parcel = self.command(issue)?;
         self.puts.put(issue, moment)?;
         site.put(parcel);
         Ok(())

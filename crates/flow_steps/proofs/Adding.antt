@@ -12,8 +12,9 @@ use Rattle.flow_rules.specs.State.{Shown}
 use Rattle.flow_rules.specs.declared.moves.Move.{Move}
 use Rattle.flow_rules.specs.declared.moves.Move.TheVariants as move
 use Rattle.flow_laws.proofs.Basics.{same_some}
+use Rattle.engine_history.specs.HistoryView.{HistoryView}
 use Rattle.flow_engine.specs.EngineCalls.{IsBeginning, IsMove, IsReply}
-use Rattle.flow_engine.specs.EngineView.{EngineView, HistoryView}
+use Rattle.flow_engine.specs.EngineView.{EngineView}
 use Rattle.slpf_actuator.specs.ActuatorCalls.{MayHaveDone}
 use Rattle.slpf_actuator.specs.ActuatorView.{ActuatorView}
 use Rattle.slpf_actuator.specs.declared.error.ActError.{ActError}

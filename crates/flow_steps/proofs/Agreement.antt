@@ -6,8 +6,9 @@ use Rattle.cacao_site.specs.declared.parcel.Parcel.{Parcel}
 use Rattle.run_records.specs.Ranges.{last_moment}
 use Rattle.run_records.specs.declared.record.Record.{Record}
 use Rattle.flow_core.specs.declared.flow_errors.LimitKind.TheVariants as limit
-use Rattle.flow_engine.specs.EngineCalls.{Offers}
-use Rattle.flow_engine.specs.EngineView.{EngineView, HistoryView}
+use Rattle.engine_history.specs.HistoryCalls.{Offers}
+use Rattle.engine_history.specs.HistoryView.{HistoryView}
+use Rattle.flow_engine.specs.EngineView.{EngineView}
 use Rattle.flow_laws.specs.Fresh.{IsFresh}
 use Rattle.slpf_actuator.specs.ActuatorCalls.{MayHaveDone, Offers as FilterOffers}
 use Rattle.slpf_actuator.specs.declared.error.ActError.{ActError}

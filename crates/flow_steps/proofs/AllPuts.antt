@@ -27,12 +27,14 @@ use Rattle.flow_rules.proofs.ShapeLemmas.{IssueShape, change_shape, new_issue}
 use Rattle.flow_core.specs.Views.{View, begins, taken}
 use Rattle.flow_core.proofs.FlowLemmas.{begins_first}
 use Rattle.flow_laws.proofs.Basics.{same_or_not, same_some}
-use Rattle.flow_engine.specs.EngineCalls.{Appends, Is, IsBeginning, IsReply, IsWaiting, MayCome, Sends}
-use Rattle.flow_engine.specs.EngineView.{EngineView, HistoryView, flow_of}
-use Rattle.flow_engine.specs.Histories.{IsHistory, IsSoFar}
+use Rattle.engine_history.specs.HistoryCalls.{Is, MayCome}
+use Rattle.engine_history.specs.HistoryView.{HistoryView, flow_of}
+use Rattle.engine_history.specs.Histories.{IsHistory, IsSoFar}
+use Rattle.engine_history.proofs.SoFarLemmas.{begin_is}
+use Rattle.flow_engine.specs.EngineCalls.{Appends, IsBeginning, IsReply, IsWaiting, Sends}
+use Rattle.flow_engine.specs.EngineView.{EngineView}
 use Rattle.flow_engine.specs.OpenIssues.{ArePut, OpenIssues, count_of, most_puts, puts_of, with_put}
 use Rattle.flow_engine.specs.declared.puts.Puts.{Puts}
-use Rattle.flow_engine.proofs.SoFarLemmas.{begin_is}
 use Rattle.flow_steps.specs.Sides.{AllPut}
 use Rattle.flow_steps.proofs.Issues.{KeepsShown, below, is_ended, keeps_shown, puts_kept, puts_other}
 use Rattle.flow_steps.proofs.Records.{taken_next}

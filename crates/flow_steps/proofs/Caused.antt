@@ -12,8 +12,9 @@ use Rattle.run_records.specs.declared.record.Record.{Record}
 use Rattle.flow_core.specs.declared.flow_errors.LimitKind.{LimitKind}
 use Rattle.flow_core.specs.declared.flow_errors.LimitKind.TheVariants as limit
 use Rattle.flow_core.specs.Views.{is_long_command, is_makes, most_tasks, passed}
-use Rattle.flow_engine.specs.EngineCalls.{Is, PassesLimit, limit_of}
-use Rattle.flow_engine.specs.EngineView.{EngineView, HistoryView, length_with}
+use Rattle.engine_history.specs.HistoryCalls.{Is, PassesLimit, limit_of}
+use Rattle.engine_history.specs.HistoryView.{HistoryView, length_with}
+use Rattle.flow_engine.specs.EngineView.{EngineView}
 use Rattle.flow_rules.specs.Edits.{Edit}
 use Rattle.flow_rules.specs.Moves.{due}
 use Rattle.flow_laws.proofs.Basics.{same_some}

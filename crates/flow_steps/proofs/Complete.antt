@@ -21,8 +21,9 @@ use Rattle.flow_rules.proofs.CanEndLemmas.{ended_is_all_over}
 use Rattle.flow_rules.proofs.IssueLemmas.{issues_have_records}
 use Rattle.flow_rules.proofs.SaneRuns.{runs_are_sane}
 use Rattle.flow_setup.proofs.SetupRunnable.{accepted_is_runnable}
-use Rattle.flow_engine.specs.EngineView.{EngineView, HistoryView}
-use Rattle.flow_engine.specs.Histories.{IsHistory, IsSoFar}
+use Rattle.engine_history.specs.HistoryView.{HistoryView}
+use Rattle.engine_history.specs.Histories.{IsHistory, IsSoFar}
+use Rattle.flow_engine.specs.EngineView.{EngineView}
 use Rattle.flow_laws.proofs.Basics.{same_some}
 use Rattle.flow_steps.specs.Appends.{Tries}
 use Rattle.flow_steps.specs.Appends.Tries.{done, failed, limited}

@@ -20,9 +20,10 @@ use Rattle.flow_rules.proofs.SaneRuns.{runs_are_sane}
 use Rattle.flow_core.specs.SetupLaws.{AcceptedIsRunnable}
 use Rattle.flow_dues.specs.Pairs.{IsFirstBy, is_by}
 use Rattle.flow_laws.proofs.Basics.{same_some}
+use Rattle.engine_history.specs.HistoryView.{HistoryView}
+use Rattle.engine_history.specs.Histories.{IsHistory}
 use Rattle.flow_engine.specs.EngineCalls.{put_deadline}
-use Rattle.flow_engine.specs.EngineView.{EngineView, HistoryView}
-use Rattle.flow_engine.specs.Histories.{IsHistory}
+use Rattle.flow_engine.specs.EngineView.{EngineView}
 use Rattle.flow_engine.specs.OpenIssues.{puts_of}
 use Rattle.flow_engine.specs.declared.puts.Puts.{Puts}
 use Rattle.flow_steps.specs.Sides.{AllPut}

@@ -23,9 +23,11 @@ use Rattle.flow_laws.specs.Images.{IsRecords}
 use Rattle.flow_laws.specs.Journals.{IsShownBefore as ShowsBefore}
 use Rattle.flow_laws.proofs.Calls.{since_command, since_line, since_record}
 use Rattle.flow_laws.proofs.OneList.{records_of_layout}
-use Rattle.flow_engine.specs.EngineCalls.{IsOpen, Offers, Sends, command_of}
-use Rattle.flow_engine.specs.EngineView.{EngineView, HistoryView}
-use Rattle.flow_engine.specs.Histories.{IsHistory, IsLineAt, IsShownBefore}
+use Rattle.engine_history.specs.HistoryCalls.{Offers}
+use Rattle.engine_history.specs.HistoryView.{HistoryView}
+use Rattle.engine_history.specs.Histories.{IsHistory, IsLineAt, IsShownBefore}
+use Rattle.flow_engine.specs.EngineCalls.{IsOpen, Sends, command_of}
+use Rattle.flow_engine.specs.EngineView.{EngineView}
 use Rattle.flow_steps.specs.Sides.{IsUp, IsWhole}
 use Rattle.flow_steps.proofs.Records.{has_records, run_known}
 use Rattle.flow_steps.proofs.Sites.{HasKeptTo, some_gained, some_more, some_same}

@@ -14,8 +14,9 @@ use Rattle.flow_rules.specs.Moves.{record_of}
 use Rattle.flow_rules.specs.State.{Shown}
 use Rattle.flow_rules.specs.declared.moves.Move.{Move}
 use Rattle.flow_rules.specs.declared.moves.Move.TheVariants as move
+use Rattle.engine_history.specs.HistoryView.{HistoryView}
 use Rattle.flow_engine.specs.EngineCalls.{IsReply}
-use Rattle.flow_engine.specs.EngineView.{EngineView, HistoryView}
+use Rattle.flow_engine.specs.EngineView.{EngineView}
 use Rattle.slpf_actuator.specs.ActuatorView.{ActuatorView, act_for}
 use Rattle.slpf_actuator.specs.declared.error.ActError.{ActError}
 use Rattle.slpf_actuator.specs.declared.error.ActError.TheVariants as act_error

@@ -11,8 +11,8 @@ use Rattle.run_records.specs.Ranges.{last_moment}
 use Rattle.run_records.specs.declared.record.Record.{Record}
 use Rattle.flow_core.specs.declared.flow_errors.LimitKind.TheVariants as limit
 use Rattle.flow_rules.specs.declared.issues.Issue.{Issue}
+use Rattle.engine_history.specs.HistoryView.{HistoryView}
 use Rattle.flow_engine.specs.EngineCalls.{command_of}
-use Rattle.flow_engine.specs.EngineView.{HistoryView}
 use Rattle.flow_steps.specs.Appends.{Tries}
 use Rattle.flow_steps.specs.Appends.Tries.{done, failed, limited}
 use Rattle.flow_steps.specs.Link.{EachPutsFew, EachRepliesFew, IsOwn, PutsNoted, RepliesFew, commands_in, commands_of, in_hand, one_command, replies_in}

@@ -24,10 +24,12 @@ use Rattle.flow_laws.specs.Images.{IsRecords}
 use Rattle.flow_laws.specs.Journals.{IsJournalRun, IsNextStep, run_of}
 use Rattle.flow_laws.proofs.Basics.{same_some}
 use Rattle.flow_laws.proofs.OneList.{records_of_layout, stands_empty}
-use Rattle.flow_engine.specs.EngineCalls.{Is, IsMove, MayCome}
-use Rattle.flow_engine.specs.EngineView.{EngineView, HistoryView, flow_of}
-use Rattle.flow_engine.specs.Histories.{IsHistory, IsShownAfter, IsSoFar}
-use Rattle.flow_engine.proofs.SoFarLemmas.{begin_is, so_far_more}
+use Rattle.engine_history.specs.HistoryCalls.{Is, MayCome}
+use Rattle.engine_history.specs.HistoryView.{HistoryView, flow_of}
+use Rattle.engine_history.specs.Histories.{IsHistory, IsShownAfter, IsSoFar}
+use Rattle.engine_history.proofs.SoFarLemmas.{begin_is, so_far_more}
+use Rattle.flow_engine.specs.EngineCalls.{IsMove}
+use Rattle.flow_engine.specs.EngineView.{EngineView}
 use Rattle.flow_steps.specs.Sides.{IsUp, IsWhole}
 
 -- ---- records of an engine

@@ -17,7 +17,8 @@ use Rattle.flow_rules.specs.State.{Shown}
 use Rattle.flow_core.specs.declared.flow_errors.LimitKind.TheVariants as limit
 use Rattle.flow_core.specs.SetupLaws.{AcceptedIsRunnable}
 use Rattle.flow_laws.proofs.Basics.{same_some}
-use Rattle.flow_engine.specs.EngineView.{EngineView, HistoryView}
+use Rattle.engine_history.specs.HistoryView.{HistoryView}
+use Rattle.flow_engine.specs.EngineView.{EngineView}
 use Rattle.flow_engine.specs.OpenIssues.{ArePut, IsNextPut, OpenIssues, count_of, most_puts, puts_of, resend_of, with_put, without_ended}
 use Rattle.flow_engine.specs.declared.puts.Puts.{Puts}
 use Rattle.slpf_actuator.specs.ActuatorView.{ActuatorView, act_for}

@@ -10,8 +10,9 @@ use Rattle.run_records.specs.declared.record.Record.{Record}
 use Rattle.flow_core.specs.declared.flow_errors.LimitKind.TheVariants as limit
 use Rattle.flow_rules.specs.Givens.{Given}
 use Rattle.flow_laws.proofs.Basics.{get_more}
-use Rattle.flow_engine.specs.EngineView.{EngineView, HistoryView}
-use Rattle.flow_engine.specs.Histories.{IsLineAt, IsShownBefore}
+use Rattle.engine_history.specs.HistoryView.{HistoryView}
+use Rattle.engine_history.specs.Histories.{IsLineAt, IsShownBefore}
+use Rattle.flow_engine.specs.EngineView.{EngineView}
 use Rattle.flow_engine.specs.OpenIssues.{OpenIssues}
 use Rattle.slpf_actuator.specs.ActuatorCalls.{MayHaveDone}
 use Rattle.slpf_actuator.specs.ActuatorView.{ActuatorView}

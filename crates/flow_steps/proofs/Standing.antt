@@ -6,7 +6,8 @@ use Rattle.cacao_site.specs.View.{SiteView}
 use Rattle.cacao_site.specs.declared.parcel.Parcel.{Parcel}
 use Rattle.cacao_site.proofs.Beats.{goes_on-refl, goes_on-trans, stays-trans}
 use Rattle.run_records.specs.declared.record.Record.{Record}
-use Rattle.flow_engine.specs.EngineView.{EngineView, HistoryView}
+use Rattle.engine_history.specs.HistoryView.{HistoryView}
+use Rattle.flow_engine.specs.EngineView.{EngineView}
 use Rattle.slpf_actuator.specs.ActuatorView.{ActuatorView}
 use Rattle.flow_steps.specs.Appends.{Tries}
 use Rattle.flow_steps.specs.Appends.Tries.{done, failed, limited}

@@ -8,8 +8,9 @@ use Rattle.run_records.specs.declared.record.Record.{Record}
 use Rattle.flow_rules.specs.Changes.{is_in_time, moment_of}
 use Rattle.flow_rules.specs.State.{Shown}
 use Rattle.flow_core.specs.declared.flow_errors.LimitKind.TheVariants as limit
+use Rattle.engine_history.specs.HistoryView.{HistoryView}
 use Rattle.flow_engine.specs.EngineCalls.{Appends}
-use Rattle.flow_engine.specs.EngineView.{EngineView, HistoryView}
+use Rattle.flow_engine.specs.EngineView.{EngineView}
 use Rattle.flow_steps.specs.Appends.{Tries}
 use Rattle.flow_steps.specs.Appends.Tries.{done, failed, limited}
 use Rattle.flow_steps.specs.Stands.{EachInTime, InTime}

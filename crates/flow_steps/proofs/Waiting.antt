@@ -18,9 +18,10 @@ use Rattle.flow_rules.specs.Runs.{shown_after}
 use Rattle.flow_rules.specs.State.{Shown}
 use Rattle.flow_rules.specs.declared.issues.Issue.{Issue}
 use Rattle.flow_dues.specs.Pairs.{is_by}
+use Rattle.engine_history.specs.HistoryView.{HistoryView}
+use Rattle.engine_history.specs.Histories.{IsHistory}
 use Rattle.flow_engine.specs.EngineCalls.{IsReply, IsReplyTo, IsWaiting, put_deadline}
-use Rattle.flow_engine.specs.EngineView.{EngineView, HistoryView}
-use Rattle.flow_engine.specs.Histories.{IsHistory}
+use Rattle.flow_engine.specs.EngineView.{EngineView}
 use Rattle.flow_engine.specs.OpenIssues.{ArePut, OpenIssues, puts_of, with_put}
 use Rattle.flow_engine.specs.declared.puts.Puts.{Puts as PutsOf}
 use Rattle.slpf_actuator.specs.ActLists.{IsFinalReply}

@@ -2,8 +2,8 @@
 use Rattle.std.specs.Prelude.{◌≡◌, ◌-◌, false, Some}
 use Rattle.run_records.specs.declared.record.Record.{Record}
 use Rattle.flow_core.specs.declared.flow_errors.LimitKind.{LimitKind}
+use Rattle.engine_history.specs.declared.error.EngineError.TheVariants as error
 use Rattle.flow_engine.specs.EngineCalls.{Appends, Refused}
-use Rattle.flow_engine.specs.declared.error.EngineError.TheVariants as error
 use Rattle.flow_steps.specs.Sides.{IsEngine}
 use Rattle.flow_steps.specs.Worlds.{World, owes, refused, disk_failed, past}
 

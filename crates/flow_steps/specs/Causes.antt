@@ -9,7 +9,8 @@ use Rattle.flow_core.specs.declared.flow_errors.LimitKind.{LimitKind}
 use Rattle.flow_core.specs.declared.flow_errors.LimitKind.TheVariants as limit
 use Rattle.flow_rules.specs.Moves.{due}
 use Rattle.flow_rules.specs.declared.issues.Issue.{Issue}
-use Rattle.flow_engine.specs.EngineCalls.{Is, IsWaiting, PassesLimit}
+use Rattle.engine_history.specs.HistoryCalls.{Is, PassesLimit}
+use Rattle.flow_engine.specs.EngineCalls.{IsWaiting}
 use Rattle.flow_engine.specs.OpenIssues.{resend_after}
 use Rattle.slpf_actuator.specs.ActuatorCalls.{Overflows}
 use Rattle.slpf_actuator.specs.ActuatorView.{ActuatorView}

@@ -2,9 +2,10 @@
 use Rattle.std.specs.Prelude.{◌≡◌, ◌≢◌, ◌⊎◌, ℕ, suc, false, List, [], ◌∷◌, ◌++◌, length, Option, Some, None, slice_get, nat_eq, ◌+◌, if◌then◌else◌}
 use Rattle.cacao_site.specs.View.{SiteView}
 use Rattle.run_records.specs.declared.record.Record.{Record}
+use Rattle.engine_history.specs.HistoryView.{HoldsRecords, IsReady}
+use Rattle.engine_history.specs.Histories.{IsHistory}
 use Rattle.flow_engine.specs.EngineCalls.{IsWaiting}
-use Rattle.flow_engine.specs.EngineView.{EngineView, HoldsRecords, IsReady}
-use Rattle.flow_engine.specs.Histories.{IsHistory}
+use Rattle.flow_engine.specs.EngineView.{EngineView}
 use Rattle.flow_engine.specs.OpenIssues.{ArePut, puts_of}
 use Rattle.flow_rules.specs.declared.issues.Issue.{Issue}
 use Rattle.slpf_actuator.specs.ActuatorView.{ActuatorView}

@@ -1,8 +1,8 @@
 -- What a session uses up, so that it ends.
 use Rattle.std.specs.Prelude.{ℕ, suc, ◌+◌, ◌*◌, ◌<◌, ◌≤◌, List, length}
 use Rattle.run_records.specs.Ranges.{last_moment}
+use Rattle.operator_answers.specs.declared.answers.OperatorAnswer.{OperatorAnswer}
 use Rattle.flow_engine.specs.OpenIssues.{OpenIssues}
-use Rattle.flow_engine.specs.declared.answers.OperatorAnswer.{OperatorAnswer}
 use Rattle.flow_engine.specs.declared.puts.Puts.{Puts}
 use Rattle.flow_rules.specs.Givens.{Given}
 use Rattle.slpf_actuator.specs.ActuatorView.{ActuatorView}

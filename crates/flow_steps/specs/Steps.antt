@@ -11,11 +11,12 @@ use Rattle.run_records.specs.Ranges.{last_moment}
 use Rattle.run_records.specs.declared.act.Act.{Act}
 use Rattle.run_records.specs.declared.record.Record.TheVariants as entry
 use Rattle.flow_core.specs.declared.flow_errors.LimitKind.TheVariants as limit
-use Rattle.flow_engine.specs.EngineCalls.{Is, IsBeginning, IsMove, IsReply, IsReplyTo, IsWaiting, Sends}
+use Rattle.engine_history.specs.HistoryCalls.{Is}
+use Rattle.engine_history.specs.Histories.{IsLineAt}
+use Rattle.operator_answers.specs.declared.answers.OperatorAnswer.{OperatorAnswer}
+use Rattle.flow_engine.specs.EngineCalls.{IsBeginning, IsMove, IsReply, IsReplyTo, IsWaiting, Sends}
 use Rattle.flow_engine.specs.EngineView.{EngineView}
-use Rattle.flow_engine.specs.Histories.{IsLineAt}
 use Rattle.flow_engine.specs.OpenIssues.{puts_of}
-use Rattle.flow_engine.specs.declared.answers.OperatorAnswer.{OperatorAnswer}
 use Rattle.flow_laws.specs.Images.{HasBegun}
 use Rattle.flow_rules.specs.declared.issues.Issue.{Issue}
 use Rattle.slpf_actuator.specs.ActuatorCalls.{Acts, Offers, Overflows, Refuses, Repeats}

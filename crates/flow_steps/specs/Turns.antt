@@ -6,9 +6,9 @@ use Rattle.flow_rules.specs.Changes.{is_waiting, outcome}
 use Rattle.flow_rules.specs.Moves.{due, enabled_move}
 use Rattle.flow_rules.specs.declared.issues.Issue.{Issue}
 use Rattle.flow_dues.specs.Pairs.{IsFirstBy}
+use Rattle.operator_answers.specs.declared.answers.OperatorAnswer.{OperatorAnswer}
 use Rattle.flow_engine.specs.EngineCalls.{put_deadline}
 use Rattle.flow_engine.specs.OpenIssues.{IsNextPut}
-use Rattle.flow_engine.specs.declared.answers.OperatorAnswer.{OperatorAnswer}
 use Rattle.flow_steps.specs.Sides.{AllPut, IsUp}
 use Rattle.flow_steps.specs.Worlds.{World, rests, looked}
 

@@ -4,8 +4,8 @@ use Rattle.cacao_site.specs.Counts.{DidNotRise}
 use Rattle.cacao_site.specs.declared.parcel.Parcel.{Parcel}
 use Rattle.oc2_msg.specs.declared.answers.Answer.{Answer}
 use Rattle.flow_rules.specs.declared.issues.Issue.{Issue}
+use Rattle.engine_history.specs.HistoryView.{HistoryView}
 use Rattle.flow_engine.specs.EngineCalls.{IsReplyTo, IsWaiting, command_of}
-use Rattle.flow_engine.specs.EngineView.{HistoryView}
 use Rattle.flow_engine.specs.OpenIssues.{puts_of}
 use Rattle.flow_steps.specs.Steps.{Expires, IsAddressed, Steps}
 use Rattle.flow_steps.specs.Worlds.{World, Phase, IsGoing, holds, looked}

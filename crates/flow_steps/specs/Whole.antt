@@ -2,7 +2,7 @@
 use Rattle.std.specs.Prelude.{◌≡◌, ℕ, ◌+◌, ◌*◌, ◌≤◌, List, [], length, None, IsSome}
 use Rattle.cacao_site.specs.Counts.{DidNotRise}
 use Rattle.flow_rules.specs.Givens.{Given}
-use Rattle.flow_engine.specs.declared.answers.OperatorAnswer.{OperatorAnswer}
+use Rattle.operator_answers.specs.declared.answers.OperatorAnswer.{OperatorAnswer}
 use Rattle.flow_steps.specs.Complete.{IsComplete}
 use Rattle.flow_steps.specs.Grown.{FiltersGrow}
 use Rattle.flow_steps.specs.Handled.{Handles}

@@ -5,8 +5,8 @@ use Rattle.cacao_site.specs.declared.parcel.Parcel.{Parcel}
 use Rattle.run_records.specs.declared.record.Record.{Record}
 use Rattle.run_records.specs.declared.act.Act.{Act}
 use Rattle.flow_core.specs.declared.flow_errors.LimitKind.{LimitKind}
+use Rattle.operator_answers.specs.declared.answers.OperatorAnswer.{OperatorAnswer}
 use Rattle.flow_engine.specs.EngineView.{EngineView}
-use Rattle.flow_engine.specs.declared.answers.OperatorAnswer.{OperatorAnswer}
 use Rattle.slpf_actuator.specs.ActuatorView.{ActuatorView}
 
 -- why a session refuses, once its files are open

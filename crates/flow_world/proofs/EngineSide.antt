@@ -6,12 +6,13 @@ use Rattle.cacao_site.specs.Sound.{IsSound}
 use Rattle.cacao_site.specs.View.{SiteView}
 use Rattle.cacao_site.specs.declared.parcel.Parcel.{Parcel}
 use Rattle.run_records.specs.declared.record.Record.{Record}
+use Rattle.engine_history.specs.HistoryView.{HistoryView, IsReady}
+use Rattle.engine_history.specs.Histories.{IsHistory}
+use Rattle.engine_history.specs.declared.error.EngineError.{EngineError}
+use Rattle.engine_history.specs.declared.error.EngineError.TheVariants as engine_error
 use Rattle.flow_engine.specs.EngineCalls.{Appends, IsBeginning, IsReply, IsWaiting, Refused, Sends}
-use Rattle.flow_engine.specs.EngineView.{EngineView, HistoryView, IsReady}
-use Rattle.flow_engine.specs.Histories.{IsHistory}
+use Rattle.flow_engine.specs.EngineView.{EngineView}
 use Rattle.flow_engine.specs.OpenIssues.{ArePut, OpenIssues, puts_of}
-use Rattle.flow_engine.specs.declared.error.EngineError.{EngineError}
-use Rattle.flow_engine.specs.declared.error.EngineError.TheVariants as engine_error
 use Rattle.flow_rules.specs.Changes.{is_in_time}
 use Rattle.flow_steps.specs.Sides.{AllPut, IsEngine, IsUp, IsWhole}
 use Rattle.flow_steps.specs.Steps.{IsAddressed}

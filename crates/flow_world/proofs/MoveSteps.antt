@@ -6,12 +6,14 @@ use Rattle.cacao_site.specs.View.{ClockView, SiteView}
 use Rattle.run_records.specs.declared.record.Record.{Record}
 use Rattle.run_records.specs.declared.record.Record.TheVariants as entry
 use Rattle.flow_dues.specs.Pairs.{IsFirstBy}
-use Rattle.flow_engine.specs.EngineCalls.{Appends, Is, IsMove, IsWaiting, Refused, Sends, put_deadline}
-use Rattle.flow_engine.specs.EngineView.{EngineView, HistoryView}
-use Rattle.flow_engine.specs.Histories.{IsHistory}
+use Rattle.engine_history.specs.HistoryCalls.{Is}
+use Rattle.engine_history.specs.HistoryView.{HistoryView}
+use Rattle.engine_history.specs.Histories.{IsHistory}
+use Rattle.operator_answers.specs.declared.answers.OperatorAnswer.{OperatorAnswer}
+use Rattle.engine_history.specs.declared.error.EngineError.{EngineError}
+use Rattle.flow_engine.specs.EngineCalls.{Appends, IsMove, IsWaiting, Refused, Sends, put_deadline}
+use Rattle.flow_engine.specs.EngineView.{EngineView}
 use Rattle.flow_engine.specs.OpenIssues.{ArePut, IsNextPut, OpenIssues, puts_of}
-use Rattle.flow_engine.specs.declared.answers.OperatorAnswer.{OperatorAnswer}
-use Rattle.flow_engine.specs.declared.error.EngineError.{EngineError}
 use Rattle.flow_engine.specs.declared.puts.Puts.{Puts}
 use Rattle.flow_laws.proofs.Basics.{same_or_not}
 use Rattle.flow_rules.specs.Changes.{is_in_time, moment_of}

@@ -5,9 +5,9 @@ use Rattle.cacao_site.specs.SiteCalls.{TakesNone, TakesOnly, TakesSome}
 use Rattle.cacao_site.specs.Sound.{IsSound}
 use Rattle.cacao_site.specs.View.{SiteView}
 use Rattle.cacao_site.specs.declared.parcel.Parcel.{Parcel}
+use Rattle.operator_answers.specs.declared.answers.OperatorAnswer.{OperatorAnswer}
 use Rattle.flow_engine.specs.EngineCalls.{IsReplyTo}
 use Rattle.flow_engine.specs.EngineView.{EngineView}
-use Rattle.flow_engine.specs.declared.answers.OperatorAnswer.{OperatorAnswer}
 use Rattle.flow_rules.specs.Changes.{outcome}
 use Rattle.oc2_msg.specs.declared.answers.Answer.{Answer}
 use Rattle.slpf_actuator.specs.ActuatorView.{ActuatorView}

@@ -3,8 +3,8 @@ use Rattle.std.proofs.Common.{◌≡◌, ◌<◌, ◌≤◌, List, sym, subst, a
 use Rattle.std.specs.Prelude.{Option, None, Result, Ok}
 use Rattle.cacao_site.specs.View.{SiteView}
 use Rattle.flow_core.specs.SetupLaws.{AcceptedIsRunnable}
+use Rattle.operator_answers.specs.declared.answers.OperatorAnswer.{OperatorAnswer}
 use Rattle.flow_engine.specs.EngineView.{EngineView}
-use Rattle.flow_engine.specs.declared.answers.OperatorAnswer.{OperatorAnswer}
 use Rattle.flow_rules.specs.Moves.{enabled_move}
 use Rattle.flow_steps.specs.Sides.{AllPut}
 use Rattle.flow_steps.specs.Spent.{most_spent, place}

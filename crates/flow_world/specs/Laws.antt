@@ -1,7 +1,7 @@
 -- In which one way a session closes, and that no end hides a fault of the disk.
 use Rattle.std.specs.Prelude.{◌≡◌, ℕ, List}
 use Rattle.cacao_site.specs.View.{SiteView}
-use Rattle.flow_engine.specs.declared.answers.OperatorAnswer.{OperatorAnswer}
+use Rattle.operator_answers.specs.declared.answers.OperatorAnswer.{OperatorAnswer}
 use Rattle.flow_rules.specs.Givens.{Given}
 use Rattle.flow_steps.specs.Worlds.{World}
 use Rattle.flow_world.specs.Closes.{IsClose, IsRefusal}

@@ -1,7 +1,7 @@
 -- A whole session.
 use Rattle.std.specs.Prelude.{◌≡◌, ◌⊎◌, ℕ, IsSome, IsTrue, List}
 use Rattle.cacao_site.specs.View.{SiteView}
-use Rattle.flow_engine.specs.declared.answers.OperatorAnswer.{OperatorAnswer}
+use Rattle.operator_answers.specs.declared.answers.OperatorAnswer.{OperatorAnswer}
 use Rattle.flow_laws.specs.Fresh.{IsFresh}
 use Rattle.flow_laws.specs.Held.{plain}
 use Rattle.flow_laws.specs.Sessions.{IsStart as IsStartAs}

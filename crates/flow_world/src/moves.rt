@@ -3,9 +3,9 @@
 ghost use Rattle.std.specs.Prelude.{◌≡◌, ◌≢◌, ◌≤◌, ℕ, min, List, Some, None, true, false, Ok, OnOk, IfErr};
 ghost use Rattle.std.specs.Option.{option_map_or};
 ghost use Rattle.flow_rules.specs.Changes.{outcome};
-ghost use Rattle.flow_engine.specs.Answers.{IsOperatorAnswer};
+ghost use Rattle.operator_answers.specs.Answers.{IsOperatorAnswer};
+ghost use Rattle.operator_answers.specs.declared.answers.OperatorAnswer.{OperatorAnswer};
 ghost use Rattle.flow_engine.specs.OpenIssues.{IsNextPut};
-ghost use Rattle.flow_engine.specs.declared.answers.OperatorAnswer.{OperatorAnswer};
 ghost use Rattle.flow_steps.specs.Sides.{AllPut};
 ghost use Rattle.flow_steps.specs.Turns.{IsIdle, IsOnTime, IsToBeTold, IsUntold};
 ghost use Rattle.flow_steps.specs.Worlds.{looked, rests};
@@ -14,7 +14,8 @@ ghost use Rattle.flow_world.specs.Leads.{EngineDid, EngineTried, IsAtWork, IsLea
 use crate::engine_side::{put_first, put_issue, say_last};
 use crate::error::{WorldError, of_append};
 use cacao_site::Site;
-use flow_engine::{Answers, Engine, OperatorAnswer};
+use flow_engine::Engine;
+use operator_answers::{Answers, OperatorAnswer};
 
 /// Appends the record of the enabled move at the present moment, says its line, and puts the command that it sends.
 pub fn move_on<S: Site>(engine: &mut Engine, site: &mut S, now: u64) -> Result<bool, WorldError>

@@ -12,7 +12,8 @@ use crate::filters::Filters;
 use crate::turns::Session;
 use cacao_site::Site;
 use flow_core::Setup;
-use flow_engine::{Answers, Engine};
+use flow_engine::Engine;
+use operator_answers::Answers;
 use std::alloc::Global;
 
 /// Opens the journal for a run, and then the files of the filters in order. It writes nothing.

@@ -3,8 +3,8 @@ ghost use Rattle.std.specs.Prelude.{◌≡◌, ◌+◌, ◌<◌, ◌≤◌, ℕ,
 ghost use Rattle.run_records.specs.Ranges.{last_moment};
 ghost use Rattle.flow_rules.specs.Changes.{outcome};
 ghost use Rattle.flow_rules.specs.Moves.{enabled_move};
+ghost use Rattle.operator_answers.specs.declared.answers.OperatorAnswer.{OperatorAnswer};
 ghost use Rattle.flow_engine.specs.OpenIssues.{IsNextPut};
-ghost use Rattle.flow_engine.specs.declared.answers.OperatorAnswer.{OperatorAnswer};
 ghost use Rattle.flow_steps.specs.Sides.{AllPut, AreFilters, IsWhole};
 ghost use Rattle.flow_steps.specs.Steps.{IsAddressed};
 ghost use Rattle.flow_steps.specs.Turns.{IsIdle, IsOnTime, IsUntold, most_ignored};
@@ -20,7 +20,8 @@ use crate::filters::Filters;
 use crate::moves::{expire, move_on, resend, soonest, tell};
 use cacao_site::{Parcel, Site};
 use flow_core::{LimitKind, accepted_is_runnable};
-use flow_engine::{Answers, Engine};
+use flow_engine::Engine;
+use operator_answers::Answers;
 
 /// The most parcels of a session that change neither journal.
 const MOST_IGNORED: u32 = 1_000_000;

@@ -7,7 +7,7 @@ use crate::error::WorldError;
 use crate::opening::{open_files, run_opened};
 use cacao_site::Site;
 use flow_core::Setup;
-use flow_engine::Answers;
+use operator_answers::Answers;
 use std::alloc::Global;
 
 /// One session of a run: its files are opened, and it goes on until it closes or a call refuses. At most `most` records are

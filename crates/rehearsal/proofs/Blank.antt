@@ -19,12 +19,12 @@ use Rattle.slpf_actuator.specs.ActuatorView.{ActuatorView, HoldsActs}
 use Rattle.slpf_actuator.specs.Damage.{IsDamaged}
 use Rattle.slpf_actuator.proofs.Damages.{no_acts_where_damaged}
 use Rattle.flow_core.specs.Views.{blank_shown}
-use Rattle.flow_engine.specs.Laws.{HoldsRun as HoldsRunOf}
-use Rattle.flow_engine.specs.Openings.{IsRefusedOpening, RefusesImage}
-use Rattle.flow_engine.specs.declared.error.EngineError.{EngineError}
-use Rattle.flow_engine.specs.declared.error.EngineError.TheVariants as engine_error
-use Rattle.flow_engine.proofs.RefusalLaws.{no_run_where_refused}
-use Rattle.flow_engine.specs.declared.answers.OperatorAnswer.{OperatorAnswer}
+use Rattle.engine_history.specs.Laws.{HoldsRun as HoldsRunOf}
+use Rattle.engine_history.specs.Openings.{IsRefusedOpening, RefusesImage}
+use Rattle.engine_history.specs.declared.error.EngineError.{EngineError}
+use Rattle.engine_history.specs.declared.error.EngineError.TheVariants as engine_error
+use Rattle.engine_history.proofs.RefusalLaws.{no_run_where_refused}
+use Rattle.operator_answers.specs.declared.answers.OperatorAnswer.{OperatorAnswer}
 use Rattle.flow_rules.specs.Givens.{Given}
 use Rattle.flow_steps.specs.Causes.{Shows}
 use Rattle.flow_steps.specs.Worlds.{Cause, Phase, refused, disk_failed, not_said, run_used, past, wants_memory}

@@ -17,9 +17,9 @@ use Rattle.flow_rules.specs.Bindings.{BindRule, b1, b2, b3, KeepsBind}
 use Rattle.flow_core.specs.SetupReading.{BreaksBindRule, IsFirstUnreadable, IsLeastBindBreak, RefusesTexts}
 use Rattle.flow_setup.specs.declared.setup_errors.SetupError.{SetupError}
 use Rattle.flow_setup.specs.declared.setup_errors.SetupError.TheVariants as setup_error
-use Rattle.flow_engine.specs.Answers.{Answers, IsFirstBadLine}
-use Rattle.flow_engine.specs.declared.answers.OperatorAnswer.{OperatorAnswer}
-use Rattle.flow_engine.proofs.AnswerLawLemmas.{answers_are_one, bad_lines_tell_nothing}
+use Rattle.operator_answers.specs.Answers.{Answers, IsFirstBadLine}
+use Rattle.operator_answers.specs.declared.answers.OperatorAnswer.{OperatorAnswer}
+use Rattle.operator_answers.proofs.AnswerLawLemmas.{answers_are_one, bad_lines_tell_nothing}
 
 -- ---- answers
 

@@ -21,7 +21,7 @@ use Rattle.slpf_actuator.specs.ActLists.{IsHistory, entries_of}
 use Rattle.slpf_actuator.specs.ActuatorView.{ActuatorView, HoldsActs}
 use Rattle.slpf_actuator.specs.Damage.{IsDamaged}
 use Rattle.slpf_actuator.proofs.Damages.{no_acts_where_damaged}
-use Rattle.flow_engine.specs.EngineView.{HoldsRecords}
+use Rattle.engine_history.specs.HistoryView.{HoldsRecords}
 use Rattle.flow_steps.specs.Sides.{AreFilters, IsFilter}
 use Rattle.flow_steps.specs.Sums.{total}
 use Rattle.rehearsal.specs.Counts.{CountsRecords, HoldsFilter, HoldsFilters, HoldsRun, KeepsImages}

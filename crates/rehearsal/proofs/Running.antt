@@ -3,8 +3,8 @@ use Rattle.std.proofs.Common.{◌≡◌, ◌≤◌, ◌⊎◌, inl, inr, ℕ, Bo
 use Rattle.cacao_site.specs.Counts.{Rose}
 use Rattle.cacao_site.specs.DiskCalls.{AllLeft}
 use Rattle.cacao_site.specs.View.{SiteView}
-use Rattle.flow_engine.specs.EngineView.{HoldsRecords}
-use Rattle.flow_engine.specs.declared.answers.OperatorAnswer.{OperatorAnswer}
+use Rattle.engine_history.specs.HistoryView.{HoldsRecords}
+use Rattle.operator_answers.specs.declared.answers.OperatorAnswer.{OperatorAnswer}
 use Rattle.flow_core.specs.SetupReading.{BreaksRule}
 use Rattle.flow_rules.specs.Givens.{Given}
 use Rattle.flow_steps.specs.Sides.{AreFilters}

@@ -5,7 +5,7 @@ use Rattle.cacao_site.specs.View.{DiskView, SiteView}
 use Rattle.run_records.specs.declared.record.Record.{Record}
 use Rattle.slpf_acts.specs.Acts.{table_of}
 use Rattle.slpf_actuator.specs.ActuatorView.{ActuatorView}
-use Rattle.flow_engine.specs.EngineView.{HoldsRecords}
+use Rattle.engine_history.specs.HistoryView.{HoldsRecords}
 use Rattle.flow_steps.specs.Sides.{AreFilters, IsFilter}
 use Rattle.flow_steps.specs.Spent.{all_acts}
 use Rattle.flow_steps.specs.Sums.{total}

@@ -7,8 +7,8 @@ ghost use Rattle.rehearsal.specs.Settings.{IsAccepted, IsNewSite, RefusesText};
 use crate::error::RehearsalError;
 use cacao_site::Bytes;
 use flow_core::{Setup, SetupError};
-use flow_engine::{AnswerError, Answers, read_answers};
 use memory_site::{CallList, MemorySite, SitePlan, WeatherList};
+use operator_answers::{AnswerError, Answers, read_answers};
 use std::alloc::{AllocError, Global};
 
 /// The text of no bindings.

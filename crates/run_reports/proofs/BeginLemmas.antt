@@ -21,9 +21,9 @@ use Rattle.flow_rules.specs.Runs.{begin_of, first_edits}
 use Rattle.flow_rules.specs.State.{Shown}
 use Rattle.flow_core.specs.Setups.{AreAccepted}
 use Rattle.flow_core.specs.Views.{View, begins, blank_shown, taken}
-use Rattle.flow_engine.specs.Replays.{IsBeginOf}
-use Rattle.flow_engine.proofs.OpenLemmas.{first_late, some_books}
-use Rattle.flow_engine.proofs.ReplayLemmas.{replayed_none, taken_first}
+use Rattle.engine_history.specs.Replays.{IsBeginOf}
+use Rattle.engine_history.proofs.OpenLemmas.{first_late, some_books}
+use Rattle.engine_history.proofs.ReplayLemmas.{replayed_none, taken_first}
 use Rattle.run_reports.specs.Beginnings.{HasBegun, IsNotBegun, NoneAccepted, Took}
 use Rattle.run_reports.specs.Replaying.{IsReplayed}
 use Rattle.run_reports.specs.declared.error.ReportError.{ReportError}

@@ -7,13 +7,13 @@ use Rattle.flow_rules.specs.Givens.{Given}
 use Rattle.flow_rules.specs.Runs.{begin_of}
 use Rattle.flow_rules.specs.State.{Shown}
 use Rattle.flow_core.specs.declared.flow_errors.LimitKind.TheVariants as limit
-use Rattle.flow_engine.specs.EngineView.{entries_of}
-use Rattle.flow_engine.specs.Histories.{IsShownAfter, IsSoFar}
-use Rattle.flow_engine.specs.Laws.{HoldsRun}
-use Rattle.flow_engine.specs.Openings.{RefusesEntries, RefusesImage}
-use Rattle.flow_engine.specs.declared.error.EngineError.{EngineError}
-use Rattle.flow_engine.specs.declared.error.EngineError.TheVariants as refused
-use Rattle.flow_engine.proofs.RefusalLaws.{no_run_where_refused, one_refusal}
+use Rattle.engine_history.specs.HistoryView.{entries_of}
+use Rattle.engine_history.specs.Histories.{IsShownAfter, IsSoFar}
+use Rattle.engine_history.specs.Laws.{HoldsRun}
+use Rattle.engine_history.specs.Openings.{RefusesEntries, RefusesImage}
+use Rattle.engine_history.specs.declared.error.EngineError.{EngineError}
+use Rattle.engine_history.specs.declared.error.EngineError.TheVariants as refused
+use Rattle.engine_history.proofs.RefusalLaws.{no_run_where_refused, one_refusal}
 use Rattle.run_reports.specs.RunFiles.{Begins, BeginsOtherwise, BreaksOff, IsBegin, IsDamaged, IsTooLarge, Overgrows, TellsRun}
 use Rattle.run_reports.specs.RunLines.{HoldsReport, Reports}
 use Rattle.run_reports.proofs.AcceptLemmas.{accepted-one}

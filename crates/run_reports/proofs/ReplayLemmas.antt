@@ -3,12 +3,12 @@ use Rattle.std.proofs.Common.{◌≡◌, ◌≤◌, ◌<◌, refl, ℕ, List, []
 use Rattle.flow_rules.specs.Givens.{Given}
 use Rattle.flow_core.specs.Views.{View, most_tasks}
 use Rattle.flow_core.specs.declared.flow_errors.LimitKind.TheVariants as limit
-use Rattle.flow_engine.specs.declared.error.EngineError.TheVariants as refused
-use Rattle.flow_engine.proofs.OpenLemmas.{refused_at}
-use Rattle.flow_engine.specs.KeptHistory.{stand_before}
-use Rattle.flow_engine.specs.Replays.{Stands}
-use Rattle.flow_engine.specs.Replays as engine
-use Rattle.flow_engine.proofs.ReplayLemmas.{replayed_more}
+use Rattle.engine_history.specs.declared.error.EngineError.TheVariants as refused
+use Rattle.engine_history.proofs.OpenLemmas.{refused_at}
+use Rattle.engine_history.specs.KeptHistory.{stand_before}
+use Rattle.engine_history.specs.Replays.{Stands}
+use Rattle.engine_history.specs.Replays as engine
+use Rattle.engine_history.proofs.ReplayLemmas.{replayed_more}
 use Rattle.run_reports.specs.Replaying.{IsReplayed, RefusesNext, StopsReplay, TakesEntry}
 use Rattle.run_reports.specs.declared.error.ReportError.{ReportError}
 use Rattle.run_reports.specs.declared.error.ReportError.TheVariants.{Damaged, TooManyTasks, Memory}

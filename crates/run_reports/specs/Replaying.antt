@@ -8,10 +8,10 @@ use Rattle.flow_rules.specs.Edits.{Edit}
 use Rattle.flow_rules.specs.Givens.{Given}
 use Rattle.flow_core.specs.Views.{View, stepped, taken}
 use Rattle.flow_core.specs.declared.flow_errors.LimitKind.TheVariants as limit
-use Rattle.flow_engine.specs.Openings.{RefusesEntries}
-use Rattle.flow_engine.specs.Replays.{MakesTooMany, Stands}
-use Rattle.flow_engine.specs.Replays as engine
-use Rattle.flow_engine.specs.declared.error.EngineError.TheVariants as refused
+use Rattle.engine_history.specs.Openings.{RefusesEntries}
+use Rattle.engine_history.specs.Replays.{MakesTooMany, Stands}
+use Rattle.engine_history.specs.Replays as engine
+use Rattle.engine_history.specs.declared.error.EngineError.TheVariants as refused
 use Rattle.run_records.specs.Reading.{record_of}
 use Rattle.run_reports.specs.declared.error.ReportError.{ReportError}
 use Rattle.run_reports.specs.declared.error.ReportError.TheVariants.{Damaged, TooManyTasks, Memory}

@@ -13,10 +13,10 @@ use Rattle.flow_rules.specs.State.{Shown}
 use Rattle.flow_core.specs.Setups.{AreAccepted}
 use Rattle.flow_core.specs.Views.{most_tasks}
 use Rattle.flow_core.specs.declared.flow_errors.LimitKind.TheVariants as limit
-use Rattle.flow_engine.specs.EngineView.{entries_of}
-use Rattle.flow_engine.specs.Histories.{IsShownAfter}
-use Rattle.flow_engine.specs.Openings.{RefusesEntries, first_gate}
-use Rattle.flow_engine.specs.declared.error.EngineError.TheVariants as refused
+use Rattle.engine_history.specs.HistoryView.{entries_of}
+use Rattle.engine_history.specs.Histories.{IsShownAfter}
+use Rattle.engine_history.specs.Openings.{RefusesEntries, first_gate}
+use Rattle.engine_history.specs.declared.error.EngineError.TheVariants as refused
 
 -- the entry is the Begin of a run of what is accepted, with its canonical texts and in time
 pub record IsBegin (entry : List ℕ) (given : Given) (run : ℕ) : Type 0 where

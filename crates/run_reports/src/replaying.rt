@@ -1,6 +1,6 @@
 // The entries of a run behind its first.
 ghost use Rattle.std.specs.Prelude.{◌≡◌, ◌<◌, ◌≤◌, length, take, true, false, Ok, IfErr, OnOk};
-ghost use Rattle.flow_engine.specs.Replays.{CannotFollow};
+ghost use Rattle.engine_history.specs.Replays.{CannotFollow};
 ghost use Rattle.run_reports.specs.Replaying.{IsReplayed, RefusesNext, StopsReplay, TakesEntry};
 
 use crate::error::ReportError;

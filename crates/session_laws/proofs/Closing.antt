@@ -5,7 +5,8 @@ use Rattle.cacao_site.specs.Counts.{last_count, next_count}
 use Rattle.cacao_site.specs.declared.parcel.Parcel.{Parcel}
 use Rattle.run_records.specs.declared.record.Record.{Record}
 use Rattle.flow_rules.specs.Changes.{outcome}
-use Rattle.flow_engine.specs.EngineView.{EngineView, HistoryView}
+use Rattle.engine_history.specs.HistoryView.{HistoryView}
+use Rattle.flow_engine.specs.EngineView.{EngineView}
 use Rattle.flow_steps.specs.Appends.{Tries}
 use Rattle.flow_steps.specs.Appends.Tries.{done, failed, limited}
 use Rattle.flow_steps.specs.Causes.{AskedLast}

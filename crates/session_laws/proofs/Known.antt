@@ -17,8 +17,8 @@ use Rattle.flow_rules.proofs.IssueLemmas.{issues_are_new, issues_have_records}
 use Rattle.flow_rules.proofs.KeepLemmas.{records_keep_issues}
 use Rattle.flow_rules.proofs.RunLemmas.{some_inner}
 use Rattle.flow_setup.proofs.SetupRunnable.{accepted_is_runnable}
-use Rattle.flow_engine.specs.EngineView.{HistoryView}
-use Rattle.flow_engine.specs.Histories.{IsHistory, IsSoFar}
+use Rattle.engine_history.specs.HistoryView.{HistoryView}
+use Rattle.engine_history.specs.Histories.{IsHistory, IsSoFar}
 use Rattle.cacao_check.proofs.LawLemmas.{sound_gives}
 use Rattle.std.proofs.lemmas.Option.{none-some}
 

@@ -16,10 +16,10 @@ use Rattle.flow_rules.proofs.RunLemmas.{some_inner}
 use Rattle.flow_laws.specs.Fresh.{IsFresh, IsUnused}
 use Rattle.flow_laws.specs.Images.{IsActs, IsRecords}
 use Rattle.flow_laws.proofs.OneList.{stands_empty}
-use Rattle.flow_engine.specs.Openings.{BeginsWith, IsRefusedOpening, RefusesEntries, RefusesImage}
-use Rattle.flow_engine.specs.declared.answers.OperatorAnswer.{OperatorAnswer}
-use Rattle.flow_engine.specs.declared.error.EngineError.{EngineError}
-use Rattle.flow_engine.specs.declared.error.EngineError.TheVariants as engine_error
+use Rattle.engine_history.specs.Openings.{BeginsWith, IsRefusedOpening, RefusesEntries, RefusesImage}
+use Rattle.operator_answers.specs.declared.answers.OperatorAnswer.{OperatorAnswer}
+use Rattle.engine_history.specs.declared.error.EngineError.{EngineError}
+use Rattle.engine_history.specs.declared.error.EngineError.TheVariants as engine_error
 use Rattle.flow_steps.specs.Sides.{IsFilter}
 use Rattle.flow_steps.specs.Worlds.{Cause, refused, disk_failed, not_said, run_used, past, wants_memory}
 use Rattle.flow_steps.proofs.FilterCalls.{has_acts}

@@ -11,8 +11,8 @@ use Rattle.flow_rules.proofs.RunLemmas.{run_one}
 use Rattle.flow_core.specs.Views.{blank_shown}
 use Rattle.flow_laws.specs.Images.{IsRecords}
 use Rattle.flow_laws.proofs.OneList.{same_records}
-use Rattle.flow_engine.specs.Histories.{IsSoFar}
-use Rattle.flow_engine.specs.declared.answers.OperatorAnswer.{OperatorAnswer}
+use Rattle.engine_history.specs.Histories.{IsSoFar}
+use Rattle.operator_answers.specs.declared.answers.OperatorAnswer.{OperatorAnswer}
 use Rattle.flow_steps.specs.Sides.{IsWhole}
 use Rattle.flow_steps.specs.Worlds.{Notes, Phase, IsGoing, looked, rests}
 use Rattle.flow_steps.proofs.Records.{has_records}

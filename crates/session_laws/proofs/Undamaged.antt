@@ -13,9 +13,9 @@ use Rattle.flow_laws.specs.Images.{IsAgent, puts_to}
 use Rattle.flow_laws.proofs.Basics.{put_at, put_at-each, put_at-same}
 use Rattle.flow_core.specs.SetupLaws.{AcceptedAgain}
 use Rattle.flow_core.specs.Setups.{AreAccepted}
-use Rattle.flow_engine.specs.Openings.{IsRefusedOpening}
-use Rattle.flow_engine.specs.declared.error.EngineError.{EngineError}
-use Rattle.flow_engine.specs.declared.error.EngineError.TheVariants as engine_error
+use Rattle.engine_history.specs.Openings.{IsRefusedOpening}
+use Rattle.engine_history.specs.declared.error.EngineError.{EngineError}
+use Rattle.engine_history.specs.declared.error.EngineError.TheVariants as engine_error
 use Rattle.slpf_actuator.specs.Damage as filter_file
 use Rattle.run_reports.specs.RunFiles as run_file
 use Rattle.flow_steps.specs.Worlds.{Cause, disk_failed, not_said, run_used, past, wants_memory}

@@ -5,10 +5,10 @@ use Rattle.cacao_site.specs.Sound.{IsSound}
 use Rattle.cacao_site.specs.View.{ClockView, SiteView}
 use Rattle.flow_core.specs.SetupLaws.{AcceptedAgain}
 use Rattle.flow_rules.specs.Givens.{Given}
-use Rattle.flow_engine.specs.Openings.{IsRefusedOpening}
-use Rattle.flow_engine.specs.declared.answers.OperatorAnswer.{OperatorAnswer}
-use Rattle.flow_engine.specs.declared.error.EngineError.{EngineError}
-use Rattle.flow_engine.specs.declared.error.EngineError.TheVariants as engine_error
+use Rattle.engine_history.specs.Openings.{IsRefusedOpening}
+use Rattle.operator_answers.specs.declared.answers.OperatorAnswer.{OperatorAnswer}
+use Rattle.engine_history.specs.declared.error.EngineError.{EngineError}
+use Rattle.engine_history.specs.declared.error.EngineError.TheVariants as engine_error
 use Rattle.flow_steps.specs.Causes.{Shows}
 use Rattle.flow_steps.specs.Worlds.{Cause, Phase, refused, disk_failed, not_said, run_used, past, waits, wants_memory}
 use Rattle.flow_world.specs.Closes.{refusal_of}

@@ -19,9 +19,9 @@ use Rattle.flow_rules.proofs.RunLemmas.{list_heads, run_one, some_inner}
 use Rattle.flow_core.specs.Setups.{AreAccepted}
 use Rattle.flow_laws.specs.Images.{IsRecords}
 use Rattle.flow_laws.specs.Journals.{IsJournalRun}
-use Rattle.flow_engine.specs.Histories.{IsShownAfter}
-use Rattle.flow_engine.specs.Openings.{BreaksOff, RefusesEntries, RefusesImage}
-use Rattle.flow_engine.specs.declared.error.EngineError.TheVariants as refused
+use Rattle.engine_history.specs.Histories.{IsShownAfter}
+use Rattle.engine_history.specs.Openings.{BreaksOff, RefusesEntries, RefusesImage}
+use Rattle.engine_history.specs.declared.error.EngineError.TheVariants as refused
 use Rattle.run_reports.specs.RunFiles.{IsBegin}
 use Rattle.run_reports.specs.RunFiles as run_file
 use Rattle.run_reports.proofs.AcceptLemmas.{accepted-one}

@@ -8,7 +8,7 @@ use Rattle.run_records.specs.declared.record.Record.TheVariants as entry
 use Rattle.flow_rules.specs.Changes.{outcome}
 use Rattle.flow_rules.specs.Givens.{Given}
 use Rattle.flow_rules.specs.declared.issues.Issue.{Issue}
-use Rattle.flow_engine.specs.declared.answers.OperatorAnswer.{OperatorAnswer}
+use Rattle.operator_answers.specs.declared.answers.OperatorAnswer.{OperatorAnswer}
 use Rattle.flow_laws.specs.Acts.{HasReply, ReadsAs}
 use Rattle.flow_laws.specs.Held.{plain}
 use Rattle.flow_laws.specs.Journals.{IsSent}

@@ -7,8 +7,8 @@ use Rattle.cacao_site.specs.View.{SiteView}
 use Rattle.run_journal.specs.Layout.{Stands}
 use Rattle.flow_rules.specs.Givens.{Given}
 use Rattle.flow_laws.specs.Fresh.{IsFresh}
-use Rattle.flow_engine.specs.Openings.{BeginsWith}
-use Rattle.flow_engine.specs.declared.answers.OperatorAnswer.{OperatorAnswer}
+use Rattle.engine_history.specs.Openings.{BeginsWith}
+use Rattle.operator_answers.specs.declared.answers.OperatorAnswer.{OperatorAnswer}
 use Rattle.flow_world.specs.Sessions.{HasClosed, HasRefused, IsStart}
 use Rattle.flow_world.specs.declared.close.Close.{Close}
 use Rattle.flow_world.specs.declared.close.Close.TheVariants as close

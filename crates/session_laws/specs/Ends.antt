@@ -7,8 +7,9 @@ use Rattle.run_records.specs.declared.record.Record.TheVariants as entry
 use Rattle.flow_core.specs.declared.flow_errors.LimitKind.{LimitKind}
 use Rattle.flow_core.specs.declared.flow_errors.LimitKind.TheVariants as limit
 use Rattle.flow_rules.specs.Changes.{outcome}
-use Rattle.flow_engine.specs.EngineCalls.{Is, IsBeginning, IsMove, IsReply}
-use Rattle.flow_engine.specs.declared.answers.OperatorAnswer.{OperatorAnswer}
+use Rattle.engine_history.specs.HistoryCalls.{Is}
+use Rattle.operator_answers.specs.declared.answers.OperatorAnswer.{OperatorAnswer}
+use Rattle.flow_engine.specs.EngineCalls.{IsBeginning, IsMove, IsReply}
 use Rattle.slpf_actuator.specs.ActuatorView.{ActuatorView}
 use Rattle.slpf_actuator.specs.declared.error.ActError.TheVariants as act_error
 use Rattle.flow_steps.specs.Appends.{HasPassedLimit}

@@ -8,8 +8,8 @@ use Rattle.flow_rules.specs.Givens.{Given}
 use Rattle.flow_rules.specs.Moves.{asks, due}
 use Rattle.flow_rules.specs.State.{Shown}
 use Rattle.flow_laws.specs.Images.{IsRecords}
-use Rattle.flow_engine.specs.Histories.{IsSoFar}
-use Rattle.flow_engine.specs.declared.answers.OperatorAnswer.{OperatorAnswer}
+use Rattle.engine_history.specs.Histories.{IsSoFar}
+use Rattle.operator_answers.specs.declared.answers.OperatorAnswer.{OperatorAnswer}
 use Rattle.flow_world.specs.Sessions.{HasClosed}
 use Rattle.flow_world.specs.declared.close.Close.{Close}
 use Rattle.flow_world.specs.declared.close.Close.TheVariants as close

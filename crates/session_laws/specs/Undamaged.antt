@@ -9,9 +9,9 @@ use Rattle.flow_rules.specs.Givens.{Given}
 use Rattle.flow_laws.specs.Good.{IsGood}
 use Rattle.flow_laws.specs.Images.{IsAgent}
 use Rattle.flow_core.specs.Setups.{AreAccepted}
-use Rattle.flow_engine.specs.Openings.{RefusesImage}
-use Rattle.flow_engine.specs.declared.error.EngineError.TheVariants as engine_error
-use Rattle.flow_engine.specs.declared.answers.OperatorAnswer.{OperatorAnswer}
+use Rattle.engine_history.specs.Openings.{RefusesImage}
+use Rattle.engine_history.specs.declared.error.EngineError.TheVariants as engine_error
+use Rattle.operator_answers.specs.declared.answers.OperatorAnswer.{OperatorAnswer}
 use Rattle.run_reports.specs.RunFiles as run_file
 use Rattle.slpf_actuator.specs.Damage as filter_file
 use Rattle.flow_world.specs.Sessions.{HasRefused}

@@ -1,4 +1,4 @@
-use Rattle.flow_engine.specs.EngineView.{IsReady}
+use Rattle.engine_history.specs.HistoryView.{IsReady}
 use Rattle.engine_cases.proofs.lives.begin_and_move.Given as goal
 
 abbrev pub invariant-loop : goal.invariant-loop

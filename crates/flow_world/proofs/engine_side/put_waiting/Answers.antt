@@ -1,5 +1,5 @@
 use Rattle.std.proofs.Common.{◌≡◌, length, refl, ◌∙◌, ap, arith}
-use Rattle.flow_engine.specs.EngineView.{HistoryView}
+use Rattle.engine_history.specs.HistoryView.{HistoryView}
 use Rattle.flow_rules.specs.State.{Shown}
 use Rattle.flow_steps.specs.Worlds.{rests}
 use Rattle.flow_world.specs.Leads.{AnyNotes}

@@ -1,7 +1,7 @@
 use Rattle.std.proofs.Common.{subst}
 use Rattle.flow_core.specs.Views.{Refuses, taken}
 use Rattle.flow_core.specs.declared.flow_errors.FlowError.{FlowError}
-use Rattle.flow_engine.proofs.OpenLemmas.{first_passes_none, limit_is}
+use Rattle.engine_history.proofs.OpenLemmas.{first_passes_none, limit_is}
 use Rattle.run_reports.proofs.beginning.start.Goals as goal
 
 pub unreachable-requires : goal.unreachable-requires

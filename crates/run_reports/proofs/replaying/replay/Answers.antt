@@ -1,6 +1,6 @@
 use Rattle.std.proofs.Common.{◌≡◌, ◌<◌, ◌≤◌, Bool, List, Ok, ℕ, length, take, true, false, arith, ap, subst, rules}
 use Rattle.run_reports.specs.Replaying.{IsReplayed}
-use Rattle.flow_engine.proofs.OpenLemmas.{breaks_at, count_is, few_entries, take_entry}
+use Rattle.engine_history.proofs.OpenLemmas.{breaks_at, count_is, few_entries, take_entry}
 use Rattle.run_reports.proofs.ReplayLemmas.{stops_at, taken_more}
 use Rattle.run_reports.proofs.replaying.replay.Goals as goal
 

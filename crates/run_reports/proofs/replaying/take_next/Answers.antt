@@ -3,7 +3,7 @@ use Rattle.run_records.specs.Ranges.{InRange}
 use Rattle.run_records.specs.Reading.{record_of}
 use Rattle.flow_core.specs.Views.{Refuses, taken}
 use Rattle.flow_core.specs.declared.flow_errors.FlowError.{FlowError}
-use Rattle.flow_engine.proofs.OpenLemmas.{limit_is}
+use Rattle.engine_history.proofs.OpenLemmas.{limit_is}
 use Rattle.run_reports.proofs.replaying.take_next.Goals as goal
 
 pub returns-in-Err-Limit-clause-refused : goal.returns-in-Err-Limit-clause-refused

@@ -1,5 +1,5 @@
 use Rattle.std.proofs.Common.{◌<◌, inl, arith, drop, length}
-use Rattle.flow_engine.proofs.OpenLemmas.{first_entry}
+use Rattle.engine_history.proofs.OpenLemmas.{first_entry}
 use Rattle.run_reports.specs.Beginnings.{HasBegun, IsNotBegun}
 use Rattle.run_reports.proofs.BeginLemmas.{none-case, place-is}
 use Rattle.run_reports.proofs.reports.run_report.Goals as goal

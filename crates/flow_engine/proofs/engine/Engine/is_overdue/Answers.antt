@@ -7,10 +7,10 @@ use Rattle.flow_rules.specs.Moves.{deadline_of}
 use Rattle.flow_rules.specs.State.{Shown}
 use Rattle.flow_rules.specs.declared.issues.Issue.{Issue}
 use Rattle.flow_rules.proofs.RunLemmas.{some_inner}
+use Rattle.engine_history.proofs.HistoryLemmas.{get_within}
 use Rattle.flow_engine.specs.EngineView.{EngineView}
 use Rattle.flow_engine.specs.OpenIssues.{OpenIssues, puts_of, ArePut, IsPut}
 use Rattle.flow_engine.specs.declared.puts.Puts.{Puts}
-use Rattle.flow_engine.proofs.HistoryLemmas.{get_within}
 use Rattle.flow_engine.proofs.OverdueLemmas.{deadline_some, put_of}
 use Rattle.flow_engine.proofs.engine.Engine.is_overdue.Goals as goal
 

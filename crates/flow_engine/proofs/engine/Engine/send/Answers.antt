@@ -2,11 +2,12 @@ use Rattle.std.proofs.Common.{◌≡◌, ◌<◌, length, true, false, refl, sym
 use Rattle.cacao_site.specs.declared.parcel.Parcel.{Parcel}
 use Rattle.cacao_site.specs.SiteCalls.{Puts as PutsParcel}
 use Rattle.std.specs.Prelude.{slice_get}
+use Rattle.engine_history.specs.HistoryView.{HistoryView, IsReady}
+use Rattle.engine_history.specs.Histories.{IsHistory}
+use Rattle.engine_history.proofs.HistoryLemmas.{get_within}
 use Rattle.flow_engine.specs.EngineCalls.{IsOpen, IsWaiting, Sends, command_of}
-use Rattle.flow_engine.specs.EngineView.{EngineView, HistoryView, IsReady}
-use Rattle.flow_engine.specs.Histories.{IsHistory}
+use Rattle.flow_engine.specs.EngineView.{EngineView}
 use Rattle.flow_engine.specs.OpenIssues.{OpenIssues, with_put}
-use Rattle.flow_engine.proofs.HistoryLemmas.{get_within}
 use Rattle.flow_engine.proofs.SendLemmas.{is_open, puts_more, ready_after_put}
 use Rattle.flow_engine.proofs.engine.Engine.send.Goals as goal
 

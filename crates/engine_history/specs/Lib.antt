@@ -1,0 +1,11 @@
+pub mod Appending
+pub mod Books
+pub mod Errors
+pub mod Histories
+pub mod HistoryCalls
+pub mod HistoryView
+pub mod KeptHistory
+pub mod Laws
+pub mod LineParts
+pub mod Openings
+pub mod Replays

@@ -1,0 +1,13 @@
+//! The history of a run: its records in a file, each durable before the run goes on, how the run stands after them, and their lines.
+#![tactic(auto)]
+
+mod appending;
+mod error;
+mod history;
+mod laws;
+mod lines;
+mod opening;
+
+pub use error::EngineError;
+pub use history::History;
+pub use laws::opening_law;

@@ -1,0 +1,6 @@
+pub mod AnswerEnds
+pub mod AnswerExamples
+pub mod AnswerLawLemmas
+pub mod AnswerLemmas
+pub mod CutLemmas
+pub mod ToldLines
