@@ -1,10 +1,5 @@
-pub mod PartLemmas
-pub mod FeatureLemmas
-pub mod PresentLemmas
-pub mod ValueLemmas
+pub mod WordLemmas
 pub mod CommandLemmas
-pub mod TargetLemmas
 pub mod ArgLemmas
 pub mod LawLemmas
 pub mod ResponseLemmas
-pub mod PutLemmas

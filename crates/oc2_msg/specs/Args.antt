@@ -8,7 +8,7 @@ use Rattle.oc2_msg.specs.declared.directions.Direction.{Direction}
 use Rattle.oc2_msg.specs.declared.drops.Drop3.{Drop3}
 use Rattle.oc2_msg.specs.declared.arguments.FilterArgs.{FilterArgs}
 use Rattle.oc2_msg.specs.declared.arguments.Args.{Args}
-use Rattle.oc2_msg.specs.Parts.{◌>>=◌, provided, optional, has_only, whole}
+use Rattle.oc2_targets.specs.Parts.{◌>>=◌, provided, optional, has_only, whole}
 use Rattle.oc2_msg.specs.Words.{direction_named, drop_named, requests}
 
 abbrev pub time : Data → Option ℕ

@@ -7,10 +7,10 @@ use Rattle.std.specs.Str.{chars}
 use Rattle.serde_json.specs.Data.{Data, null}
 use Rattle.serde_json.specs.Find.{get, as_str}
 use Rattle.cacao_json.specs.Reading.{tree}
-use Rattle.oc2_msg.specs.declared.actions.Action.{Action}
-use Rattle.oc2_msg.specs.declared.kinds.TargetKind.{TargetKind}
-use Rattle.oc2_msg.specs.declared.targets.Target.{Target}
-use Rattle.oc2_msg.specs.declared.targets.Target.TheVariants as target
+use Rattle.oc2_targets.specs.declared.actions.Action.{Action}
+use Rattle.oc2_targets.specs.declared.kinds.TargetKind.{TargetKind}
+use Rattle.oc2_targets.specs.declared.targets.Target.{Target}
+use Rattle.oc2_targets.specs.declared.targets.Target.TheVariants as target
 use Rattle.oc2_msg.specs.declared.arguments.Args.{Args}
 use Rattle.oc2_msg.specs.declared.directions.Direction.TheVariants.{Both}
 use Rattle.oc2_msg.specs.declared.drops.Drop3.TheVariants.{Silent}
@@ -19,9 +19,9 @@ use Rattle.oc2_msg.specs.declared.commands.Command.TheVariants as command
 use Rattle.oc2_msg.specs.declared.refusals.Refusal.{Refusal}
 use Rattle.oc2_msg.specs.declared.reasons.Reason.{Reason}
 use Rattle.oc2_msg.specs.declared.reasons.Reason.TheVariants as reason
-use Rattle.oc2_msg.specs.Parts.{◌>>=◌, has_only, single, is_object, is_absent_or}
-use Rattle.oc2_msg.specs.Words.{action_named, kind_named, takes, is_deny, adds_rule}
-use Rattle.oc2_msg.specs.Targets.{target_in}
+use Rattle.oc2_targets.specs.Parts.{◌>>=◌, has_only, single, is_object, is_absent_or}
+use Rattle.oc2_targets.specs.Words.{action_named, kind_named, takes, is_deny, adds_rule}
+use Rattle.oc2_targets.specs.Targets.{target_in}
 use Rattle.oc2_msg.specs.Args.{args_in, is_unserved}
 
 -- ---- the parts of a command

@@ -1,8 +1,5 @@
 pub mod Reasons
-pub mod Parts
 pub mod Words
-pub mod Features
-pub mod Targets
 pub mod Args
 pub mod Commands
 pub mod Messages
@@ -10,4 +7,3 @@ pub mod Ranges
 pub mod Least
 pub mod Responses
 pub mod Laws
-pub mod Puts

@@ -1,54 +1,23 @@
 -- The ranges of commands and responses.
-use Rattle.std.specs.Prelude.{◌≡◌, ℕ, ◌<◌, ◌≤◌, ◌==◌, ◌^◌, List, [], ◌∷◌, length, Bool, true, false, IsTrue, Option, Some, None, ⊤, IsUtf8, IfSome, unwrap_or}
+use Rattle.std.specs.Prelude.{◌≡◌, ℕ, ◌<◌, ◌≤◌, ◌==◌, ◌^◌, List, [], ◌∷◌, length, Bool, true, false, IsTrue, Option, ⊤, IsUtf8, unwrap_or}
 use Rattle.std.specs.List.{list_any}
 use Rattle.oc2_nets.specs.declared.flows.Flow.{Flow}
-use Rattle.oc2_nets.specs.declared.flows.Flow.TheVariants as flow
-use Rattle.oc2_nets.specs.declared.ipv4_nets.Net4.{Net4}
-use Rattle.oc2_nets.specs.declared.ipv6_nets.Net6.{Net6}
+use Rattle.oc2_targets.specs.Targets.{has_part}
+use Rattle.oc2_targets.specs.Features.{is_distinct}
+use Rattle.oc2_targets.specs.Ranges.{IsRuleNumber, Each, FlowInRange}
 use Rattle.oc2_msg.specs.declared.drops.Drop3.{Drop3}
 use Rattle.oc2_msg.specs.declared.drops.Drop3.TheVariants.{Silent}
 use Rattle.oc2_msg.specs.declared.arguments.FilterArgs.{FilterArgs}
 use Rattle.oc2_msg.specs.declared.arguments.Args.{Args}
-use Rattle.oc2_msg.specs.declared.targets.Target.{Target}
-use Rattle.oc2_msg.specs.declared.targets.Target.TheVariants as target
-use Rattle.oc2_msg.specs.declared.features.Feature.{Feature}
 use Rattle.oc2_msg.specs.declared.commands.Command.{Command}
 use Rattle.oc2_msg.specs.declared.commands.Command.TheVariants as command
 use Rattle.oc2_msg.specs.declared.responses.Response.{Response}
 use Rattle.oc2_msg.specs.declared.answers.Answer.{Answer}
-use Rattle.oc2_msg.specs.Targets.{has_part}
-use Rattle.oc2_msg.specs.Features.{is_distinct}
 use Rattle.oc2_msg.specs.Args.{are_times}
-
--- 1 to 4,294,967,295
-abbrev pub IsRuleNumber : ℕ → Type 0
-IsRuleNumber n = (1 ≤ n) × (n ≤ 4_294_967_295)
 
 -- in milliseconds
 abbrev pub IsTime : ℕ → Type 0
 IsTime n = n ≤ 9_007_199_254_740_991
-
-abbrev pub IsPort : ℕ → Type 0
-IsPort n = n ≤ 65_535
-
-abbrev pub IsNet4 : Net4 → Type 0
-IsNet4 net = net.bits < 2 ^ 32
-
-abbrev pub IsNet6 : Net6 → Type 0
-IsNet6 net = net.bits < 2 ^ 128
-
--- what stands is so
-abbrev pub Each : {A : Type 0} → (A → Type 0) → Option A → Type 0
-Each P None = ⊤
-Each P (Some a) = P a
-
-abbrev pub FlowInRange : Flow → Type 0
-FlowInRange (flow.Net4 net) = IsNet4 net
-FlowInRange (flow.Net6 net) = IsNet6 net
-FlowInRange (flow.Conn4 protocol source source_port destination destination_port) =
-    Each IsNet4 source × Each IsPort source_port × Each IsNet4 destination × Each IsPort destination_port
-FlowInRange (flow.Conn6 protocol source source_port destination destination_port) =
-    Each IsNet6 source × Each IsPort source_port × Each IsNet6 destination × Each IsPort destination_port
 
 -- how packets are dropped is said of a rule that denies
 abbrev pub MayDrop : Bool → Drop3 → Type 0
@@ -86,14 +55,6 @@ pub record ArgsInRange (denies : Bool) (a : Args) : Type 0 where
 
 abbrev pub HasTimes : Args → Type 0
 HasTimes a = IsTrue (are_times a.start_time a.stop_time a.duration)
-
--- ---- the targets that are read
-
-abbrev pub TargetInRange : Target → Type 0
-TargetInRange (target.Flow f) = FlowInRange f × IsTrue (has_part f)
-TargetInRange (target.RuleNumber number) = IsRuleNumber number
-TargetInRange (target.File name) = IsUtf8 name
-TargetInRange (target.Features features) = IsTrue (is_distinct features)
 
 -- ---- responses
 

@@ -4,27 +4,23 @@ use Rattle.serde_json.specs.Data.{Data, string, array, object}
 use Rattle.serde_json.specs.Find.{get, as_str}
 use Rattle.cacao_json.specs.Reading.{tree}
 use Rattle.cacao_text.specs.Canon.{canon}
-use Rattle.oc2_msg.specs.declared.features.Feature.{Feature}
-use Rattle.oc2_msg.specs.declared.features.Feature.TheVariants as feature
+use Rattle.oc2_targets.specs.declared.features.Feature.{Feature}
+use Rattle.oc2_targets.specs.declared.features.Feature.TheVariants as feature
 use Rattle.oc2_msg.specs.declared.reasons.Reason.{Reason}
 use Rattle.oc2_msg.specs.declared.responses.Response.{Response}
 use Rattle.oc2_msg.specs.declared.answers.Answer.{Answer}
 use Rattle.oc2_msg.specs.declared.answers.ResponseError.{ResponseError}
 use Rattle.oc2_msg.specs.declared.answers.ResponseError.TheVariants.{Malformed, Memory}
-use Rattle.oc2_msg.specs.Parts.{◌>>=◌, provided, optional, is_object, is_absent_or, whole, object_of, whole_data, texts}
+use Rattle.oc2_targets.specs.Parts.{◌>>=◌, provided, optional, is_object, is_absent_or, whole, object_of, whole_data, texts, part_of, one_member, one_text}
 use Rattle.oc2_msg.specs.Ranges.{is_status}
 use Rattle.oc2_msg.specs.Reasons.{reason_text}
-use Rattle.oc2_msg.specs.Features.{has}
-use Rattle.oc2_msg.specs.Least.{part_of, one_member}
+use Rattle.oc2_targets.specs.Features.{has}
 
 -- ---- the values of features
 
 abbrev pub flow_kinds : Data
 flow_kinds = array (texts (
     codes "ipv4_connection" ∷ codes "ipv4_net" ∷ codes "ipv6_connection" ∷ codes "ipv6_net" ∷ []))
-
-abbrev pub one_text : List ℕ → Data
-one_text text = array (texts (text ∷ []))
 
 -- the targets that each action takes
 abbrev pub pairs_value : Data

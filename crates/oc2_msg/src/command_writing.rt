@@ -1,23 +1,20 @@
 // From commands to texts.
 ghost use Rattle.std.specs.Prelude.{◌≡◌, IfOk, Ok, option_map};
 ghost use Rattle.cacao_json.specs.Tree.{data_of};
-ghost use Rattle.oc2_msg.specs.declared.actions.Action.TheVariants as action;
+ghost use Rattle.oc2_targets.specs.declared.actions.Action.TheVariants as action;
 ghost use Rattle.oc2_msg.specs.declared.commands.Command.TheVariants as command;
-ghost use Rattle.oc2_msg.specs.Parts.{whole_data};
+ghost use Rattle.oc2_targets.specs.Parts.{whole_data};
 ghost use Rattle.oc2_msg.specs.Commands.{answer_of};
-ghost use Rattle.oc2_msg.specs.Ranges.{Each, IsTime, InRange};
+ghost use Rattle.oc2_targets.specs.Ranges.{Each};
+ghost use Rattle.oc2_msg.specs.Ranges.{IsTime, InRange};
 ghost use Rattle.oc2_msg.specs.Least.{direction_part, drop_part, filter_part, args_with, message, rule_action, command_data, command_text};
 
-use crate::actions::Action;
-use crate::building::{one_member, put, text_tree, unless_empty, whole_tree};
 use crate::commands::Command;
 use crate::directions::Direction;
 use crate::drops::Drop3;
-use crate::features::FeatureList;
-use crate::kinds::TargetKind;
-use crate::target_writing::{features_tree, flow_tree};
 use cacao_json::{Pairs, Text, Tree};
 use cacao_text::{Bytes2, canonical};
+use oc2_targets::{Action, FeatureList, TargetKind, features_tree, flow_tree, one_member, put, text_tree, unless_empty, whole_tree};
 use std::alloc::{AllocError, Global};
 
 /// The canonical text (RFC 8785) of the least command with this value: an absent part, the direction `both` and the

@@ -1,9 +1,9 @@
 // Commands.
 use crate::directions::Direction;
 use crate::drops::Drop3;
-use crate::features::FeatureList;
 use cacao_json::Text;
 use oc2_nets::Flow;
+use oc2_targets::FeatureList;
 
 /// A command to a packet filter (OpenC2 SLPF 1.0, section 2.3).
 #[derive(Drop)]

@@ -4,29 +4,20 @@
 //! value, and so does `write_response`; what is written reads back.
 #![tactic(auto)]
 
-mod actions;
 mod answers;
 mod arguments;
-mod building;
 mod command_writing;
 mod commands;
-mod connections;
 mod directions;
 mod drops;
-mod feature_lists;
-mod features;
-mod kinds;
 mod laws;
 mod messages;
-mod parts;
 mod reading;
 mod reasons;
 mod refusals;
 mod response_reading;
 mod response_writing;
 mod responses;
-mod target_writing;
-mod targets;
 mod values;
 
 pub use answers::{Answer, ResponseError};
@@ -34,8 +25,8 @@ pub use command_writing::write_command;
 pub use commands::Command;
 pub use directions::Direction;
 pub use drops::Drop3;
-pub use features::{Feature, FeatureList};
 pub use laws::reads_back;
+pub use oc2_targets::{Feature, FeatureList};
 pub use reading::read_command;
 pub use reasons::Reason;
 pub use refusals::{CommandError, Refusal};
