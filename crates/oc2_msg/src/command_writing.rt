@@ -14,7 +14,10 @@ use crate::directions::Direction;
 use crate::drops::Drop3;
 use cacao_json::{Pairs, Text, Tree};
 use cacao_text::{Bytes2, canonical};
-use oc2_targets::{Action, FeatureList, TargetKind, features_tree, flow_tree, one_member, put, text_tree, unless_empty, whole_tree};
+use oc2_targets::{
+    Action, FeatureList, TargetKind, features_tree, flow_tree, one_member, put, text_tree,
+    unless_empty, whole_tree,
+};
 use std::alloc::{AllocError, Global};
 
 /// The canonical text (RFC 8785) of the least command with this value: an absent part, the direction `both` and the

@@ -9,7 +9,9 @@ use crate::reasons::Reason;
 use crate::responses::Response;
 use cacao_json::{Items, Pairs, Tree};
 use cacao_text::{Bytes2, canonical};
-use oc2_targets::{Feature, FeatureList, one_member, one_text, push_text, put, text_tree, unless_empty, whole_tree};
+use oc2_targets::{
+    Feature, FeatureList, one_member, one_text, push_text, put, text_tree, unless_empty, whole_tree,
+};
 use std::alloc::{AllocError, Global};
 
 /// The canonical text (RFC 8785) of the response (OpenC2 Language 1.0, section 3.2): `results` with the values of the
