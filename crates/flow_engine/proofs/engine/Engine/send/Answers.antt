@@ -1,11 +1,10 @@
 use Rattle.std.proofs.Common.{◌≡◌, ◌<◌, length, true, false, refl, sym, subst, ap, ap₂, ◌∙◌, arith}
 use Rattle.cacao_site.specs.declared.parcel.Parcel.{Parcel}
 use Rattle.cacao_site.specs.SiteCalls.{Puts as PutsParcel}
-use Rattle.std.specs.Prelude.{slice_get}
 use Rattle.engine_history.specs.HistoryView.{HistoryView, IsReady}
 use Rattle.engine_history.specs.Histories.{IsHistory}
 use Rattle.engine_history.proofs.HistoryLemmas.{get_within}
-use Rattle.flow_engine.specs.EngineCalls.{IsOpen, IsWaiting, Sends, command_of}
+use Rattle.flow_engine.specs.EngineCalls.{IsOpen, IsWaiting, Sends}
 use Rattle.flow_engine.specs.EngineView.{EngineView}
 use Rattle.flow_engine.specs.OpenIssues.{OpenIssues, with_put}
 use Rattle.flow_engine.proofs.SendLemmas.{is_open, puts_more, ready_after_put}
@@ -39,8 +38,7 @@ returns-clause-ok g c =
     let v = c.args.self.now in
     let history = ap (λ (x : EngineView). x.history) c.self.view_is in
     let sound : IsHistory v.history = subst IsHistory history c.law.ensures in
-    let there = ap (λ (h : HistoryView). slice_get h.seen.lists.issues c.args.issue) history ∙ (w.1).there in
-    let command = c.in_ok-parcel.ensures w.0 there ∙ ap (λ (h : HistoryView). command_of h c.args.issue w.0) history in
+    let command = c.in_ok-parcel.ensures w.0 (w.1).there in
     let puts = c.in_ok-put.ensures.ok ∙ ap (λ (x : EngineView). with_put x.puts c.args.issue c.args.moment) c.self.view_is in
     record {
       whole = sym (ap (λ (h : HistoryView). h.broken) history) ∙ sym c.is_broken.ensures ∙ c.if-is_broken.false;
