@@ -1,48 +1,55 @@
 -- What comes of a start where all agrees.
 use Rattle.std.proofs.Common.{◌≡◌, ◌⊎◌, inl, inr, ◌∙◌, refl, sym, ap, subst, arith, ℕ, Bool, true, false, List, [], ◌∷◌, map, Option, Some, None, Result, Ok, Err}
-use Rattle.std.specs.Prelude.{if◌then◌else◌}
+use Rattle.std.specs.Prelude.{IsTrue, if◌then◌else◌}
 use Rattle.serde_json.specs.Data.{Data}
 use Rattle.cacao_check.specs.Fits.{FitsKind}
 use Rattle.cacao_check.specs.declared.breaks.Mode.TheVariants.{Read as Reading}
+use Rattle.cacao_site.proofs.Beats.{told-goes_on}
 use Rattle.cacao_site.specs.Counts.{DidNotRise, Rose}
+use Rattle.cacao_site.specs.DiskCalls.{IsLeft}
 use Rattle.cacao_site.specs.Sound.{IsSound}
 use Rattle.cacao_site.specs.View.{SiteView}
 use Rattle.oc2_nets.specs.declared.packets.Packet.{Packet}
 use Rattle.filter_reports.specs.PacketFiles.{packets_of}
-use Rattle.run_reports.specs.RunFiles as run
 use Rattle.run_reports.specs.RunLines.{lines_of}
 use Rattle.run_reports.proofs.AcceptLemmas.{accepted-one}
 use Rattle.flow_core.specs.Setups.{AreAccepted}
 use Rattle.flow_rules.specs.Accepted.{Accepted}
 use Rattle.flow_rules.specs.Givens.{Given}
 use Rattle.operator_answers.specs.declared.answers.OperatorAnswer.{OperatorAnswer}
-use Rattle.slpf_actuator.specs.Damage as filter_file
-use Rattle.flow_world.specs.Sessions.{HasClosed, HasRefused, IsStart, KeepsAgreement}
+use Rattle.flow_laws.specs.Good.{IsGood}
+use Rattle.flow_world.specs.Sessions.{HasClosed, HasRefused, IsStart, KeepsAgreement, Went}
+use Rattle.flow_steps.specs.Unbroken.{IsJournalSure}
 use Rattle.flow_world.specs.declared.close.Close.{Close}
 use Rattle.flow_world.specs.declared.close.Close.TheVariants as close
 use Rattle.flow_world.specs.declared.error.WorldError.{WorldError}
 use Rattle.flow_world.specs.declared.error.WorldError.TheVariants as error
+use Rattle.session_laws.proofs.Opening.{opens_refused}
 use Rattle.session_laws.specs.Complete.{Completes as SessionCompletes, EndsSo, IsForThisRun, IsUndisturbed, NoneFindsAnother, StopsSo, TellsOfAnother}
 use Rattle.session_laws.specs.Undamaged.{GoodIsUndamaged, IsAccepted, IsUndamaged, NoneFindsDamage}
 use Rattle.cacao_words.specs.Requests.{RunRequest}
-use Rattle.cacao_cli.specs.Agreement.{Agrees, MayBegin}
 use Rattle.cacao_cli.specs.Asked.{Asked, canonises, checks, runs, shows, lists_rules, decides, shadows, rehearses, audits}
 use Rattle.cacao_cli.specs.Causes.{HasTexts, HasTrees, LacksTree}
-use Rattle.cacao_cli.specs.Completing.{Completes, CompletesSo, HasOwnFile, TellsNoDamage}
-use Rattle.cacao_cli.specs.Ended.{Performed, Performs}
-use Rattle.cacao_cli.specs.Ends.{End, status_of, text_of, accepted, disk_failed, done, no_memory, past}
+use Rattle.cacao_cli.specs.Completing.{AddsNoExpire, Completes, CompletesSo, EachSendIsDone, HasNoRecord, HasOwnFile}
+use Rattle.cacao_cli.specs.Ended.{Ended, Performed, Performs}
+use Rattle.cacao_cli.specs.Ends.{End, status_of, text_of, accepted, disk_failed, done, no_memory, past, shelf_failed}
 use Rattle.cacao_cli.specs.Exact.{HasVerdict, IsOneOf, file_faults}
 use Rattle.cacao_cli.specs.Files.{File, Files, NamedText, ShelfCall, files_of, has_too_many, reading, Reads}
 use Rattle.cacao_cli.specs.Holding.{ClosesSo, IsRefusedStart, RefusesSo, close_end, error_end}
-use Rattle.cacao_cli.specs.Lines.{SaysAtMostALine, Tells}
+use Rattle.cacao_cli.specs.Lines.{SaysAtMostALine, SaysWork, Tells}
+use Rattle.cacao_cli.specs.Openings.{Opens}
 use Rattle.cacao_cli.specs.Work.{Start, Work, ends, judges, opens_filter, opens_run, compares, rehearsals, starts, at_decisions, canon_line, or_end, packets_or_end, start_of, trees_of, trees_wanted, work, work_on}
 use Rattle.cacao_cli.specs.declared.limit.Limit.TheVariants.{BookCount}
+use Rattle.cacao_cli.proofs.AnswerLemmas.{never}
 use Rattle.cacao_cli.proofs.CauseLemmas.{TreesCase, all_trees, one_treeless, trees_case}
 use Rattle.cacao_cli.proofs.CountLemmas.{read-status, unsaid-ended}
+use Rattle.cacao_cli.proofs.DoneLemmas.{done-there, ended-done, none-there, opened-none, same-opens, went-none}
+use Rattle.cacao_cli.proofs.EndLemmas.{no_cons}
 use Rattle.cacao_cli.proofs.ExactLemmas.{failed-status, if-told, performs-comes, seen-read}
 use Rattle.cacao_cli.proofs.JudgedLemmas.{bad-answers, lacks-tree, refused-accepted}
 use Rattle.cacao_cli.proofs.LineLemmas.{IsCutOff, says-status, tells-status}
-use Rattle.cacao_cli.proofs.ReadLemmas.{Fails, Read}
+use Rattle.cacao_cli.proofs.ReadLemmas.{Fails, Read, by_memory, by_shelf}
+use Rattle.cacao_cli.proofs.ReturnedRuns.{closes-sure, refuses-sure}
 use Rattle.cacao_cli.proofs.StartLemmas.{tells-line}
 use Rattle.cacao_cli.proofs.StatusRuns.{RunCase, long-texts, missing-texts, no-texts, run_case, run_long, run_many, run_missing, run_starts, run_treeless, same-texts}
 use Rattle.cacao_cli.proofs.UnsaidLemmas.{last-said}
@@ -75,31 +82,30 @@ close-apart (close.Asked issue) e = omega (arith, e)
 
 -- ---- damage
 
--- where the work may begin, and that it tells no damage of its own
-abbrev MayDo : Work → SiteView → Type 0
-MayDo (ends lines end) old = status_of end ≡ 13 → ⊥
-MayDo (judges trees mode kept) old = MayDo kept old
-MayDo (opens_filter agent look) old = Unit {0}
-MayDo opens_run old = Unit {0}
-MayDo (compares files) old = Unit {0}
-MayDo (rehearsals positions) old = ⊥
-MayDo (starts start) old = IsStart old start.run
+-- the work tells no damage of its own
+abbrev MayDo : Work → Type 0
+MayDo (ends lines end) = status_of end ≡ 13 → ⊥
+MayDo (judges trees mode kept) = MayDo kept
+MayDo (opens_filter agent look) = Unit {0}
+MayDo opens_run = Unit {0}
+MayDo (compares files) = Unit {0}
+MayDo (rehearsals positions) = ⊥
+MayDo (starts start) = Unit {0}
 
-module _ (undamaged : GoodIsUndamaged) (none : NoneFindsDamage) (old mid new : SiteView) (last : End) (answer : ℕ) (sound_mid : IsSound mid) (sound : IsSound new) (agrees : Agrees old)
-    (kept : KeepsAgreement old new) (tells : Tells last mid new answer) (thirteen : answer ≡ 13) where
-  bytes-there : (file : ℕ) → new.disk.reads file ≡ mid.disk.reads file
-  bytes-there file = go (tells-line last mid new answer tells)
-    where
-      go : SaysAtMostALine mid new → new.disk.reads file ≡ mid.disk.reads file
-      go (inl is) = ap (λ (s : SiteView). s.disk.reads file) is
-      go (inr says) = (says.disk.stays file).reads
+module _ (undamaged : GoodIsUndamaged) (none : NoneFindsDamage) (old mid new : SiteView) (last : End) (answer : ℕ) (sound_old : IsSound old) (sound_mid : IsSound mid) (told : IsTrue old.disk.told)
+    (good : IsGood old old.disk.beat) (tells : Tells last mid new answer) (thirteen : answer ≡ 13) where
+  at-start : IsUndamaged old old.disk.beat
+  at-start = undamaged old old.disk.beat told sound_old (omega arith) good
 
-  now : IsUndamaged new new.disk.beat
-  now = undamaged new new.disk.beat kept.told sound (omega arith) (kept.each new.disk.beat kept.later (omega arith)).good
+  -- what a file reads as that was only opened is an image that it had
+  was-image : (file : ℕ) → Opens file old mid → IsLeft old.disk file old.disk.beat (mid.disk.reads file)
+  was-image file opens =
+      let each = opens.only.each in
+      each.each told mid.disk.beat (mid.disk.reads file) each.goes_on.later (omega arith) (sound_mid.reads file (told-goes_on each.goes_on told))
 
   none-refused : (given : Given) (run most : ℕ) (answers : List OperatorAnswer) (why : WorldError) → IsAccepted given → HasRefused why given run most answers old mid → status_of (error_end why) ≡ 13 → ⊥
   none-refused given run most answers error.Disk is h e = omega (arith, e)
-  none-refused given run most answers (error.Damaged file place) is h e = none given run most answers old mid file place is agrees.told agrees.start.good sound_mid h
+  none-refused given run most answers (error.Damaged file place) is h e = none given run most answers old mid file place is told good sound_mid h
   none-refused given run most answers (error.OtherRun held asked) is h e = omega (arith, e)
   none-refused given run most answers (error.OtherBook index) is h e = omega (arith, e)
   none-refused given run most answers (error.RunUsed agent) is h e = omega (arith, e)
@@ -107,7 +113,7 @@ module _ (undamaged : GoodIsUndamaged) (none : NoneFindsDamage) (old mid new : S
   none-refused given run most answers error.Say is h e = omega (arith, e)
   none-refused given run most answers error.Memory is h e = omega (arith, e)
 
-  work-undamaged : (w : Work) → MayDo w old → Performs w old mid last → ⊥
+  work-undamaged : (w : Work) → MayDo w → Performs w old mid last → ⊥
   work-undamaged (ends lines end) b p = go (says-status lines end old mid new last answer p tells)
     where
       go : (answer ≡ status_of end) ⊎ IsCutOff answer → ⊥
@@ -120,14 +126,12 @@ module _ (undamaged : GoodIsUndamaged) (none : NoneFindsDamage) (old mid new : S
   work-undamaged (judges trees mode kept) b (inr (inr p)) = apart-end last no_memory mid new answer 10 p.ends refl (λ e. omega (arith, e)) tells thirteen
   work-undamaged (opens_filter agent look) b (inl p) = says-apart p.lines p.between mid new last answer (says-status p.lines done p.between mid new last answer p.says tells) thirteen
   work-undamaged (opens_filter agent look) b (inr (inl p)) =
-      now.filters agent p.of_agent (new.disk.reads agent) p.place (sound.reads agent kept.told)
-      (subst (λ (image : List ℕ). filter_file.IsDamaged image p.place) (sym (bytes-there agent)) (p.is_damaged agrees.told))
+      at-start.filters agent p.of_agent (mid.disk.reads agent) p.place (was-image agent p.opens) (p.is_damaged told)
   work-undamaged (opens_filter agent look) b (inr (inr (inl p))) = apart-end last disk_failed mid new answer 8 p.ends refl (λ e. omega (arith, e)) tells thirteen
   work-undamaged (opens_filter agent look) b (inr (inr (inr p))) = apart-end last no_memory mid new answer 10 p.ends refl (λ e. omega (arith, e)) tells thirteen
   work-undamaged opens_run b (inl p) = says-apart (lines_of p.text) p.between mid new last answer (says-status (lines_of p.text) done p.between mid new last answer p.says tells) thirteen
   work-undamaged opens_run b (inr (inl p)) =
-      now.reports (new.disk.reads 0) p.place (sound.reads 0 kept.told)
-      (subst (λ (image : List ℕ). run.IsDamaged image p.place) (sym (bytes-there 0)) (p.is_damaged agrees.told))
+      at-start.reports (mid.disk.reads 0) p.place (was-image 0 p.opens) (p.is_damaged told)
   work-undamaged opens_run b (inr (inr (inl p))) = apart-end last _ mid new answer 11 p.ends refl (λ e. omega (arith, e)) tells thirteen
   work-undamaged opens_run b (inr (inr (inr (inl p)))) = apart-end last disk_failed mid new answer 8 p.ends refl (λ e. omega (arith, e)) tells thirteen
   work-undamaged opens_run b (inr (inr (inr (inr p)))) = apart-end last no_memory mid new answer 10 p.ends refl (λ e. omega (arith, e)) tells thirteen
@@ -166,28 +170,28 @@ IsOnSite (shadows agent) = Unit {0}
 IsOnSite (rehearses positions) = ⊥
 IsOnSite (audits engine filters) = Unit {0}
 
-trees-may : (texts : List NamedText) (does : List Data → Work) (old : SiteView) → ((roots : List Data) → MayDo (does roots) old) → MayDo (or_end (trees_of texts) does) old
-trees-may texts does old each = go (trees_case texts)
+trees-may : (texts : List NamedText) (does : List Data → Work) → ((roots : List Data) → MayDo (does roots)) → MayDo (or_end (trees_of texts) does)
+trees-may texts does each = go (trees_case texts)
   where
-    go : TreesCase texts → MayDo (or_end (trees_of texts) does) old
-    go (all_trees roots r e) = subst (λ (r : Result (List Data) End). MayDo (or_end r does) old) (sym e) (each roots)
-    go (one_treeless name reason r e) = subst (λ (r : Result (List Data) End). MayDo (or_end r does) old) (sym e) (λ f. omega (arith, f))
+    go : TreesCase texts → MayDo (or_end (trees_of texts) does)
+    go (all_trees roots r e) = subst (λ (r : Result (List Data) End). MayDo (or_end r does)) (sym e) (each roots)
+    go (one_treeless name reason r e) = subst (λ (r : Result (List Data) End). MayDo (or_end r does)) (sym e) (λ f. omega (arith, f))
 
-texts-may : (asked : Asked) (texts : List NamedText) (old : SiteView) → IsOnSite asked → MayBegin (Some asked) old → MayDo (work_on asked texts) old
-texts-may (canonises book) texts old on h = trees-may texts (λ roots. ends (map canon_line roots) done) old (λ roots e. omega (arith, e))
-texts-may (checks books) texts old on h = trees-may texts (λ roots. judges roots Reading (ends [] accepted)) old (λ roots e. omega (arith, e))
-texts-may (runs wanted) texts old on h = trees-may (trees_wanted wanted texts) (λ roots. starts (start_of wanted texts)) old (λ roots. h)
-texts-may shows texts old on h = tt
-texts-may (lists_rules agent) texts old on h = tt
-texts-may (decides agent packets) [] old on h = tt
-texts-may (decides agent packets) (text ∷ texts) old on h = go (packets_of text.bytes)
+texts-may : (asked : Asked) (texts : List NamedText) → IsOnSite asked → MayDo (work_on asked texts)
+texts-may (canonises book) texts on = trees-may texts (λ roots. ends (map canon_line roots) done) (λ roots e. omega (arith, e))
+texts-may (checks books) texts on = trees-may texts (λ roots. judges roots Reading (ends [] accepted)) (λ roots e. omega (arith, e))
+texts-may (runs wanted) texts on = trees-may (trees_wanted wanted texts) (λ roots. starts (start_of wanted texts)) (λ roots. tt)
+texts-may shows texts on = tt
+texts-may (lists_rules agent) texts on = tt
+texts-may (decides agent packets) [] on = tt
+texts-may (decides agent packets) (text ∷ texts) on = go (packets_of text.bytes)
   where
-    go : (r : Result (List (ℕ × Packet)) ℕ) → MayDo (or_end (packets_or_end text.name r) (λ found. opens_filter agent (at_decisions found))) old
+    go : (r : Result (List (ℕ × Packet)) ℕ) → MayDo (or_end (packets_or_end text.name r) (λ found. opens_filter agent (at_decisions found)))
     go (Err number) = λ e. omega (arith, e)
     go (Ok found) = tt
-texts-may (shadows agent) texts old on h = tt
-texts-may (rehearses positions) texts old on h = absurd on
-texts-may (audits engine filters) texts old on h = tt
+texts-may (shadows agent) texts on = tt
+texts-may (rehearses positions) texts on = absurd on
+texts-may (audits engine filters) texts on = tt
 
 -- reading ends with other statuses
 read-apart : (n : ℕ) → IsOneOf n (3 ∷ 4 ∷ 10 ∷ 11 ∷ []) → n ≡ 13 → ⊥
@@ -197,31 +201,32 @@ read-apart n (inr (inr (inl e))) f = omega (arith, e, f)
 read-apart n (inr (inr (inr (inl e)))) f = omega (arith, e, f)
 read-apart n (inr (inr (inr (inr h)))) f = h
 
-work-may : (asked : Asked) (told : Option Files) (count : ℕ) (read : Read) (old : SiteView) → IsOnSite asked → MayBegin (Some asked) old → Reads told (files_of (Some asked)) count read → MayDo (work (Some asked) read) old
-work-may asked told count read old on h reads = go (has_too_many asked) read (λ end e. read-status told (files_of (Some asked)) count read end reads e)
+work-may : (asked : Asked) (told : Option Files) (count : ℕ) (read : Read) → IsOnSite asked → Reads told (files_of (Some asked)) count read → MayDo (work (Some asked) read)
+work-may asked told count read on reads = go (has_too_many asked) read (λ end e. read-status told (files_of (Some asked)) count read end reads e)
   where
-    go : (b : Bool) (r : Read) → ((end : End) → r ≡ Err end → IsOneOf (status_of end) (3 ∷ 4 ∷ 10 ∷ 11 ∷ [])) → MayDo (if b then ends [] (past BookCount) else or_end r (work_on asked)) old
+    go : (b : Bool) (r : Read) → ((end : End) → r ≡ Err end → IsOneOf (status_of end) (3 ∷ 4 ∷ 10 ∷ 11 ∷ [])) → MayDo (if b then ends [] (past BookCount) else or_end r (work_on asked))
     go true r each = λ e. omega (arith, e)
     go false (Err end) each = λ e. read-apart (status_of end) (each end refl) e
-    go false (Ok texts) each = texts-may asked texts old on h
+    go false (Ok texts) each = texts-may asked texts on
 
-module _ (undamaged : GoodIsUndamaged) (none : NoneFindsDamage) (shelf : ShelfCall) (old mid new : SiteView) (last : End) (answer : ℕ) (sound_mid : IsSound mid) (sound : IsSound new)
-    (kept : KeepsAgreement old new) (tells : Tells last mid new answer) where
-  asked-undamaged : (asked : Asked) → IsOnSite asked → Agrees old → MayBegin (Some asked) old → Performed (Some asked) shelf old mid last → answer ≡ 13 → ⊥
-  asked-undamaged asked on agrees h p e = work-undamaged undamaged none old mid new last answer sound_mid sound agrees kept tells e (work (Some asked) p.read)
-      (work-may asked shelf.told p.reads.count p.read old on h p.reads.reads) p.performs
+module _ (undamaged : GoodIsUndamaged) (none : NoneFindsDamage) (shelf : ShelfCall) (old new : SiteView) (answer : ℕ) (sound : IsSound old) (told : IsTrue old.disk.told) (good : IsGood old old.disk.beat) where
+  asked-undamaged : (asked : Asked) → IsOnSite asked → (ended : Ended (Some asked) shelf old new answer) → IsSound ended.between → answer ≡ 13 → ⊥
+  asked-undamaged asked on ended later e =
+      let p = ended.performed in
+      work-undamaged undamaged none old ended.between new ended.last answer sound later told good ended.tells e (work (Some asked) p.read)
+      (work-may asked shelf.told p.reads.count p.read on p.reads.reads) p.performs
 
-  pub undamaged-ended : (asked : Option Asked) → Performed asked shelf old mid last → MayBegin asked old → TellsNoDamage asked answer
-  undamaged-ended None p h = λ e. work-undamaged undamaged none old mid new last answer sound_mid sound h kept tells e (work None p.read) (λ f. omega (arith, f)) p.performs
-  undamaged-ended (Some (canonises book)) p h = asked-undamaged (canonises book) tt h h p
-  undamaged-ended (Some (checks books)) p h = asked-undamaged (checks books) tt h h p
-  undamaged-ended (Some (runs wanted)) p h = asked-undamaged (runs wanted) tt (record { told = h.told; start = h.start }) h p
-  undamaged-ended (Some shows) p h = asked-undamaged shows tt h h p
-  undamaged-ended (Some (lists_rules agent)) p h = asked-undamaged (lists_rules agent) tt h h p
-  undamaged-ended (Some (decides agent packets)) p h = asked-undamaged (decides agent packets) tt h h p
-  undamaged-ended (Some (shadows agent)) p h = asked-undamaged (shadows agent) tt h h p
-  undamaged-ended (Some (rehearses positions)) p h = tt
-  undamaged-ended (Some (audits engine filters)) p h = asked-undamaged (audits engine filters) tt h h p
+  pub undamaged-ended : (asked : Option Asked) (ended : Ended asked shelf old new answer) → IsSound ended.between → answer ≡ 13 → ⊥
+  undamaged-ended None ended later = never None shelf old new answer 13 refl ended
+  undamaged-ended (Some (canonises book)) ended later = never (Some (canonises book)) shelf old new answer 13 refl ended
+  undamaged-ended (Some (checks books)) ended later = never (Some (checks books)) shelf old new answer 13 refl ended
+  undamaged-ended (Some (runs wanted)) ended later = asked-undamaged (runs wanted) tt ended later
+  undamaged-ended (Some shows) ended later = asked-undamaged shows tt ended later
+  undamaged-ended (Some (lists_rules agent)) ended later = asked-undamaged (lists_rules agent) tt ended later
+  undamaged-ended (Some (decides agent packets)) ended later = asked-undamaged (decides agent packets) tt ended later
+  undamaged-ended (Some (shadows agent)) ended later = asked-undamaged (shadows agent) tt ended later
+  undamaged-ended (Some (rehearses positions)) ended later = never (Some (rehearses positions)) shelf old new answer 13 refl ended
+  undamaged-ended (Some (audits engine filters)) ended later = never (Some (audits engine filters)) shelf old new answer 13 refl ended
 
 -- ---- to the end
 
@@ -265,6 +270,17 @@ close-other close.Paused e = omega (arith, e)
 close-other (close.Waiting moment) e = omega (arith, e)
 close-other close.Flooded e = omega (arith, e)
 close-other (close.Asked issue) e = omega (arith, e)
+
+-- an error of another status than 0 and 6
+refusal-not : (why : WorldError) → (status_of (error_end why) ≡ 0 → ⊥) × (status_of (error_end why) ≡ 6 → ⊥)
+refusal-not error.Disk = (λ e. omega (arith, e), λ e. omega (arith, e))
+refusal-not (error.Damaged file place) = (λ e. omega (arith, e), λ e. omega (arith, e))
+refusal-not (error.OtherRun held asked) = (λ e. omega (arith, e), λ e. omega (arith, e))
+refusal-not (error.OtherBook index) = (λ e. omega (arith, e), λ e. omega (arith, e))
+refusal-not (error.RunUsed agent) = (λ e. omega (arith, e), λ e. omega (arith, e))
+refusal-not (error.Limit what) = (λ e. omega (arith, e), λ e. omega (arith, e))
+refusal-not error.Say = (λ e. omega (arith, e), λ e. omega (arith, e))
+refusal-not error.Memory = (λ e. omega (arith, e), λ e. omega (arith, e))
 
 -- the counts did not rise before the last line
 undisturbed-before : (old mid new : SiteView) → SaysAtMostALine mid new → new.clock.unsaid ≡ mid.clock.unsaid → IsUndisturbed old new → IsUndisturbed old mid
@@ -319,6 +335,38 @@ module _ (no_other : NoneFindsAnother) (completes : SessionCompletes) (start : S
       go (inr (inr (inl f))) = omega (arith, f, twelve)
       go (inr (inr (inr h))) = h
 
+  -- a status that comes neither of that end nor of the last line
+  undone : (end : End) → last ≡ end → (status_of end ≡ 0 → ⊥) → (status_of end ≡ 6 → ⊥) → (answer ≡ 0) ⊎ (answer ≡ 6) → ⊥
+  undone end e zero six done_ = go (tells-status last mid new answer tells) done_
+    where
+      go : (answer ≡ status_of last) ⊎ IsCutOff answer → (answer ≡ 0) ⊎ (answer ≡ 6) → ⊥
+      go (inl f) (inl g) = zero (ap status_of (sym e) ∙ sym f ∙ g)
+      go (inl f) (inr g) = six (ap status_of (sym e) ∙ sym f ∙ g)
+      go (inr (inl f)) (inl g) = omega (arith, f, g)
+      go (inr (inl f)) (inr g) = omega (arith, f, g)
+      go (inr (inr (inl f))) (inl g) = omega (arith, f, g)
+      go (inr (inr (inl f))) (inr g) = omega (arith, f, g)
+      go (inr (inr (inr h))) g = h
+
+  -- the last line leaves the files, and the count of parcels that were lost
+  bytes-there : (file : ℕ) → new.disk.reads file ≡ mid.disk.reads file
+  bytes-there file = go (tells-line last mid new answer tells)
+    where
+      go : SaysAtMostALine mid new → new.disk.reads file ≡ mid.disk.reads file
+      go (inl same) = ap (λ (s : SiteView). s.disk.reads file) same
+      go (inr says) = (says.disk.stays file).reads
+
+  still-before : DidNotRise old.clock.mishaps new.clock.mishaps → DidNotRise old.clock.mishaps mid.clock.mishaps
+  still-before still_ = subst (λ (n : ℕ). DidNotRise old.clock.mishaps n) (go (tells-line last mid new answer tells)) still_
+    where
+      go : SaysAtMostALine mid new → new.clock.mishaps ≡ mid.clock.mishaps
+      go (inl same) = ap (λ (s : SiteView). s.clock.mishaps) same
+      go (inr says) = says.time.mishaps
+
+  -- nothing was done
+  nothing-added : mid ≡ old → AddsNoExpire old new
+  nothing-added same = none-there old mid new bytes-there (opened-none old mid start.run sound is (same-opens old mid same))
+
   own-file : (given : Given) (o : HasOwnFile start old) → Accepted AreAccepted FitsKind start.books start.bind given → IsForThisRun given start.run old
   own-file given o a = subst (λ (g : Given). IsForThisRun g start.run old) (accepted-one start.books start.bind o.given given o.accepted a) o.for_this
 
@@ -329,36 +377,72 @@ module _ (no_other : NoneFindsAnother) (completes : SessionCompletes) (start : S
   started-completes (inl h) = record {
     no_other = λ o. absurd (bad-answers start (h.text, h.is, h.number, h.bad) o.answers);
     to_end = λ o u. absurd (bad-answers start (h.text, h.is, h.number, h.bad) o.answers);
+    none_expires = λ o u m. absurd (bad-answers start (h.text, h.is, h.number, h.bad) o.answers);
+    sends_done = λ m none e. absurd (undone _ h.ends (λ f. omega (arith, f)) (λ f. omega (arith, f)) e);
   }
   started-completes (inr (inl h)) = record {
     no_other = λ o. absurd (refused-none o ((h.answers, h.are), inl (h.broken, h.breaks)));
     to_end = λ o u. absurd (refused-none o ((h.answers, h.are), inl (h.broken, h.breaks)));
+    none_expires = λ o u m. absurd (refused-none o ((h.answers, h.are), inl (h.broken, h.breaks)));
+    sends_done = λ m none e. absurd (undone _ h.ends (λ f. omega (arith, f)) (λ f. omega (arith, f)) e);
   }
   started-completes (inr (inr (inl h))) = record {
     no_other = λ o. absurd (refused-none o ((h.answers, h.are), inr (h.rule, h.breaks)));
     to_end = λ o u. absurd (refused-none o ((h.answers, h.are), inr (h.rule, h.breaks)));
+    none_expires = λ o u m. absurd (refused-none o ((h.answers, h.are), inr (h.rule, h.breaks)));
+    sends_done = λ m none e. absurd (undone _ h.ends (λ f. omega (arith, f)) (λ f. omega (arith, f)) e);
   }
   started-completes (inr (inr (inr (inl h)))) = go h.holds.held
     where
       accepted_is : IsAccepted h.given
       accepted_is = record { texts = start.books; bind = start.bind; accepted = h.accepted }
 
+      agreed : KeepsAgreement old mid
+      agreed = h.holds.agreement is
+
       comes : (o : HasOwnFile start old) (u : IsUndisturbed old new) → ((how : Close) → HasClosed how h.given start.run start.most h.answers old mid → EndsSo how) × ((why : WorldError) → HasRefused why h.given start.run start.most h.answers old mid → StopsSo why)
       comes o u = completes h.given start.run start.most h.answers old mid accepted_is is (own-file h.given o h.accepted) sound (before u)
+
+      -- no Expire of a session
+      added-none : (went : Went h.given start.run start.most h.answers old mid) → IsJournalSure went.to → DidNotRise old.clock.mishaps new.clock.mishaps → AddsNoExpire old new
+      added-none went sure still_ = none-there old mid new bytes-there (went-none old mid start.run sound is h.given start.most h.answers agreed.told went sure (still-before still_))
+
+      done-by : (how : Close) → last ≡ close_end how → HasClosed how h.given start.run start.most h.answers old mid → DidNotRise old.clock.mishaps new.clock.mishaps → HasNoRecord old
+          → (answer ≡ 0) ⊎ (answer ≡ 6) → EachSendIsDone start.run new
+      done-by (close.Ended well) e c still_ none either =
+          done-there old mid new bytes-there start.run (ended-done old mid start.run sound is h.given start.most h.answers agreed.told well c (still-before still_) none agreed)
+      done-by close.Paused e c still_ none either = absurd (undone (close_end close.Paused) e (λ f. omega (arith, f)) (λ f. omega (arith, f)) either)
+      done-by (close.Waiting moment) e c still_ none either = absurd (undone (close_end (close.Waiting moment)) e (λ f. omega (arith, f)) (λ f. omega (arith, f)) either)
+      done-by close.Flooded e c still_ none either = absurd (undone (close_end close.Flooded) e (λ f. omega (arith, f)) (λ f. omega (arith, f)) either)
+      done-by (close.Asked issue) e c still_ none either = absurd (undone (close_end (close.Asked issue)) e (λ f. omega (arith, f)) (λ f. omega (arith, f)) either)
+
+      -- where it refused, and nothing disturbed it
+      refused-none-added : (why : WorldError) → HasRefused why h.given start.run start.most h.answers old mid → StopsSo why → DidNotRise old.clock.mishaps new.clock.mishaps → AddsNoExpire old new
+      refused-none-added why (inl opening) stops still_ = none-there old mid new bytes-there (opened-none old mid start.run sound is (opens_refused why h.given start.run old mid opening))
+      refused-none-added why (inr later) stops still_ = elim (refuses-sure h.given start.run start.most h.answers old mid sound agreed.told later.went why later.refuses) [
+        | inl sure ↦ added-none later.went sure still_
+        | inr e ↦ absurd (subst StopsSo e stops)
+      ]
 
       go : ClosesSo h.given start.run start.most h.answers old mid last ⊎ RefusesSo h.given start.run start.most h.answers old mid last → CompletesSo start old new answer
       go (inl c) = record {
         no_other = λ o. other-end (close_end c.close) c.ends (close-other c.close);
         to_end = λ o u. listed (close_end c.close) c.ends (close-listed c.close ((comes o u).0 c.close c.closed)) u;
+        none_expires = λ o u m. added-none c.closed.went (closes-sure h.given start.run start.most h.answers old mid sound agreed.told c.closed.went c.close c.closed.closes) m;
+        sends_done = λ m none e. done-by c.close c.ends c.closed m none e;
       }
       go (inr r) = record {
         no_other = λ o. other-end (error_end r.error) r.ends (refusal-other r.error
             (λ t. no_other r.error h.given start.run start.most h.answers old mid t is.told is.fresh (own-file h.given o h.accepted) sound r.why));
         to_end = λ o u. listed (error_end r.error) r.ends (refusal-listed r.error ((comes o u).1 r.error r.why)) u;
+        none_expires = λ o u m. refused-none-added r.error r.why ((comes o u).1 r.error r.why) m;
+        sends_done = λ m none e. absurd (undone (error_end r.error) r.ends (refusal-not r.error).0 (refusal-not r.error).1 e);
       }
   started-completes (inr (inr (inr (inr h)))) = record {
     no_other = λ o. other-end no_memory h.ends (λ e. omega (arith, e));
     to_end = λ o u. listed no_memory h.ends (inr (inr (inr (inr (inr (inr (inl refl))))))) u;
+    none_expires = λ o u m. nothing-added h.same;
+    sends_done = λ m none e. absurd (undone no_memory h.ends (λ f. omega (arith, f)) (λ f. omega (arith, f)) e);
   }
 
 module _ (no_other : NoneFindsAnother) (completes : SessionCompletes) (wanted : RunRequest) (files : Files) (old mid new : SiteView) (last : End) (answer : ℕ) (sound : IsSound mid) (is : IsStart old wanted.run)
@@ -380,13 +464,20 @@ module _ (no_other : NoneFindsAnother) (completes : SessionCompletes) (wanted : 
           (started-completes no_other completes (start_of wanted others) old mid new last answer sound is unsaid tells (at (starts (start_of wanted others)) e))
 
   -- the last line was not said, or memory was wanted
-  cut-completes : (start : Start) → IsCutOff answer → CompletesSo start old new answer
-  cut-completes start h = record { no_other = λ o. cut-other h; to_end = λ o u. cut-listed u h }
+  cut-completes : (start : Start) → AddsNoExpire old new → IsCutOff answer → CompletesSo start old new answer
+  cut-completes start nothing h = record { no_other = λ o. cut-other h; to_end = λ o u. cut-listed u h; none_expires = λ o u m. nothing; sends_done = λ m none e. absurd (cut-undone h e) }
     where
       cut-other : IsCutOff answer → answer ≡ 12 → ⊥
       cut-other (inl f) e = omega (arith, f, e)
       cut-other (inr (inl f)) e = omega (arith, f, e)
       cut-other (inr (inr h)) e = h
+
+      cut-undone : IsCutOff answer → (answer ≡ 0) ⊎ (answer ≡ 6) → ⊥
+      cut-undone (inl f) (inl e) = omega (arith, f, e)
+      cut-undone (inl f) (inr e) = omega (arith, f, e)
+      cut-undone (inr (inl f)) (inl e) = omega (arith, f, e)
+      cut-undone (inr (inl f)) (inr e) = omega (arith, f, e)
+      cut-undone (inr (inr h)) e = h
 
       cut-listed : IsUndisturbed old new → IsCutOff answer → IsOneOf answer end_statuses
       cut-listed u (inl f) = absurd (not-unsaid old.clock.unsaid new.clock.unsaid (unsaid f) u.unsaid)
@@ -394,10 +485,32 @@ module _ (no_other : NoneFindsAnother) (completes : SessionCompletes) (wanted : 
       cut-listed u (inr (inr h)) = absurd h
 
   -- the files were not read
-  unread-completes : (list : List File) (start : Start) → IsOneOf answer (file_faults list) → CompletesSo start old new answer
-  unread-completes [] start h = cut-completes start h
-  unread-completes (file ∷ more) start (inl f) = record { no_other = λ o e. omega (arith, f, e); to_end = λ o u. inr (inr (inr (inr (inr (inr (inr (inl f))))))) }
-  unread-completes (file ∷ more) start (inr h) = cut-completes start h
+  unread-completes : (list : List File) (start : Start) → AddsNoExpire old new → IsOneOf answer (file_faults list) → CompletesSo start old new answer
+  unread-completes [] start nothing h = cut-completes start nothing h
+  unread-completes (file ∷ more) start nothing (inl f) = record {
+    no_other = λ o e. omega (arith, f, e);
+    to_end = λ o u. inr (inr (inr (inr (inr (inr (inr (inl f)))))));
+    none_expires = λ o u m. nothing;
+    sends_done = λ m none e. absurd (elim e [ inl g ↦ omega (arith, f, g) | inr g ↦ omega (arith, f, g) ]);
+  }
+  unread-completes (file ∷ more) start nothing (inr h) = cut-completes start nothing h
+
+-- where files were not read nothing was done
+says-none : (end : End) (old mid : SiteView) (last : End) → SaysWork [] end old mid last → mid ≡ old
+says-none end old mid last (inl h) = h.says
+says-none end old mid last (inr (inl h)) = absurd (no_cons h.front h.behind h.line h.line h.is)
+says-none end old mid last (inr (inr h)) = h.same
+
+fails-end : (list : List File) (read : Read) → Fails list read → (end : End) × (read ≡ Err end)
+fails-end list read (by_shelf name is faults) = (shelf_failed name, is)
+fails-end list read (by_memory is faults) = (no_memory, is)
+
+unread-same : (asked : Asked) (read : Read) (end : End) (old mid : SiteView) (last : End) → read ≡ Err end → Performs (work (Some asked) read) old mid last → mid ≡ old
+unread-same asked read end old mid last is p = go (has_too_many asked) (subst (λ (r : Read). Performs (work (Some asked) r) old mid last) is p)
+  where
+    go : (b : Bool) → Performs (if b then ends [] (past BookCount) else ends [] end) old mid last → mid ≡ old
+    go true p = says-none (past BookCount) old mid last p
+    go false p = says-none end old mid last p
 
 pub completes-ended : NoneFindsAnother → SessionCompletes → (asked : Option Asked) (shelf : ShelfCall) (old mid new : SiteView) (last : End) (answer : ℕ) → IsSound mid → Performed asked shelf old mid last
     → Tells last mid new answer → Completes asked shelf.told old new answer
@@ -414,7 +527,10 @@ completes-ended no_other completes (Some (runs wanted)) shelf old mid new last a
         → (p.read ≡ reading files (files_of (Some (runs wanted)))) ⊎ Fails (files_of (Some (runs wanted))) p.read → CompletesSo (start_of wanted texts) old new answer
     go is files texts has trees (inl e) = run-completes no_other completes wanted files old mid new last answer sound is unsaid tells
         (subst (λ (r : Result (List NamedText) End). Performs (work (Some (runs wanted)) r) old mid last) e p.performs) texts has trees
-    go is files texts has trees (inr fails) = unread-completes no_other completes wanted files old mid new last answer sound is unsaid tells (files_of (Some (runs wanted))) (start_of wanted texts)
+    go is files texts has trees (inr fails) =
+        let end = fails-end (files_of (Some (runs wanted))) p.read fails in
+        unread-completes no_other completes wanted files old mid new last answer sound is unsaid tells (files_of (Some (runs wanted))) (start_of wanted texts)
+        (nothing-added no_other completes (start_of wanted texts) old mid new last answer sound is unsaid tells (unread-same (runs wanted) p.read end.0 old mid last end.1 p.performs))
         (failed-status (runs wanted) p.read (has_too_many (runs wanted)) old mid new last answer fails p.performs tells)
 completes-ended no_other completes (Some shows) shelf old mid new last answer sound p tells = tt
 completes-ended no_other completes (Some (lists_rules agent)) shelf old mid new last answer sound p tells = tt

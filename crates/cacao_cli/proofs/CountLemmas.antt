@@ -266,7 +266,7 @@ not_understood-ended None shelf old new answer h e = go (performs-comes (work No
 not_understood-ended (Some asked) shelf old new answer h e = absurd (cc)
 
 -- all commands but `rehearse` do their work with that site
-abbrev WithSite : Option Asked → Type 0
+abbrev pub WithSite : Option Asked → Type 0
 WithSite None = Unit {0}
 WithSite (Some (canonises book)) = Unit {0}
 WithSite (Some (checks books)) = Unit {0}
@@ -385,21 +385,12 @@ failed-ended asked shelf old new answer h three = by asked h.performed
                 ∙ ap (λ (b : Bool). if b then next_count shelf.before else shelf.before) (three-is (status_of end) (sym (has-end (work (Some asked) p.read) end old new answer s is) ∙ three))
             go (by_texts other) = absurd ((other-status (work (Some asked) p.read) old new answer other is).1 three)
 
-rose-disk : (asked : Option Asked) (shelf : ShelfCall) (old new : SiteView) (answer : ℕ) → WithSite asked → Ended asked shelf old new answer → answer ≡ 8 → Rose old.disk.faults new.disk.faults
-rose-disk asked shelf old new answer has h e = performs-failed (work asked h.performed.read) old h.between new h.last answer (handed-work asked h.performed.read has)
+pub disk-handed : (asked : Option Asked) (shelf : ShelfCall) (old new : SiteView) (answer : ℕ) → WithSite asked → Ended asked shelf old new answer → answer ≡ 8 → Rose old.disk.faults new.disk.faults
+disk-handed asked shelf old new answer has h e = performs-failed (work asked h.performed.read) old h.between new h.last answer (handed-work asked h.performed.read has)
     (no-nine asked shelf.told h.performed.reads.count h.performed.read h.performed.reads.reads) h.performed.performs h.tells e
 
-pub disk-ended : (asked : Option Asked) (shelf : ShelfCall) (old new : SiteView) (answer : ℕ) → Ended asked shelf old new answer → answer ≡ 8 → CountsDisk asked old new
-disk-ended None shelf old new answer h e = rose-disk None shelf old new answer tt h e
-disk-ended (Some (canonises book)) shelf old new answer h e = rose-disk (Some (canonises book)) shelf old new answer tt h e
-disk-ended (Some (checks books)) shelf old new answer h e = rose-disk (Some (checks books)) shelf old new answer tt h e
-disk-ended (Some (runs wanted)) shelf old new answer h e = rose-disk (Some (runs wanted)) shelf old new answer tt h e
-disk-ended (Some shows) shelf old new answer h e = rose-disk (Some shows) shelf old new answer tt h e
-disk-ended (Some (lists_rules agent)) shelf old new answer h e = rose-disk (Some (lists_rules agent)) shelf old new answer tt h e
-disk-ended (Some (decides agent packets)) shelf old new answer h e = rose-disk (Some (decides agent packets)) shelf old new answer tt h e
-disk-ended (Some (shadows agent)) shelf old new answer h e = rose-disk (Some (shadows agent)) shelf old new answer tt h e
-disk-ended (Some (audits engine filters)) shelf old new answer h e = rose-disk (Some (audits engine filters)) shelf old new answer tt h e
-disk-ended (Some (rehearses positions)) shelf old new answer h e = rehearses-failed positions old h.between new h.last answer (rehearse-performed positions shelf old h.between h.last h.performed) h.tells e
+pub own-disk : (positions : ℕ) (shelf : ShelfCall) (old new : SiteView) (answer : ℕ) → Ended (Some (rehearses positions)) shelf old new answer → answer ≡ 8 → CountsDisk (Some (rehearses positions)) old new
+own-disk positions shelf old new answer h e = rehearses-failed positions old h.between new h.last answer (rehearse-performed positions shelf old h.between h.last h.performed) h.tells e
 
 pub memory-ended : (asked : Option Asked) (shelf : ShelfCall) (old new : SiteView) (answer : ℕ) → Ended asked shelf old new answer → answer ≡ 10 → NoFault shelf.before shelf.after old new
 memory-ended asked shelf old new answer h e = record {

@@ -1,10 +1,12 @@
 pub mod AgreeLemmas
 pub mod AgreedLemmas
+pub mod AnswerLemmas
 pub mod AuditLemmas
 pub mod BeginLemmas
 pub mod CauseLemmas
 pub mod CompleteLemmas
 pub mod CountLemmas
+pub mod DoneLemmas
 pub mod EndCases
 pub mod EndLemmas
 pub mod ExactLemmas
@@ -16,7 +18,6 @@ pub mod LeaveLemmas
 pub mod LineLemmas
 pub mod OpenLemmas
 pub mod OtherLines
-pub mod OwnLemmas
 pub mod PacketLemmas
 pub mod PartLemmas
 pub mod PerformLemmas
@@ -31,6 +32,7 @@ pub mod RunFileLemmas
 pub mod RunFiles
 pub mod RunLemmas
 pub mod SayingLemmas
+pub mod ShortLemmas
 pub mod SpentLemmas
 pub mod SplitLemmas
 pub mod StartLemmas
@@ -44,4 +46,5 @@ pub mod SteadyLemmas
 pub mod StepLemmas
 pub mod TreeLemmas
 pub mod UnsaidLemmas
+pub mod UnusedLemmas
 pub mod UsageLemmas

@@ -17,7 +17,7 @@ use Rattle.cacao_cli.proofs.ExactLemmas.{failed-status, if-told, performs-comes,
 use Rattle.cacao_cli.proofs.JudgedLemmas.{refused-accepted}
 use Rattle.cacao_cli.proofs.LineLemmas.{IsCutOff, tells-status}
 use Rattle.cacao_cli.proofs.ReadLemmas.{Fails}
-use Rattle.cacao_cli.proofs.ReturnCases.{closed, cut, fault-returns, faulty, none-accepted, refused-so, returns-there}
+use Rattle.cacao_cli.proofs.ReturnCases.{alike-behind, closed, cut, fault-returns, faulty, none-accepted, refused-so, returns-there}
 use Rattle.cacao_cli.proofs.StartLemmas.{tells-line}
 use Rattle.cacao_cli.proofs.StatusRuns.{RunCase, long-texts, missing-texts, no-texts, run_case, run_long, run_many, run_missing, run_starts, run_treeless, same-texts}
 
@@ -31,24 +31,17 @@ module _ (start : Start) (old mid new : SiteView) (sound : IsSound mid) (behind 
       go (inl is) = subst (λ (s : SiteView). IsTrue s.disk.told) is told
       go (inr says) = subst (λ (b : Bool). IsTrue b) says.disk.goes_on.told told
 
-  same-bytes : (file : ℕ) → new.disk.reads file ≡ mid.disk.reads file
-  same-bytes file = go behind
-    where
-      go : SaysAtMostALine mid new → new.disk.reads file ≡ mid.disk.reads file
-      go (inl is) = ap (λ (s : SiteView). s.disk.reads file) is
-      go (inr says) = (says.disk.stays file).reads
-
   started : (last : End) (answer : ℕ) → Performs (starts start) old mid last → answer ≡ status_of last → ReturnsSo start old new answer
   started last answer (inl h) is = fault-returns start old new answer (inr (inl (is ∙ ap status_of h.ends)))
   started last answer (inr (inl h)) is = none-accepted start old new answer 1 refl (is ∙ ap status_of h.ends)
       (λ given a. refused-accepted start ((h.answers, h.are), inl (h.broken, h.breaks)) ((h.answers, h.are), (given, a)))
   started last answer (inr (inr (inl h))) is = none-accepted start old new answer 1 refl (is ∙ ap status_of h.ends)
       (λ given a. refused-accepted start ((h.answers, h.are), inr (h.rule, h.breaks)) ((h.answers, h.are), (given, a)))
-  started last answer (inr (inr (inr (inl h)))) is = returns-there start old mid new answer same-bytes (go h.holds.held)
+  started last answer (inr (inr (inr (inl h)))) is = returns-there start old mid new answer (alike-behind mid new behind) (go h.holds.held)
     where
       go : ClosesSo h.given start.run start.most h.answers old mid last ⊎ RefusesSo h.given start.run start.most h.answers old mid last → ReturnsSo start old mid answer
-      go (inl c) = closed start old mid sound told-mid h.given h.accepted h.answers c.close answer (is ∙ ap status_of c.ends) c.closed
-      go (inr r) = refused-so start old mid sound told-mid h.given h.accepted h.answers r.error answer (is ∙ ap status_of r.ends) r.why
+      go (inl c) = closed start old mid sound told-mid h.given h.accepted h.answers h.are c.close answer (is ∙ ap status_of c.ends) c.closed
+      go (inr r) = refused-so start old mid sound told-mid h.given h.accepted h.answers h.are r.error answer (is ∙ ap status_of r.ends) r.why
   started last answer (inr (inr (inr (inr h)))) is = fault-returns start old new answer (inr (inr (inr (inr (inl (is ∙ ap status_of h.ends))))))
 
 module _ (wanted : RunRequest) (files : Files) (old mid new : SiteView) (last : End) (answer : ℕ) (sound : IsSound mid) (told : IsTrue new.disk.told) (tells : Tells last mid new answer) where

@@ -1,5 +1,5 @@
 -- What the engine's file holds where a session ended.
-use Rattle.std.proofs.Common.{◌≡◌, ◌≢◌, ◌⊎◌, inl, inr, ◌∙◌, refl, sym, ap, ap₂, subst, arith, ℕ, suc, ◌+◌, ◌-◌, ◌≤◌, Bool, false, List, [], ◌∷◌, ◌++◌, length, length-append, Option, Some, None}
+use Rattle.std.proofs.Common.{◌≡◌, ◌≢◌, ◌⊎◌, inl, inr, ◌∙◌, refl, sym, ap, ap₂, subst, arith, ℕ, zero, suc, ◌+◌, ◌-◌, ◌<◌, ◌≤◌, Bool, false, List, [], ◌∷◌, ◌++◌, length, length-append, Option, Some, None}
 use Rattle.std.specs.Prelude.{Any, IsTrue, slice_get}
 use Rattle.cacao_site.specs.DiskCalls.{EachBeat, GoesOn, IsDurable, IsLeft}
 use Rattle.cacao_site.specs.Sound.{IsSound}
@@ -24,27 +24,35 @@ use Rattle.engine_history.specs.Laws.{HoldsRun}
 use Rattle.engine_history.specs.Openings.{BeginsWith, RefusesAsEntries}
 use Rattle.operator_answers.specs.declared.answers.OperatorAnswer.{OperatorAnswer}
 use Rattle.engine_history.specs.declared.error.EngineError.TheVariants as refusal
-use Rattle.flow_laws.specs.Images.{IsRecords}
-use Rattle.flow_laws.proofs.OneList.{records_of_layout, same_records}
+use Rattle.flow_engine.specs.EngineView.{EngineView}
+use Rattle.flow_laws.specs.Images.{IsActs, IsAgent, IsRecords}
+use Rattle.flow_laws.proofs.OneList.{acts_of_layout, records_of_layout, same_acts, same_records}
+use Rattle.slpf_actuator.specs.ActLists.{IsHistory}
 use Rattle.slpf_actuator.specs.ActuatorView.{ActuatorView, HoldsActs}
+use Rattle.slpf_actuator.specs.Damage.{IsDamaged}
 use Rattle.slpf_actuator.specs.declared.error.ActError.{ActError}
 use Rattle.slpf_actuator.specs.declared.error.ActError.TheVariants as act_error
 use Rattle.flow_steps.specs.Causes.{IsFirstWithRun, Shows}
 use Rattle.flow_steps.specs.Sides.{IsFilter, IsWhole}
-use Rattle.flow_steps.specs.Steps.{IsActCause}
+use Rattle.flow_steps.specs.Steps.{HasRun, IsActCause}
 use Rattle.flow_steps.specs.Unbroken.{AreFiltersSure, EndedByFilter, IsJournalSure}
 use Rattle.flow_steps.specs.Unsure.{UnsureByStep}
-use Rattle.flow_steps.specs.Worlds.{Cause, Phase, World, disk_failed, not_said, past, refused, run_used, wants_memory}
+use Rattle.flow_steps.specs.Worlds.{Cause, Phase, World, disk_failed, holds, not_said, past, refused, run_used, wants_memory}
 use Rattle.flow_world.specs.Closes.{IsClose, IsRefusal, refusal_of}
 use Rattle.flow_world.specs.Sessions.{Went}
 use Rattle.flow_world.specs.declared.close.Close.{Close}
+use Rattle.flow_world.specs.declared.close.Close.TheVariants as close
 use Rattle.flow_world.specs.declared.error.WorldError.{WorldError}
 use Rattle.flow_world.specs.declared.error.WorldError.TheVariants as error
 use Rattle.flow_world.proofs.CloseLemmas.{closes_are_no_refusals}
+use Rattle.session_laws.specs.Ends.{TurnAt}
 use Rattle.session_laws.specs.Returned.{ReadsAsRun}
 use Rattle.session_laws.proofs.Carried.{steps_keep_disk_on}
+use Rattle.session_laws.proofs.Shown.{steps_in_turn}
+use Rattle.session_laws.proofs.WholeActs.{acts_undamaged}
 use Rattle.cacao_cli.specs.Returning.{BeginsAnother, GainsRecords}
 use Rattle.cacao_cli.proofs.SpentLemmas.{CouldMore, past-could}
+use Rattle.cacao_cli.proofs.UnusedLemmas.{IsEarly, steps-not-used}
 
 -- ---- the first record of a file
 
@@ -172,12 +180,12 @@ module _ (given : Given) (run most : ℕ) (answers : List OperatorAnswer) (old m
   told-old = subst (λ (b : Bool). IsTrue b) went.files.journal.opens.only.each.goes_on.told told-middle
 
   -- an image of the start with the records that the journal had
-  record HadRecords : Type 0 where
-    image : List ℕ
-    left : IsLeft old.disk 0 old.disk.beat image
-    had : IsRecords image went.start.engine.history.records
+  pub record HadRecords : Type 0 where
+    pub image : List ℕ
+    pub left : IsLeft old.disk 0 old.disk.beat image
+    pub had : IsRecords image went.start.engine.history.records
 
-  had-records : HadRecords
+  pub had-records : HadRecords
   had-records =
       let middle = went.files.middle in
       let each = went.files.journal.opens.only.each in
@@ -191,22 +199,28 @@ module _ (given : Given) (run most : ℕ) (answers : List OperatorAnswer) (old m
         had = records_of_layout found.0 went.start.engine.history.records whole.engine.history.ranges (whole.engine.ready whole.whole told-middle found.0 at_middle).0;
       }
 
-  grown : IsJournalSure went.to → IsRecords (mid.disk.reads 0) (went.start.engine.history.records ++ went.sums.adds.added)
+  pub grown : IsJournalSure went.to → IsRecords (mid.disk.reads 0) (went.start.engine.history.records ++ went.sums.adds.added)
   grown sure = subst (IsRecords (mid.disk.reads 0)) went.sums.adds.is (sure-records sure)
 
-  -- none more may be appended: as many were
+  -- so many were appended
+  abbrev pub gains-added : IsJournalSure went.to → GainsRecords (length went.sums.adds.added) old mid
+  gains-added sure = record {
+    image = had-records.image;
+    left = had-records.left;
+    before = went.start.engine.history.records;
+    had = had-records.had;
+    added = went.sums.adds.added;
+    has = grown sure;
+    as_many = refl;
+  }
+
+  -- none more may be appended: as many were as may be
   pub gains : IsJournalSure went.to → went.to.notes.left ≡ 0 → GainsRecords most old mid
-  gains sure none =
-      let budget : length went.sums.adds.added + went.to.notes.left ≡ most = went.sums.budget in
-      record {
-        image = had-records.image;
-        left = had-records.left;
-        before = went.start.engine.history.records;
-        had = had-records.had;
-        added = went.sums.adds.added;
-        has = grown sure;
-        as_many = omega (arith, budget, none);
-      }
+  gains sure none = let budget = went.sums.budget in subst (λ (n : ℕ). GainsRecords n old mid) (omega (arith, budget, none)) (gains-added sure)
+
+  -- one more may be: fewer were
+  pub fewer-added : 1 ≤ went.to.notes.left → length went.sums.adds.added < most
+  fewer-added some = let budget = went.sums.budget in omega (arith, budget, some)
 
   -- and as many were appended only where none more may be
   pub spent : IsJournalSure went.to → IsDurable 0 old.disk → GainsRecords most old mid → went.to.notes.left ≡ 0
@@ -239,18 +253,18 @@ module _ (given : Given) (run most : ℕ) (answers : List OperatorAnswer) (old m
           let budget : length added + went.to.notes.left ≡ most = went.sums.budget in
           omega (arith, long, budget, none_left, some, length-append records added)
 
-  pub past-more : (what : LimitKind) → (is : IsRefusal (error.Limit what) went.to) → CouldMore went.start went.to
-  past-more what is = past-could went.start went.to what is.lacks went.begins.phase went.steps (is.phase ∙ ap (λ (c : Cause). refused c is.lacks) (cause-past is.cause is.is))
+  cause-past : (what : LimitKind) (cause : Cause) → error.Limit what ≡ refusal_of cause → cause ≡ past what
+  cause-past what disk_failed e = absurd (cc)
+  cause-past what not_said e = absurd (cc)
+  cause-past what (run_used agent) e = absurd (cc)
+  cause-past what (past other) e = ap past (same e)
     where
-      cause-past : (cause : Cause) → error.Limit what ≡ refusal_of cause → cause ≡ past what
-      cause-past disk_failed e = absurd (cc)
-      cause-past not_said e = absurd (cc)
-      cause-past (run_used agent) e = absurd (cc)
-      cause-past (past other) e = ap past (same e)
-        where
-          same : error.Limit what ≡ error.Limit other → other ≡ what
-          same e = cc
-      cause-past wants_memory e = absurd (cc)
+      same : error.Limit what ≡ error.Limit other → other ≡ what
+      same e = cc
+  cause-past what wants_memory e = absurd (cc)
+
+  pub past-more : (what : LimitKind) → (is : IsRefusal (error.Limit what) went.to) → CouldMore went.start went.to
+  past-more what is = past-could went.start went.to what is.lacks went.begins.phase went.steps (is.phase ∙ ap (λ (c : Cause). refused c is.lacks) (cause-past what is.cause is.is))
 
   -- the journal is empty
   pub empty-same : went.to.engine.history.records ≡ [] → CouldMore went.start went.to
@@ -285,31 +299,133 @@ module _ (given : Given) (run most : ℕ) (answers : List OperatorAnswer) (old m
   pub first-used : (agent : ℕ) → IsRefusal (error.RunUsed agent) went.to → IsFirstWithRun went.to agent
   first-used agent is = subst (λ (p : Phase). Shows p went.start went.to) (used-phase agent is) went.cause.shows
 
-  used-sure : (agent : ℕ) → IsRefusal (error.RunUsed agent) went.to → AreFiltersSure went.to
-  used-sure agent is = go went.sums.unbroken.filters
+  -- ---- the filters' files
+
+  refused-so : (h : EndedByFilter went.start went.to) → IsRefusal (refusal_of h.cause) went.to
+  refused-so h = record { cause = h.cause; lacks = false; phase = h.fails.phase; is = refl }
+
+  -- they are sure where the session closed
+  pub closes-filters : (how : Close) → IsClose how went.to → AreFiltersSure went.to
+  closes-filters how closes = go went.sums.unbroken.filters
+    where
+      go : AreFiltersSure went.to ⊎ EndedByFilter went.start went.to → AreFiltersSure went.to
+      go (inl sure) = sure
+      go (inr h) = absurd (closes_are_no_refusals went.to how (refusal_of h.cause) closes (refused-so h))
+
+  -- and where it found the number used
+  used-filters : (agent : ℕ) → IsRefusal (error.RunUsed agent) went.to → AreFiltersSure went.to
+  used-filters agent is = go went.sums.unbroken.filters
     where
       go : AreFiltersSure went.to ⊎ EndedByFilter went.start went.to → AreFiltersSure went.to
       go (inl sure) = sure
       go (inr h) = absurd (no-act-cause h.error h.v h.parcel h.old went.to h.cause agent h.fails.why
           (same-cause h.cause (run_used agent) false is.lacks (sym h.fails.phase ∙ used-phase agent is)))
 
+  -- the filter of an agent, and what its file holds
+  pub record HoldsFilter (agent : ℕ) : Type 0 where
+    pub v : ActuatorView
+    pub there : slice_get went.to.filters (agent - 1) ≡ Some v
+    pub history : IsHistory v.acts
+    pub holds : HoldsActs v.acts (mid.disk.reads agent)
+
+  there-at : {T : Type 0} (xs : List T) (k : ℕ) → k < length xs → (x : T) × (slice_get xs k ≡ Some x)
+  there-at [] k lt = absurd (omega (arith, lt))
+  there-at (x ∷ xs) zero lt = (x, refl)
+  there-at (x ∷ xs) (suc k) lt = there-at xs k (omega (arith, lt))
+
+  abbrev pub holds-there : AreFiltersSure went.to → (agent : ℕ) → 1 ≤ agent → (v : ActuatorView) → slice_get went.to.filters (agent - 1) ≡ Some v → HoldsFilter agent
+  holds-there sure agent low v there =
+      let w = went.to in
+      let filter : IsFilter v (suc (agent - 1)) w.site = sure.filters.each (agent - 1) v there in
+      let same : v.agent ≡ agent = filter.of_agent ∙ omega (arith, low) in
+      let stands : HoldsActs v.acts (w.site.disk.reads v.agent) = (filter.ready.images filter.whole told-there (w.site.disk.reads v.agent) (sound-there.reads v.agent told-there)).0 in
+      record {
+        v = v;
+        there = there;
+        history = filter.ready.history;
+        holds = subst (λ (s : SiteView). HoldsActs v.acts (s.disk.reads agent)) went.to_is (subst (λ (n : ℕ). HoldsActs v.acts (w.site.disk.reads n)) same stands);
+      }
+
+  holds-filter : AreFiltersSure went.to → (agent : ℕ) → IsAgent agent → HoldsFilter agent
+  holds-filter sure agent is_agent =
+      let all = sure.filters.all in
+      let found = there-at went.to.filters (agent - 1) (omega (arith, is_agent.0, is_agent.1, all)) in
+      holds-there sure agent is_agent.0 found.0 found.1
+
+  -- none is damaged
+  pub filter-whole : AreFiltersSure went.to → (agent place : ℕ) → IsAgent agent → IsDamaged (mid.disk.reads agent) place → ⊥
+  filter-whole sure agent place is_agent damaged =
+      let h = holds-filter sure agent is_agent in
+      acts_undamaged (mid.disk.reads agent) h.v.acts place (acts_of_layout (mid.disk.reads agent) h.v.acts h.history.ranges h.holds) h.history.are damaged
+
+  -- ---- a number that was used
+
   -- the file of its filter has an act of the run
   pub record HasUsed (agent : ℕ) : Type 0 where
     pub acts : List Act
     pub holds : HoldsActs acts (mid.disk.reads agent)
+    pub are : IsActs (mid.disk.reads agent) acts
     pub has : Any (λ (act : Act). act.run ≡ run) acts
 
   pub used : (agent : ℕ) → IsRefusal (error.RunUsed agent) went.to → HasUsed agent
   used agent is =
-      let w = went.to in
-      let first : IsFirstWithRun w agent = first-used agent is in
-      let v = first.has.v in
-      let filter : IsFilter v (suc (agent - 1)) w.site = (used-sure agent is).filters.each (agent - 1) v first.has.there in
-      let low : 1 ≤ agent = first.low in
-      let same : v.agent ≡ agent = filter.of_agent ∙ omega (arith, low) in
-      let stands : HoldsActs v.acts (w.site.disk.reads v.agent) = (filter.ready.images filter.whole told-there (w.site.disk.reads v.agent) (sound-there.reads v.agent told-there)).0 in
+      let first : IsFirstWithRun went.to agent = first-used agent is in
+      let h = holds-there (used-filters agent is) agent first.low first.has.v first.has.there in
       record {
-        acts = v.acts;
-        holds = subst (λ (s : SiteView). HoldsActs v.acts (s.disk.reads agent)) went.to_is (subst (λ (n : ℕ). HoldsActs v.acts (w.site.disk.reads n)) same stands);
-        has = subst (λ (n : ℕ). Any (λ (act : Act). act.run ≡ n) v.acts) (went.sums.given.run ∙ went.begins.of_run) first.has.has;
+        acts = h.v.acts;
+        holds = h.holds;
+        are = acts_of_layout (mid.disk.reads agent) h.v.acts h.history.ranges h.holds;
+        has = subst (λ (n : ℕ). Any (λ (act : Act). act.run ≡ n) h.v.acts) (went.sums.given.run ∙ went.begins.of_run) first.has.has;
       }
+
+  -- a file without records, and one with an act of the run
+  pub record IsUsedRun : Type 0 where
+    pub blank : IsRecords (mid.disk.reads 0) []
+    pub agent : ℕ
+    pub of_agent : IsAgent agent
+    pub acts : List Act
+    pub are : IsActs (mid.disk.reads agent) acts
+    pub has : Any (λ (act : Act). act.run ≡ run) acts
+
+  pub no-records : IsJournalSure went.to → IsRecords (mid.disk.reads 0) [] → went.to.engine.history.records ≡ []
+  no-records sure blank = same_records (mid.disk.reads 0) went.to.engine.history.records [] (sure-records sure) blank
+
+  has-run : AreFiltersSure went.to → (u : IsUsedRun) → HasRun went.to u.agent
+  has-run sure u =
+      let h = holds-filter sure u.agent u.of_agent in
+      let acts : u.acts ≡ h.v.acts = same_acts (mid.disk.reads u.agent) u.acts h.v.acts u.are (acts_of_layout (mid.disk.reads u.agent) h.v.acts h.history.ranges h.holds) in
+      record {
+        v = h.v;
+        there = h.there;
+        has = subst (λ (n : ℕ). Any (λ (act : Act). act.run ≡ n) h.v.acts) (sym (went.sums.given.run ∙ went.begins.of_run)) (subst (λ (l : List Act). Any (λ (act : Act). act.run ≡ run) l) acts u.has);
+      }
+
+  not-used : IsJournalSure went.to → AreFiltersSure went.to → (IsEarly went.to.phase → ⊥) → IsUsedRun → ⊥
+  not-used journal filters late u = elim (steps-not-used went.start went.to went.begins.phase went.steps) [
+    | inl none ↦ none (no-records journal u.blank) u.agent u.of_agent.0 u.of_agent.1 (has-run filters u)
+    | inr is ↦ late is
+  ]
+
+  close-late : (how : Close) → IsClose how went.to → IsEarly went.to.phase → ⊥
+  close-late (close.Ended well) c is = subst IsEarly c.turn.phase is
+  close-late close.Paused c is = subst IsEarly c.turn.phase is
+  close-late (close.Waiting moment) c is = subst IsEarly c is
+  close-late close.Flooded c is = subst IsEarly c.phase is
+  close-late (close.Asked issue) c is = subst IsEarly c.untold.idle.has_looked.phase is
+
+  -- no session closes so
+  pub closes-unused : (how : Close) → IsClose how went.to → IsUsedRun → ⊥
+  closes-unused how c u = not-used (closes-sure how c) (closes-filters how c) (close-late how c) u
+
+  -- and none refuses past a limit: an act that would pass it comes of a run that has begun
+  pub past-unused : (what : LimitKind) → IsRefusal (error.Limit what) went.to → IsJournalSure went.to → IsUsedRun → ⊥
+  past-unused what is journal u = go went.sums.unbroken.filters
+    where
+      phase-is : went.to.phase ≡ refused (past what) is.lacks
+      phase-is = is.phase ∙ ap (λ (c : Cause). refused c is.lacks) (cause-past what is.cause is.is)
+
+      go : AreFiltersSure went.to ⊎ EndedByFilter went.start went.to → ⊥
+      go (inl filters) = not-used journal filters (λ early. subst IsEarly phase-is early) u
+      go (inr h) =
+          let turn : TurnAt (holds h.beat h.parcel) h.old = subst (λ (p : Phase). TurnAt p h.old) h.fails.holds_command.phase (steps_in_turn went.start h.old went.begins.phase h.before) in
+          turn.0.may.begun (sym (ap (λ (v : EngineView). v.history.records) h.fails.engine) ∙ no-records journal u.blank)

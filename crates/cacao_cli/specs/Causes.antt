@@ -1,5 +1,6 @@
 -- The causes of the statuses, in words of their own. The files are those of the words, in the order in which they are read.
-use Rattle.std.specs.Prelude.{◌≡◌, ◌⊎◌, ℕ, ◌<◌, ◌≤◌, length, List, [], ◌∷◌, Option, Some, None, IsSomeAnd, IsOkAnd, true, false, Ok, Err, map}
+use Rattle.std.specs.Prelude.{◌≡◌, ◌⊎◌, ℕ, ◌<◌, ◌≤◌, length, List, [], ◌∷◌, map, true, false}
+use Rattle.std.specs.Prelude.{Option, Some, None, IsSomeAnd, IsOkAnd, Ok, Err}
 use Rattle.serde_json.specs.Data.{Data}
 use Rattle.cacao_json.specs.Reading.{tree}
 use Rattle.cacao_check.specs.FirstBreak.{IsAccepted}
@@ -10,7 +11,8 @@ use Rattle.filter_reports.specs.PacketFiles.{packets_of}
 use Rattle.cacao_site.specs.View.{SiteView}
 use Rattle.cacao_cli.specs.Asked.{Asked, canonises, checks, shows, lists_rules, decides, shadows, rehearses, audits, runs}
 use Rattle.cacao_cli.specs.Audited.{Agree, Disagree, PassTasks}
-use Rattle.cacao_cli.specs.Ends.{most, End, asked_for, damaged, ended_ok, other_book, other_run, past, rehearsed, run_used, waiting}
+use Rattle.cacao_cli.specs.Ends.{most, End, asked_for, damaged, ended_ok, other_book, other_run, past, rehearsed, run_used}
+use Rattle.cacao_cli.specs.Ends.{waiting}
 use Rattle.cacao_words.specs.Requests.{RunRequest}
 use Rattle.cacao_cli.specs.Exact.{IsBroken}
 use Rattle.cacao_cli.specs.Holding.{CameTo, HasBadAnswer, IsRefusedStart}
@@ -107,7 +109,7 @@ EndsAs (Some (shadows agent)) files last old new = ⊥
 EndsAs (Some (rehearses positions)) files last old new = RehearsalTo positions last
 EndsAs (Some (audits engine filters)) files last old new = ⊥
 
--- it found the engine's file taken by another run, or by one of other texts, or the number used
+-- it found the engine's file taken by another run, or by one of other texts, or the number used (no rehearsal does: `ComesOfBlank`)
 abbrev pub EndsAsAnother : Option Asked → Files → SiteView → SiteView → Type 0
 EndsAsAnother asked files old new =
     ((held : ℕ) × (number : ℕ) × EndsAs asked files (other_run held number) old new)
@@ -203,7 +205,8 @@ CanBeDone (Some (rehearses positions)) files old new =
     (records : ℕ) × (acts : ℕ) × (rules : ℕ) × RehearsalTo positions (rehearsed positions records acts rules)
 CanBeDone (Some (audits engine filters)) files old new = IsAuditOf files engine filters Agree
 
--- the file of the disk that the command opens holds nothing that the program wrote, and nothing else stops the command before
+-- The file of the disk that the command opens holds nothing that the program wrote, and nothing else stops the command before. (The
+-- files of the site of a rehearsal are blank.)
 abbrev pub FindsItDamaged : Option Asked → Files → SiteView → SiteView → Type 0
 FindsItDamaged None files old new = ⊥
 FindsItDamaged (Some (canonises book)) files old new = ⊥
@@ -213,7 +216,7 @@ FindsItDamaged (Some shows) files old new = IsDamagedRun new
 FindsItDamaged (Some (lists_rules agent)) files old new = IsDamagedFilter agent new
 FindsItDamaged (Some (decides agent packets)) files old new = IsPacketFile files (packet_file packets) × IsDamagedFilter agent new
 FindsItDamaged (Some (shadows agent)) files old new = IsDamagedFilter agent new
-FindsItDamaged (Some (rehearses positions)) files old new = (file : ℕ) × (place : ℕ) × RehearsalTo positions (damaged file place)
+FindsItDamaged (Some (rehearses positions)) files old new = ⊥
 FindsItDamaged (Some (audits engine filters)) files old new = ⊥
 
 -- the files of a run do not agree

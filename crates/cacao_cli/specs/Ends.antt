@@ -3,7 +3,8 @@ use Rattle.std.specs.Prelude.{ℕ, Bool, true, false, ◌++◌, codes, decimal, 
 use Rattle.cacao_check.specs.declared.breaks.Break.{Break}
 use Rattle.cacao_words.specs.Words.{Text}
 use Rattle.cacao_cli.specs.declared.limit.Limit.{Limit}
-use Rattle.cacao_cli.specs.declared.limit.Limit.TheVariants.{FileBytes, BookCount, TaskCount, JournalBytes, LastMoment, CommandBytes}
+use Rattle.cacao_cli.specs.declared.limit.Limit.TheVariants.{FileBytes, BookCount, TaskCount}
+use Rattle.cacao_cli.specs.declared.limit.Limit.TheVariants.{JournalBytes, LastMoment, CommandBytes}
 use Rattle.cacao_cli.specs.declared.reason.Reason.{Reason}
 use Rattle.cacao_cli.specs.declared.reason.Reason.TheVariants.{NotJson, RepeatedName, NotWhole, Line}
 

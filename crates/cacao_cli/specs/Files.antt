@@ -1,6 +1,7 @@
 -- The named files that a command reads, in order, and what reading them comes to.
 use Rattle.std.proofs.Common.{zero, suc}
-use Rattle.std.specs.Prelude.{◌≡◌, ℕ, ◌<◌, ◌≤◌, ◌==◌, nat_lt, nat_le, length, map, Bool, List, [], ◌∷◌, ◌++◌, Option, Some, None, Result, Ok, Err}
+use Rattle.std.specs.Prelude.{◌≡◌, ℕ, ◌<◌, ◌≤◌, ◌==◌, nat_lt, nat_le, length, map, Bool, List, [], ◌∷◌, ◌++◌}
+use Rattle.std.specs.Prelude.{Option, Some, None, Result, Ok, Err}
 use Rattle.std.specs.Prelude.{IfSome, IsSomeAnd, ⊤, if◌then◌else◌}
 use Rattle.cacao_site.specs.Counts.{next_count}
 use Rattle.cacao_words.specs.Requests.{RunRequest}

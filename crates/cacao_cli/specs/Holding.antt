@@ -17,7 +17,8 @@ use Rattle.flow_world.specs.declared.close.Close.{Close}
 use Rattle.flow_world.specs.declared.close.Close.TheVariants as close
 use Rattle.flow_world.specs.declared.error.WorldError.{WorldError}
 use Rattle.flow_world.specs.declared.error.WorldError.TheVariants as error
-use Rattle.cacao_cli.specs.Ends.{End, refused, bind_refused, ended_ok, ended_failed, paused, waiting, flooded, asked_for, other_run, other_book, run_used, past, not_readable, damaged, disk_failed, unsaid, no_memory}
+use Rattle.cacao_cli.specs.Ends.{End, refused, bind_refused, ended_ok, ended_failed, paused, waiting, flooded, asked_for}
+use Rattle.cacao_cli.specs.Ends.{other_run, other_book, run_used, past, not_readable, damaged, disk_failed, unsaid, no_memory}
 use Rattle.cacao_cli.specs.Files.{NamedText}
 use Rattle.cacao_cli.specs.Lines.{SaysAtMostALine}
 use Rattle.cacao_cli.specs.Work.{Start, bytes_of}

@@ -76,18 +76,18 @@ pub record NoFault (faults_before faults_after : ℕ) (old new : SiteView) : Typ
   pub disk : new.disk.faults ≡ old.disk.faults
   pub say : new.clock.unsaid ≡ old.clock.unsaid
 
--- A fault of the disk was counted; for `rehearse` it is one of the site of its own.
+-- A fault of the disk was counted, of a command that opens a file of it; for `rehearse` it is one of the site of its own.
 abbrev pub CountsDisk : Option Asked → SiteView → SiteView → Type 0
-CountsDisk None old new = Rose old.disk.faults new.disk.faults
-CountsDisk (Some (canonises book)) old new = Rose old.disk.faults new.disk.faults
-CountsDisk (Some (checks books)) old new = Rose old.disk.faults new.disk.faults
+CountsDisk None old new = ⊥
+CountsDisk (Some (canonises book)) old new = ⊥
+CountsDisk (Some (checks books)) old new = ⊥
 CountsDisk (Some (runs wanted)) old new = Rose old.disk.faults new.disk.faults
 CountsDisk (Some shows) old new = Rose old.disk.faults new.disk.faults
 CountsDisk (Some (lists_rules agent)) old new = Rose old.disk.faults new.disk.faults
 CountsDisk (Some (decides agent packets)) old new = Rose old.disk.faults new.disk.faults
 CountsDisk (Some (shadows agent)) old new = Rose old.disk.faults new.disk.faults
 CountsDisk (Some (rehearses positions)) old new = CountsOwn positions disk_failed (λ site. site.disk.faults)
-CountsDisk (Some (audits engine filters)) old new = Rose old.disk.faults new.disk.faults
+CountsDisk (Some (audits engine filters)) old new = ⊥
 
 -- a line was counted that could not be said; or `rehearse` could not say one on the site of its own
 abbrev pub CountsUnsaid : Option Asked → SiteView → SiteView → Type 0

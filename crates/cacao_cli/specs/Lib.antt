@@ -16,5 +16,6 @@ pub mod OwnSites
 pub mod Rehearsing
 pub mod Returning
 pub mod Starting
+pub mod Statuses
 pub mod Usage
 pub mod Work

@@ -57,7 +57,8 @@ pub record EndsUncounted (given : Given) (old new : SiteView) (last : End) : Typ
 
 abbrev pub EndsRun : ℕ → Given → SiteView → SiteView → End → Type 0
 EndsRun positions given old new last =
-    EndsWell positions given old new last ⊎ (EndsOtherwise given old new last ⊎ (EndsRefused given old new last ⊎ EndsUncounted given old new last))
+    EndsWell positions given old new last
+    ⊎ (EndsOtherwise given old new last ⊎ (EndsRefused given old new last ⊎ EndsUncounted given old new last))
 
 -- an end that comes of blank files: none is of another run, no filter acted for this one, and none is damaged
 abbrev pub ComesOfBlank : End → Type 0
@@ -92,7 +93,8 @@ failed_end rehearsal_error.Memory = no_memory
 abbrev pub TellsRehearsal : ℕ → End → Type 0
 TellsRehearsal positions last =
     (IsLongRehearsal positions × (last ≡ past FileBytes))
-    ⊎ (((broken : Break) × HasBreak positions broken × (last ≡ refused broken)) ⊎ (RehearsalTo positions last ⊎ (last ≡ no_memory)))
+    ⊎ (((broken : Break) × HasBreak positions broken × (last ≡ refused broken))
+    ⊎ (RehearsalTo positions last ⊎ (last ≡ no_memory)))
 
 -- the end tells of a rehearsal, and the site that was handed in is as it was
 pub record Rehearses (positions : ℕ) (old new : SiteView) (last : End) : Type 0 where

@@ -69,8 +69,8 @@ went_usage went = record {
       ++ option_to_list (option_map (λ (e : ℕ × Act). act_layout e.1) went.to.notes.unsure_act);
 }
 
-abbrev pub refused_usage : {error : WorldError} {given : Given} {run most : ℕ} {answers : List OperatorAnswer} {old new : SiteView}
-    → HasRefused error given run most answers old new → Usage
+abbrev pub refused_usage : {error : WorldError} {given : Given} {run most : ℕ} {answers : List OperatorAnswer}
+    {old new : SiteView} → HasRefused error given run most answers old new → Usage
 refused_usage (inl opening) = opening_usage opening
 refused_usage (inr later) = went_usage later.went
 

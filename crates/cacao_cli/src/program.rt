@@ -1,19 +1,22 @@
 // The program as one call.
-ghost use Rattle.std.specs.Prelude.{◌≡◌, ◌≢◌, ◌≤◌, ◌∷◌, [], length, map, string_bytes, Some, None};
+ghost use Rattle.std.specs.Prelude.{◌≡◌, ◌≢◌, ◌≤◌, ◌∷◌, [], IsTrue, length, map, string_bytes, Some, None};
 ghost use Rattle.cacao_site.specs.Counts.{next_count};
+ghost use Rattle.flow_laws.specs.Good.{IsGood};
 ghost use Rattle.flow_world.specs.Sessions.{KeepsAgreement};
 ghost use Rattle.cacao_cli.specs.Agreement.{MayBegin};
 ghost use Rattle.cacao_cli.specs.Asked.{asked};
-ghost use Rattle.cacao_cli.specs.Causes.{CanBeDone, FindsDisagreement, FindsItDamaged, IsMissing, IsPastLimit, IsRefused, IsUnreadable, NamesTooMuch, EndsAs, EndsAsAnother, EndsAsAsked, EndsAsWaiting};
+ghost use Rattle.cacao_cli.specs.Causes.{CanBeDone, FindsDisagreement, FindsItDamaged, IsMissing, IsPastLimit, IsRefused};
+ghost use Rattle.cacao_cli.specs.Causes.{IsUnreadable, NamesTooMuch, EndsAs, EndsAsAnother, EndsAsAsked, EndsAsWaiting};
 ghost use Rattle.cacao_cli.specs.Command.{asked_by, end_of};
-ghost use Rattle.cacao_cli.specs.Completing.{Completes, TellsNoDamage};
+ghost use Rattle.cacao_cli.specs.Completing.{Completes};
 ghost use Rattle.cacao_cli.specs.Ended.{Ended, Performed};
 ghost use Rattle.cacao_cli.specs.Ends.{ended_failed, flooded, paused};
 ghost use Rattle.cacao_cli.specs.Exact.{IsOneOf, Answers, ComesExactly, IfFilesTold, IfTold, stands_for};
 ghost use Rattle.cacao_cli.specs.Files.{files_of, shelf_call};
 ghost use Rattle.cacao_cli.specs.Leaves.{Leaves, LeavesAll, NoFault, ReadsAtMost, CountsDisk, CountsUnsaid};
-ghost use Rattle.cacao_cli.specs.OwnSites.{MayRehearse};
+ghost use Rattle.cacao_cli.specs.OwnSites.{StandsShort};
 ghost use Rattle.cacao_cli.specs.Returning.{TellsOnReturn};
+ghost use Rattle.cacao_cli.specs.Statuses.{MayAnswer};
 ghost use Rattle.cacao_cli.specs.Usage.{UsesFew};
 
 use crate::audit::audit;
@@ -146,8 +149,11 @@ pub fn top<L: Shelf, S: Site>(alloc: Global, words: &[String], shelf: &mut L, si
         ComesExactly 16 (stands_for (asked (map string_bytes words.now)))
         (EndsAsAsked (asked (map string_bytes words.now)) files (S.view site.old) (S.view site.new)) result) }
 
-    // A rehearsal, on a site of its own, finds no other run, no number that was used, and no damage.
-    ensures rehearses { MayRehearse (asked (map string_bytes words.now)) result }
+    // Where the status says that the run waits, the clock stands before what it was asked for.
+    ensures stands_short { result ≡ 14 → StandsShort (asked (map string_bytes words.now)) (S.view site.new) }
+
+    // Each command answers its own statuses alone, whether the files and the disk are told or not.
+    ensures answers { MayAnswer (asked (map string_bytes words.now)) result }
 
     // What the status of `run` tells of the bytes that the engine's file reads as on return, and what they tell of the status.
     ensures on_return { TellsOnReturn (asked (map string_bytes words.now)) (L.told shelf.old)
@@ -158,9 +164,9 @@ pub fn top<L: Shelf, S: Site>(alloc: Global, words: &[String], shelf: &mut L, si
     ensures agreement { MayBegin (asked (map string_bytes words.now)) (S.view site.old)
         → KeepsAgreement (S.view site.old) (S.view site.new) }
 
-    // From such a start no file is told as damaged, and a run that nothing disturbs comes to its end.
-    ensures undamaged { MayBegin (asked (map string_bytes words.now)) (S.view site.old)
-        → TellsNoDamage (asked (map string_bytes words.now)) result }
+    // Where all agrees when the call begins, no file is told as damaged. A run that begins so and that nothing disturbs comes to its
+    // end, its budget or a question, unless a limit is passed, too many parcels change nothing, or memory is wanted.
+    ensures undamaged { IsTrue (S.view site.old).disk.told → IsGood (S.view site.old) (S.view site.old).disk.beat → result ≢ 13 }
     ensures completes { Completes (asked (map string_bytes words.now)) (L.told shelf.old)
         (S.view site.old) (S.view site.new) result }
 

@@ -38,8 +38,8 @@ TellsOfAnother other = ⊥
 -- No session tells so that began under a fresh number, where file 0 was empty or held this run.
 abbrev pub NoneFindsAnother : Type 0
 NoneFindsAnother =
-    (error : WorldError) (given : Given) (run most : ℕ) (answers : List OperatorAnswer) (old new : SiteView) → TellsOfAnother error
-    → IsTrue old.disk.told → IsFresh old run old.disk.beat → IsForThisRun given run old → IsSound new
+    (error : WorldError) (given : Given) (run most : ℕ) (answers : List OperatorAnswer) (old new : SiteView)
+    → TellsOfAnother error → IsTrue old.disk.told → IsFresh old run old.disk.beat → IsForThisRun given run old → IsSound new
     → HasRefused error given run most answers old new → ⊥
 
 -- ---- to the end

@@ -4,8 +4,9 @@ ghost use Rattle.session_laws.specs.Undamaged.{GoodIsUndamaged, NoneFindsDamage}
 
 use flow_core::accepted_again;
 
-/// Where all agrees no file is damaged; so a session comes to the end of its run, its budget, or a question to an operator, where
-/// nothing disturbs it. The function does nothing of its own; its contract is the law.
+/// Where all agrees no file is damaged; so a session that nothing disturbs comes to the end of its run, its budget, or a question
+/// to an operator, unless a limit is passed, too many parcels change nothing, or memory is wanted. The function does nothing of its
+/// own; its contract is the law.
 pub fn complete_laws()
     ensures undamaged { GoodIsUndamaged }
     ensures no_damage { NoneFindsDamage }

@@ -8,19 +8,20 @@ use Rattle.cacao_cli.specs.Ends.{End}
 use Rattle.cacao_cli.specs.Files.{ShelfCall}
 use Rattle.cacao_cli.specs.Lines.{Tells}
 use Rattle.cacao_cli.proofs.AgreedLemmas.{agrees-ended}
+use Rattle.cacao_cli.proofs.AnswerLemmas.{answers-ended, disk-ended}
 use Rattle.cacao_cli.proofs.CompleteLemmas.{completes-ended, undamaged-ended}
-use Rattle.cacao_cli.proofs.CountLemmas.{disk-ended, failed-ended, steady-ended, unsaid-ended, said-ended, memory-ended}
+use Rattle.cacao_cli.proofs.CountLemmas.{failed-ended, steady-ended, unsaid-ended, said-ended, memory-ended}
 use Rattle.cacao_cli.proofs.ExactLemmas.{exact-ended}
 use Rattle.cacao_cli.proofs.LeaveLemmas.{leaves-ended, few-ended}
-use Rattle.cacao_cli.proofs.OwnLemmas.{own-ended}
 use Rattle.cacao_cli.proofs.ReturnLemmas.{returns-ended}
+use Rattle.cacao_cli.proofs.ShortLemmas.{short-ended}
 use Rattle.cacao_cli.proofs.StatusLemmas.{damaged-ended, disagreement-ended, done-ended, words-ended, missing-ended, unreadable-ended, past-ended, much-ended, refused-ended, another-ended, asked-ended, failed-run-ended, flooded-ended, paused-ended, waiting-ended}
 use Rattle.cacao_cli.proofs.StayLemmas.{stays-ended}
 use Rattle.cacao_cli.proofs.SteadyLemmas.{disk-steady-ended}
 use Rattle.cacao_cli.proofs.UsageLemmas.{uses-ended}
 use Rattle.cacao_cli.proofs.program.top.Goals as goal
 
-came : {asked : Option Asked} {shelf : ShelfCall} {old mid new : SiteView} {last : End} {answer : ℕ} → Performed asked shelf old mid last → Tells last mid new answer → Ended asked shelf old new answer
+abbrev came : {asked : Option Asked} {shelf : ShelfCall} {old mid new : SiteView} {last : End} {answer : ℕ} → Performed asked shelf old mid last → Tells last mid new answer → Ended asked shelf old new answer
 came {mid = mid} {last = last} performed tells = record { last = last; between = mid; performed = performed; tells = tells }
 
 pub returns-clause-exactly : goal.returns-clause-exactly
@@ -112,18 +113,20 @@ returns-clause-on_return g c =
     (g.met.S.Disk.sound c.perform-end.new.site) c.perform-end.ensures.performed c.finish.ensures
 
 pub returns-clause-undamaged : goal.returns-clause-undamaged
-returns-clause-undamaged g c begins =
-    undamaged-ended c.complete_laws.ensures.undamaged c.complete_laws.ensures.no_damage _ (g.S.Disk.view c.args.site.now) (g.S.Disk.view c.perform-end.new.site) (g.S.Disk.view c.finish.new.site)
-    (end_of c.perform-end.result) c.finish.result (g.met.S.Disk.sound c.perform-end.new.site) (g.met.S.Disk.sound c.finish.new.site) (returns-clause-agreement g c begins)
-    c.finish.ensures (asked (map string_bytes c.args.words.now)) c.perform-end.ensures.performed begins
+returns-clause-undamaged g c told good =
+    undamaged-ended c.complete_laws.ensures.undamaged c.complete_laws.ensures.no_damage _ (g.S.Disk.view c.args.site.now) (g.S.Disk.view c.finish.new.site) c.finish.result
+    (g.met.S.Disk.sound c.args.site.now) told good (asked (map string_bytes c.args.words.now)) (came c.perform-end.ensures.performed c.finish.ensures) (g.met.S.Disk.sound c.perform-end.new.site)
 
 pub returns-clause-completes : goal.returns-clause-completes
 returns-clause-completes g c =
     completes-ended c.complete_laws.ensures.no_other_run c.complete_laws.ensures.completes (asked (map string_bytes c.args.words.now)) _ (g.S.Disk.view c.args.site.now)
     (g.S.Disk.view c.perform-end.new.site) (g.S.Disk.view c.finish.new.site) (end_of c.perform-end.result) c.finish.result (g.met.S.Disk.sound c.perform-end.new.site) c.perform-end.ensures.performed c.finish.ensures
 
-pub returns-clause-rehearses : goal.returns-clause-rehearses
-returns-clause-rehearses g c = own-ended _ _ _ _ _ (came c.perform-end.ensures.performed c.finish.ensures)
+pub returns-clause-answers : goal.returns-clause-answers
+returns-clause-answers g c = answers-ended _ _ _ _ _ (came c.perform-end.ensures.performed c.finish.ensures)
+
+pub returns-clause-stands_short : goal.returns-clause-stands_short
+returns-clause-stands_short g c = short-ended _ _ _ _ _ (came c.perform-end.ensures.performed c.finish.ensures)
 
 pub returns-clause-uses_few : goal.returns-clause-uses_few
 returns-clause-uses_few g c = uses-ended _ _ _ _ _ (came c.perform-end.ensures.performed c.finish.ensures)

@@ -1,0 +1,150 @@
+-- Where a call says that its run waits, the clock stands before what it was asked for.
+use Rattle.std.proofs.Common.{◌≡◌, ◌⊎◌, inl, inr, ◌∙◌, refl, sym, ap, subst, arith, ℕ, ◌<◌, Bool, true, false, List, [], ◌∷◌, Option, Some, None, Result, Ok, Err}
+use Rattle.std.specs.Prelude.{if◌then◌else◌}
+use Rattle.serde_json.specs.Data.{Data}
+use Rattle.memory_site.specs.MemorySite.{view_of}
+use Rattle.cacao_site.specs.View.{SiteView}
+use Rattle.flow_rules.specs.Givens.{Given}
+use Rattle.operator_answers.specs.declared.answers.OperatorAnswer.{OperatorAnswer}
+use Rattle.flow_steps.specs.Causes.{IsShort, Shows}
+use Rattle.flow_steps.specs.Worlds.{Phase}
+use Rattle.flow_world.specs.Sessions.{HasClosed}
+use Rattle.flow_world.specs.declared.close.Close.{Close}
+use Rattle.flow_world.specs.declared.close.Close.TheVariants as close
+use Rattle.flow_world.specs.declared.error.WorldError.{WorldError}
+use Rattle.flow_world.specs.declared.error.WorldError.TheVariants as error
+use Rattle.rehearsal.specs.Rehearsals.{most_records, run_number}
+use Rattle.cacao_words.specs.Requests.{RunRequest}
+use Rattle.cacao_cli.specs.Asked.{Asked, canonises, checks, runs, shows, lists_rules, decides, shadows, rehearses, audits}
+use Rattle.cacao_cli.specs.Ended.{Ended}
+use Rattle.cacao_cli.specs.Ends.{End, status_of, disk_failed, past, rehearsed, waiting}
+use Rattle.cacao_cli.specs.Exact.{HasStatus, IsOneOf, IsSettled}
+use Rattle.cacao_cli.specs.Files.{Files, NamedText, Reads, ShelfCall, files_of, has_too_many}
+use Rattle.cacao_cli.specs.Holding.{ClosesSo, RefusesSo, close_end, error_end}
+use Rattle.cacao_cli.specs.Lines.{SaysAtMostALine}
+use Rattle.cacao_cli.specs.OwnSites.{StandsShort}
+use Rattle.cacao_cli.specs.Rehearsing.{EndsRun, RehearsalTo, TellsRehearsal}
+use Rattle.cacao_cli.specs.Work.{Start, Work, ends, starts, or_end, start_of, trees_of, trees_wanted, work, work_on}
+use Rattle.cacao_cli.specs.declared.limit.Limit.TheVariants.{BookCount}
+use Rattle.cacao_cli.proofs.AnswerLemmas.{never}
+use Rattle.cacao_cli.proofs.CauseLemmas.{TreesCase, all_trees, one_treeless, trees_case}
+use Rattle.cacao_cli.proofs.CountLemmas.{read-status}
+use Rattle.cacao_cli.proofs.EndCases.{session-end}
+use Rattle.cacao_cli.proofs.ExactLemmas.{Comes, performs-comes}
+use Rattle.cacao_cli.proofs.JudgedLemmas.{start-settled}
+use Rattle.cacao_cli.proofs.LeaveLemmas.{rehearse-performed}
+use Rattle.cacao_cli.proofs.LineLemmas.{IsCutOff, tells-status}
+use Rattle.cacao_cli.proofs.ReadLemmas.{Read}
+
+-- ---- a session
+
+closed-short : (moment : ℕ) (given : Given) (run most : ℕ) (answers : List OperatorAnswer) (old new : SiteView) → HasClosed (close.Waiting moment) given run most answers old new → new.clock.now < new.clock.asked
+closed-short moment given run most answers old new h =
+    let short : IsShort h.went.start h.went.to moment = subst (λ (p : Phase). Shows p h.went.start h.went.to) h.closes h.went.cause.shows in
+    let there : h.went.to.site.clock.now < h.went.to.site.clock.asked = subst (λ (n : ℕ). h.went.to.site.clock.now < n) (sym short.asked) short.short in
+    subst (λ (s : SiteView). s.clock.now < s.clock.asked) h.went.to_is there
+
+how-short : (how : Close) (given : Given) (run most : ℕ) (answers : List OperatorAnswer) (old new : SiteView) → status_of (close_end how) ≡ 14 → HasClosed how given run most answers old new → new.clock.now < new.clock.asked
+how-short (close.Waiting moment) given run most answers old new e h = closed-short moment given run most answers old new h
+how-short (close.Ended true) given run most answers old new e h = absurd (omega (arith, e))
+how-short (close.Ended false) given run most answers old new e h = absurd (omega (arith, e))
+how-short close.Paused given run most answers old new e h = absurd (omega (arith, e))
+how-short close.Flooded given run most answers old new e h = absurd (omega (arith, e))
+how-short (close.Asked issue) given run most answers old new e h = absurd (omega (arith, e))
+
+no-refusal : (why : WorldError) → status_of (error_end why) ≡ 14 → ⊥
+no-refusal error.Disk e = omega (arith, e)
+no-refusal (error.Damaged file place) e = omega (arith, e)
+no-refusal (error.OtherRun held asked) e = omega (arith, e)
+no-refusal (error.OtherBook index) e = omega (arith, e)
+no-refusal (error.RunUsed agent) e = omega (arith, e)
+no-refusal (error.Limit what) e = omega (arith, e)
+no-refusal error.Say e = omega (arith, e)
+no-refusal error.Memory e = omega (arith, e)
+
+said-short : (mid new : SiteView) → SaysAtMostALine mid new → mid.clock.now < mid.clock.asked → new.clock.now < new.clock.asked
+said-short mid new (inl is) short = subst (λ (s : SiteView). s.clock.now < s.clock.asked) (sym is) short
+said-short mid new (inr says) short =
+    subst (λ (n : ℕ). n < new.clock.asked) (sym says.time.now) (subst (λ (n : ℕ). mid.clock.now < n) (sym says.time.asked) short)
+
+settled-short : (start : Start) (old new : SiteView) (n : ℕ) → IsSettled start old new n → n ≡ 14 → new.clock.now < new.clock.asked
+settled-short start old new n t e = said-short t.came.between new t.came.behind (go t.came.session.holds.held)
+  where
+    go : ClosesSo t.came.session.given start.run start.most t.came.session.answers old t.came.between t.last
+        ⊎ RefusesSo t.came.session.given start.run start.most t.came.session.answers old t.came.between t.last → t.came.between.clock.now < t.came.between.clock.asked
+    go (inl c) = how-short c.close t.came.session.given start.run start.most t.came.session.answers old t.came.between (sym (t.is ∙ ap status_of c.ends) ∙ e) c.closed
+    go (inr r) = absurd (no-refusal r.error (sym (t.is ∙ ap status_of r.ends) ∙ e))
+
+-- ---- run
+
+apart : (n m : ℕ) → IsOneOf m (3 ∷ 4 ∷ 10 ∷ 11 ∷ []) → n ≡ m → n ≡ 14 → ⊥
+apart n m (inl f) is e = omega (arith, f, is, e)
+apart n m (inr (inl f)) is e = omega (arith, f, is, e)
+apart n m (inr (inr (inl f))) is e = omega (arith, f, is, e)
+apart n m (inr (inr (inr (inl f)))) is e = omega (arith, f, is, e)
+apart n m (inr (inr (inr (inr h)))) is e = h
+
+module _ (wanted : RunRequest) (old new : SiteView) (n : ℕ) (e : n ≡ 14) where
+  texts-short : (texts : List NamedText) → Comes (work_on (runs wanted) texts) old new n → new.clock.now < new.clock.asked
+  texts-short texts h = go (trees_case (trees_wanted wanted texts))
+    where
+      go : TreesCase (trees_wanted wanted texts) → new.clock.now < new.clock.asked
+      go (one_treeless name reason t f) =
+          let five : n ≡ 5 = subst (λ (r : Result (List Data) End). Comes (or_end r (λ roots. starts (start_of wanted texts))) old new n) f h in absurd (omega (arith, five, e))
+      go (all_trees roots t f) =
+          let has : HasStatus (starts (start_of wanted texts)) old new n = subst (λ (r : Result (List Data) End). Comes (or_end r (λ roots. starts (start_of wanted texts))) old new n) f h in
+          settled-short (start_of wanted texts) old new n (start-settled (start_of wanted texts) has (λ five. omega (arith, five, e)) (λ one. omega (arith, one, e))) e
+
+  run-short : (told : Option Files) (count : ℕ) (read : Read) → Reads told (files_of (Some (runs wanted))) count read → Comes (work (Some (runs wanted)) read) old new n → new.clock.now < new.clock.asked
+  run-short told count read reads = go (has_too_many (runs wanted)) read (λ end f. read-status told (files_of (Some (runs wanted))) count read end reads f)
+    where
+      go : (b : Bool) (r : Read) → ((end : End) → r ≡ Err end → IsOneOf (status_of end) (3 ∷ 4 ∷ 10 ∷ 11 ∷ [])) → Comes (if b then ends [] (past BookCount) else or_end r (work_on (runs wanted))) old new n
+          → new.clock.now < new.clock.asked
+      go true r each h = absurd (omega (arith, h, e))
+      go false (Err end) each h = absurd (apart n (status_of end) (each end refl) h e)
+      go false (Ok texts) each h = texts-short texts h
+
+-- ---- a rehearsal
+
+waits-own : (positions : ℕ) (moment : ℕ) (h : RehearsalTo positions (waiting moment)) → h.after.clock.now < h.after.clock.asked
+waits-own positions moment h = go h.runs
+  where
+    go : EndsRun positions h.given (view_of h.site) h.after (waiting moment) → h.after.clock.now < h.after.clock.asked
+    go (inl r) = absurd (let e : 14 ≡ 0 = ap status_of r.ends in omega (arith, e))
+    go (inr (inl r)) = how-short r.how h.given run_number most_records [] (view_of h.site) h.after (sym (ap status_of r.ends)) r.closes.closed
+    go (inr (inr (inl r))) = absurd (no-refusal r.why (sym (ap status_of r.ends)))
+    go (inr (inr (inr r))) = absurd (let e : 14 ≡ 8 = ap status_of r.ends in omega (arith, e))
+
+abbrev WaitsOwn : ℕ → Type 0
+WaitsOwn positions = (moment : ℕ) × (came : RehearsalTo positions (waiting moment)) × (came.after.clock.now < came.after.clock.asked)
+
+own-told : (positions n : ℕ) (last : End) → TellsRehearsal positions last → (n ≡ status_of last) ⊎ IsCutOff n → n ≡ 14 → WaitsOwn positions
+own-told positions n last t (inr (inl f)) e = absurd (omega (arith, f, e))
+own-told positions n last t (inr (inr (inl f))) e = absurd (omega (arith, f, e))
+own-told positions n last t (inr (inr (inr x))) e = absurd x
+own-told positions n last (inl h) (inl is) e = absurd (let f : status_of last ≡ 11 = ap status_of h.1 in omega (arith, f, is, e))
+own-told positions n last (inr (inl h)) (inl is) e = absurd (let f : status_of last ≡ 1 = ap status_of h.2 in omega (arith, f, is, e))
+own-told positions n last (inr (inr (inr g))) (inl is) e = absurd (let f : status_of last ≡ 10 = ap status_of g in omega (arith, f, is, e))
+own-told positions n last (inr (inr (inl h))) (inl is) e =
+    let waits = (session-end last).waits (sym is ∙ e) in
+    let came : RehearsalTo positions (waiting waits.0) = subst (λ (x : End). RehearsalTo positions x) waits.1 h in
+    (waits.0, came, waits-own positions waits.0 came)
+
+pub short-ended : (asked : Option Asked) (shelf : ShelfCall) (old new : SiteView) (answer : ℕ) → Ended asked shelf old new answer → answer ≡ 14 → StandsShort asked new
+short-ended None shelf old new answer h e = never None shelf old new answer 14 refl h e
+short-ended (Some (canonises book)) shelf old new answer h e = never (Some (canonises book)) shelf old new answer 14 refl h e
+short-ended (Some (checks books)) shelf old new answer h e = never (Some (checks books)) shelf old new answer 14 refl h e
+short-ended (Some shows) shelf old new answer h e = never (Some shows) shelf old new answer 14 refl h e
+short-ended (Some (lists_rules agent)) shelf old new answer h e = never (Some (lists_rules agent)) shelf old new answer 14 refl h e
+short-ended (Some (decides agent packets)) shelf old new answer h e = never (Some (decides agent packets)) shelf old new answer 14 refl h e
+short-ended (Some (shadows agent)) shelf old new answer h e = never (Some (shadows agent)) shelf old new answer 14 refl h e
+short-ended (Some (audits engine filters)) shelf old new answer h e = never (Some (audits engine filters)) shelf old new answer 14 refl h e
+short-ended (Some (runs wanted)) shelf old new answer h e = go (performs-comes (work (Some (runs wanted)) h.performed.read) old h.between new h.last answer h.performed.performs h.tells)
+  where
+    go : Comes (work (Some (runs wanted)) h.performed.read) old new answer ⊎ IsCutOff answer → new.clock.now < new.clock.asked
+    go (inl c) = run-short wanted old new answer e shelf.told h.performed.reads.count h.performed.read h.performed.reads.reads c
+    go (inr (inl f)) = absurd (omega (arith, f, e))
+    go (inr (inr (inl f))) = absurd (omega (arith, f, e))
+    go (inr (inr (inr x))) = absurd x
+short-ended (Some (rehearses positions)) shelf old new answer h e =
+    own-told positions answer h.last (rehearse-performed positions shelf old h.between h.last h.performed).tells (tells-status h.last h.between new answer h.tells) e
