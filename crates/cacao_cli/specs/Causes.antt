@@ -109,7 +109,8 @@ EndsAs (Some (shadows agent)) files last old new = ⊥
 EndsAs (Some (rehearses positions)) files last old new = RehearsalTo positions last
 EndsAs (Some (audits engine filters)) files last old new = ⊥
 
--- it found the engine's file taken by another run, or by one of other texts, or the number used (no rehearsal does: `ComesOfBlank`)
+-- It found the engine's file taken by another run, or by one of other texts, or the number used. (No rehearsal does: see
+-- `ComesOfBlank`.)
 abbrev pub EndsAsAnother : Option Asked → Files → SiteView → SiteView → Type 0
 EndsAsAnother asked files old new =
     ((held : ℕ) × (number : ℕ) × EndsAs asked files (other_run held number) old new)
@@ -205,8 +206,8 @@ CanBeDone (Some (rehearses positions)) files old new =
     (records : ℕ) × (acts : ℕ) × (rules : ℕ) × RehearsalTo positions (rehearsed positions records acts rules)
 CanBeDone (Some (audits engine filters)) files old new = IsAuditOf files engine filters Agree
 
--- The file of the disk that the command opens holds nothing that the program wrote, and nothing else stops the command before. (The
--- files of the site of a rehearsal are blank.)
+-- The file of the disk that the command opens holds nothing that the program wrote, and nothing else stops the command before.
+-- (The files of the site of a rehearsal are blank.)
 abbrev pub FindsItDamaged : Option Asked → Files → SiteView → SiteView → Type 0
 FindsItDamaged None files old new = ⊥
 FindsItDamaged (Some (canonises book)) files old new = ⊥
