@@ -180,7 +180,7 @@ or_any statuses = 3 ∷ 5 ∷ 8 ∷ 9 ∷ 10 ∷ statuses
 -- one of these three; with as many records more as may be, it is 7. Where the file is another run's, it is 12; where it is
 -- damaged, 13; where its run is too large, 11. Where a filter's file is damaged, it is 13, unless the engine's file is told
 -- before, or the file was damaged later (11, 12). Where the number is used, it is 12, unless a filter's file is damaged. (What a
--- crash could leave when the call began is one list of records where the file was durable: an opening's contract does not say
+-- crash could leave when the call began is one list of records where the file was durable: the opening of an engine does not say
 -- that the file reads as before.)
 pub record FileTells (start : Start) (old new : SiteView) (answer : ℕ) : Type 0 where
   pub well : ReadsSo start (Some true) new → IsOneOf answer (0 ∷ or_any (11 ∷ 13 ∷ 14 ∷ []))
