@@ -11,7 +11,7 @@ use Rattle.std.proofs.lemmas.List.Elements.{Contains-get_or, All-contains, All-g
 use Rattle.reachability.specs.Tables.{IsMarked, IsWithin, Leads, row}
 use Rattle.reachability.proofs.ClosureLemmas.{closure_map, reaches_iff_back}
 use Rattle.reachability.proofs.MarkLemmas.{Contains-nil}
-use Rattle.reachability.proofs.RowLemmas.{row_is}
+use Rattle.reachability.proofs.RowLemmas.{row_is, row_within}
 use Rattle.cacao_regions.specs.declared.charts.Chart.{Chart}
 use Rattle.cacao_steps.specs.Links.{head_keys, places_of, head_places, start_places, GoesTo, Begins}
 use Rattle.cacao_regions.specs.Regions.{InRegion, IsPlaced, Encloses}
@@ -86,6 +86,17 @@ module _ (book : Book) (chart : Chart) (is : IsChartOf book chart) where
       back from to (inl g) = inl g
       back from to (inr b) = inr (b, refl)
 
+  -- and what is reached so
+  pub enclosed_reach : (control : ℕ) (a b : List (List ℕ)) → a ≡ chart.next.items → b ≡ chart.heads.items → (p : ℕ) → Encloses book control p → Closure (Contains (row b control)) (Leads a b [] []) p
+  enclosed_reach control a b ea eb p e =
+      subst (λ x. Closure (Contains (row x control)) (Leads a x [] []) p) (sym eb)
+      (subst (λ x. Closure (Contains (row chart.heads.items control)) (Leads x chart.heads.items [] []) p) (sym ea)
+      (closure_map (Begins book control) (Contains (row chart.heads.items control)) (LinksDown book) (Leads chart.next.items chart.heads.items [] []) (λ q. (begins control q).1) down p ((encloses_iff_down book control p).0 e)))
+    where
+      down : (from to : ℕ) → LinksDown book from to → Leads chart.next.items chart.heads.items [] [] from to
+      down from to (inl g) = inl ((goes from to).1 g)
+      down from to (inr h) = inr (refl, (begins from to).1 h, refl)
+
 -- ---- a step without branches
 
 pub without_region : (book : Book) (control : ℕ) → head_places book control ≡ [] → {place : ℕ} → InRegion book control place → ⊥
@@ -128,12 +139,6 @@ same_members xs ys e p = (λ c. subst (λ v. Contains v p) e c, λ c. subst (λ 
 
 pub within_members : (n : ℕ) (places : List ℕ) → ((p : ℕ) → Contains places p → p < n) → All (λ p. p < n) places
 within_members n places each k d lt = each (get_or places k d) (Contains-get_or places k d lt)
-
-row_within : (n : ℕ) (rows : List (List ℕ)) (from to : ℕ) → IsWithin n rows → Contains (row rows from) to → to < n
-row_within n rows from to all c = elim (cases_lt from (length rows)) [
-  | inl lt ↦ All-contains (λ p. p < n) (row rows from) to (All-get_or (λ r. All (λ p. p < n) r) rows from [] lt all) c
-  | inr ge ↦ absurd (Contains-nil to (subst (λ v. Contains v to) (get_or_past rows from [] ge) c))
-]
 
 -- where a search begins stands within the book
 pub chosen_within : (book : Book) (chart : Chart) → IsChartOf book chart → (chosen : List Bool) (at_start : Bool) (p : ℕ) → BeginsChosen book chosen at_start p → p < length book.steps

@@ -1,5 +1,5 @@
 // Regions of a book, as sets of places.
-ghost use Rattle.std.specs.Prelude.{◌≡◌, ◌↔◌, ◌<◌, [], length, MatchOption, IfOk, IsTrue, slice_index_or};
+ghost use Rattle.std.specs.Prelude.{◌≡◌, ◌↔◌, ℕ, ◌<◌, [], length, MatchOption, IfOk, IsTrue, slice_index_or};
 ghost use Rattle.reachability.specs.Tables.{IsMarked};
 ghost use Rattle.cacao_regions.specs.Regions.{InRegion, IsPlaced, Encloses};
 ghost use Rattle.cacao_regions.specs.Charts.{IsChartOf, AreMarksOf, AreRegionsOf};
@@ -7,7 +7,7 @@ ghost use Rattle.cacao_regions.specs.Charts.{IsChartOf, AreMarksOf, AreRegionsOf
 use crate::charts::Chart;
 use crate::sights::first_places;
 use cacao_book::Book;
-use reachability::{Bits, reached, reached_past_guards};
+use reachability::{Bits, may_return, reached, reached_past_guards};
 use std::alloc::{AllocError, Global};
 
 /// The main region of a book, and for each step its region. A step without branches has an empty one, which takes no memory.
@@ -93,15 +93,53 @@ fn encloses_itself(
     Ok(marks.has(place))
 }
 
+// Places of steps that may enclose themselves: no other step does.
+fn may_enclose(alloc: Global, book: &Book, chart: &Chart) -> Result<Bits, AllocError>
+    requires { IsChartOf book.now chart.now }
+    ensures { IfOk result (λ marks. (place : ℕ) → Encloses book.now place place → IsMarked marks place) }
+{
+    let count = book.steps.as_slice().len();
+    let marks = may_return(
+        alloc,
+        count,
+        &chart.next,
+        &chart.heads,
+        &chart.back_next,
+        &chart.back_heads,
+    )?;
+    Ok(marks)
+}
+
+// Whether the step at a place encloses itself, which only a step at a marked place may. Only such a step is searched from.
+fn is_in_itself(
+    alloc: Global,
+    book: &Book,
+    chart: &Chart,
+    marks: &Bits,
+    place: u32,
+) -> Result<bool, AllocError>
+    requires chart { IsChartOf book.now chart.now }
+    requires place { place < length book.now.steps }
+    requires marks { Encloses book.now place place → IsMarked marks.now place }
+    ensures { IfOk result (λ does. IsTrue does ↔ Encloses book.now place place) }
+{
+    if !marks.has(place) {
+        return Ok(false);
+    }
+    let does = encloses_itself(alloc, book, chart, place)?;
+    Ok(does)
+}
+
 /// The places of the steps that enclose themselves.
 pub(crate) fn enclosing(alloc: Global, book: &Book, chart: &Chart) -> Result<Bits, AllocError>
     requires { IsChartOf book.now chart.now }
     ensures { IfOk result (AreMarksOf (λ place. Encloses book.now place place)) }
 {
     let count = book.steps.as_slice().len();
+    let may = may_enclose(alloc, book, chart)?;
     let mut marks = Bits::unmarked(alloc, count)?;
     for place in 0..count {
-        if encloses_itself(alloc, book, chart, place as u32)? {
+        if is_in_itself(alloc, book, chart, &may, place as u32)? {
             marks.mark(place as u32);
         }
     }

@@ -3,3 +3,4 @@ pub mod MarkLemmas
 pub mod RowLemmas
 pub mod BackLemmas
 pub mod WordLemmas
+pub mod RankLemmas

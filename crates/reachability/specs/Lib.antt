@@ -3,3 +3,4 @@ pub mod Tables
 pub mod Words
 pub mod Searching
 pub mod Reversing
+pub mod Ranks

@@ -6,11 +6,14 @@
 
 mod bits;
 mod places;
+mod ranking;
+mod returning;
 mod reversing;
 mod searching;
 
 pub use bits::Bits;
 pub use places::Places;
+pub use returning::may_return;
 pub use reversing::reversed;
 pub use searching::{reached, reached_past_guards};
 

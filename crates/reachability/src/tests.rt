@@ -2,7 +2,7 @@
 ghost use Rattle.std.specs.Prelude.{◌≡◌, ◌<◌, IfOk, length};
 ghost use Rattle.reachability.specs.Tables.{IsWithin};
 
-use crate::{Bits, Places, reached, reached_past_guards, reversed};
+use crate::{Bits, Places, may_return, reached, reached_past_guards, reversed};
 use std::alloc::{AllocError, Global};
 use std::test::Fail;
 
@@ -74,6 +74,30 @@ fn guarded_edges_leave_no_shut_place_and_enter_no_blocked_one(rt: HostRuntime) -
     blocked.mark(4);
     let marks = reached_past_guards(alloc, 5, &free, &guarded, &shut, &blocked, &[0])?;
     for (place, wanted) in [(0, true), (1, true), (2, true), (3, false), (4, false)] {
+        assert_eq!(rt; marks.has(place), wanted, "{place}");
+    }
+    Ok(())
+}
+
+#[test]
+fn only_what_leads_back_by_a_guarded_edge_may_return(rt: HostRuntime) -> Result<(), Fail> {
+    let alloc = rt.alloc();
+    let mut free = Vec::new(alloc);
+    free.push(row(alloc, &[])?)?;
+    free.push(row(alloc, &[2])?)?;
+    free.push(row(alloc, &[1])?)?;
+    free.push(row(alloc, &[])?)?;
+    free.push(row(alloc, &[3])?)?;
+    let mut guarded = Vec::new(alloc);
+    guarded.push(row(alloc, &[1])?)?;
+    guarded.push(row(alloc, &[])?)?;
+    guarded.push(row(alloc, &[3])?)?;
+    guarded.push(row(alloc, &[4])?)?;
+    guarded.push(row(alloc, &[])?)?;
+    let back_free = reversed(alloc, &free)?;
+    let back_guarded = reversed(alloc, &guarded)?;
+    let marks = may_return(alloc, 5, &free, &guarded, &back_free, &back_guarded)?;
+    for (place, wanted) in [(0, false), (1, false), (2, false), (3, true), (4, false)] {
         assert_eq!(rt; marks.has(place), wanted, "{place}");
     }
     Ok(())
