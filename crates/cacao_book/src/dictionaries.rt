@@ -30,7 +30,7 @@ fn read_var(alloc: Global, pair: &Pair) -> Result<Var, AllocError>
     ensures { IfOk result (λ var. var ≡ var_of (pair_data pair.now)) }
 {
     let tree = &pair.tree;
-    let name = Name::new(alloc, pair.name.as_str())?;
+    let name = Name::new(alloc, pair.name.text())?;
     let kind = Kind::read(alloc, some_text(tree, "type"))?;
     let worth = read_word(alloc, tree, "value")?;
     Ok(Var {

@@ -28,7 +28,7 @@ fn known_stamp(alloc: Global, text: &str) -> Result<Stamp, AllocError>
 fn read_name(alloc: Global, pair: &Pair) -> Result<Text, AllocError>
     ensures { IfOk result (λ name. name ≡ (pair_data pair.now).0) }
 {
-    let name = Text::from_str(alloc, pair.name.as_str())?;
+    let name = Text::from_str(alloc, pair.name.text())?;
     Ok(name)
 }
 

@@ -123,7 +123,7 @@ fn read_while(alloc: Global, step: &Tree) -> Result<StepKind, AllocError>
 fn read_case(alloc: Global, pair: &Pair) -> Result<Case, AllocError>
     ensures { IfOk result (λ case. case ≡ case_of (pair_data pair.now)) }
 {
-    let value = Text::from_str(alloc, pair.name.as_str())?;
+    let value = Text::from_str(alloc, pair.name.text())?;
     let step = Text::from_str(alloc, text_or_empty(&pair.tree))?;
     Ok(Case { value, step })
 }
@@ -190,7 +190,7 @@ fn read_step(alloc: Global, pair: &Pair) -> Result<Step, AllocError>
     ensures { IfOk result (λ step. step ≡ step_of (pair_data pair.now)) }
 {
     let step = &pair.tree;
-    let key = known_id(alloc, pair.name.as_str())?;
+    let key = known_id(alloc, pair.name.text())?;
     let variables = read_vars(alloc, step, "step_variables")?;
     let completion = read_text(alloc, step, "on_completion")?;
     let success = read_text(alloc, step, "on_success")?;

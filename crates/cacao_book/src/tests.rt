@@ -55,7 +55,7 @@ fn a_playbook_is_read(rt: HostRuntime) -> Result<(), Fail> {
         "playbook--00000000-0000-4000-8000-000000000001"
     );
     assert_eq!(rt; book.modified.text(), "2024-01-02T03:04:05.000Z");
-    assert_eq!(rt; book.start.as_str(), START);
+    assert_eq!(rt; book.start.text(), START);
     assert!(rt; book.exception.is_none());
     assert_eq!(rt; book.agents.as_slice().len(), 1);
     let vars = book.variables.as_slice();
@@ -80,7 +80,7 @@ fn content_of(steps: &[Step]) -> &str {
         [step, ..] => match &step.kind {
             StepKind::Action { commands, .. } => match commands.as_slice() {
                 [command] => match &command.content {
-                    Some(content) => content.as_str(),
+                    Some(content) => content.text(),
                     None => "(none)",
                 },
                 _ => "(not one command)",
@@ -130,7 +130,7 @@ fn steps_of_each_type_are_read(rt: HostRuntime) -> Result<(), Fail> {
         let told = match &steps[1].kind {
             StepKind::PlaybookAction { in_args, .. } => index == 0 && in_args.as_slice().len() == 1,
             StepKind::Parallel { next } => index == 1 && next.as_slice().len() == 2,
-            StepKind::While { on_true, .. } => index == 2 && on_true.as_str() == "a",
+            StepKind::While { on_true, .. } => index == 2 && on_true.text() == "a",
             StepKind::Switch { cases, .. } => index == 3 && cases.as_slice().len() == 2,
             _ => false,
         };

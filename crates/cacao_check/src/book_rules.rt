@@ -29,7 +29,7 @@ fn starts_well(book: &Book) -> bool
     ensures { IsTrue result ↔ StartsWell book.now }
 {
     let steps = book.steps.as_slice();
-    match find_place(steps, book.start.as_str()) {
+    match find_place(steps, book.start.text()) {
         Some(place) => matches!(steps[place].kind, StepKind::Start),
         None => false,
     }
@@ -43,7 +43,7 @@ fn keeps_k15(book: &Book) -> bool
         return false;
     }
     match &book.exception {
-        Some(key) => find_place(book.steps.as_slice(), key.as_str()).is_some(),
+        Some(key) => find_place(book.steps.as_slice(), key.text()).is_some(),
         None => true,
     }
 }

@@ -35,9 +35,9 @@ fn can_be_sent(command: &StepCommand, tree: &Option<Tree>) -> bool
         return false;
     };
     if is_manual(command) {
-        return text.as_str().len() <= 4096;
+        return text.text().len() <= 4096;
     }
-    command.kind.as_str() == "openc2-http" && text.as_str().len() <= 65_536 && is_object(tree)
+    command.kind.text() == "openc2-http" && text.text().len() <= 65_536 && is_object(tree)
 }
 
 /// Whether each command can be sent, which mode `Run` asks.
@@ -61,7 +61,7 @@ fn names_a_step(steps: &[Step], key: &Text) -> bool
     requires { IsInKeyOrder steps.now }
     ensures { result ≡ is_some (place_of steps.now key.now) }
 {
-    find_place(steps, key.as_str()).is_some()
+    find_place(steps, key.text()).is_some()
 }
 
 fn names_a_step_if_any(steps: &[Step], link: &Option<Text>) -> bool
@@ -129,7 +129,7 @@ pub(crate) fn keeps_k16(book: &Book, step: &Step) -> bool
 fn is_listed(agents: &[Text], name: &Text) -> bool
     ensures { result ≡ list_any (λ agent. bytes_eq agent name.now) agents.now }
 {
-    agents.iter().any(|agent| agent.as_str() == name.as_str())
+    agents.iter().any(|agent| agent.text() == name.text())
 }
 
 fn are_listed(agents: &[Text], names: &[Text]) -> bool
@@ -166,7 +166,7 @@ fn has_version(step: &Step, theirs: &Book) -> bool
     ensures { IsTrue result ↔ IfSome (version_in step.now.kind) (λ wanted. theirs.now.modified ≡ wanted) }
 {
     match version_of(&step.kind) {
-        Some(wanted) => theirs.modified.text() == wanted.as_str(),
+        Some(wanted) => theirs.modified.text() == wanted.text(),
         None => true,
     }
 }

@@ -114,7 +114,7 @@ impl<'w> fmt::Display for End<'w> {
             End::Refused { broken } => match &broken.step {
                 None => write!(f, "refused: book {} rule K{}", broken.book, broken.rule),
                 Some(step) => {
-                    let step = step.as_str();
+                    let step = step.text();
                     write!(
                         f,
                         "refused: book {} step {step} rule K{}",

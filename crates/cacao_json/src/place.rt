@@ -15,7 +15,7 @@ pub fn place_of(pairs: &[Pair], name: &str) -> Result<usize, usize>
     let mut high = pairs.len();
     while low < high {
         let middle = low + (high - low) / 2;
-        match name.cmp(pairs[middle].name.as_str()) {
+        match name.cmp(pairs[middle].name.text()) {
             Ordering::Equal => return Ok(middle),
             Ordering::Less => high = middle,
             Ordering::Greater => low = middle + 1,

@@ -29,13 +29,13 @@ fn a_tree_is_looked_into(rt: HostRuntime) -> Result<(), Fail> {
     let whole = member(&tree, "whole").ok_or("no member")?;
     assert_eq!(rt; whole_of(whole), Some(-9_007_199_254_740_991));
     let named = member(&tree, "text").ok_or("no member")?;
-    assert_eq!(rt; text_of(named).ok_or("no text")?.as_str(), "a:\"b\u{e9}");
+    assert_eq!(rt; text_of(named).ok_or("no text")?.text(), "a:\"b\u{e9}");
     assert!(rt; member(&tree, "none").is_none());
     assert!(rt; whole_of(named).is_none());
     assert!(rt; text_of(whole).is_none());
     assert!(rt; member(whole, "whole").is_none());
     let copy = Text::from_str(rt.alloc(), "\u{e9}")?;
-    assert_eq!(rt; copy.as_str(), "\u{e9}");
+    assert_eq!(rt; copy.text(), "\u{e9}");
     Ok(())
 }
 
@@ -65,7 +65,7 @@ fn members_stand_in_order_each_once(rt: HostRuntime) -> Result<(), Fail> {
     }
     let mut names = String::new(alloc);
     for pair in pairs.as_slice() {
-        names.push_str(pair.name.as_str())?;
+        names.push_str(pair.name.text())?;
     }
     assert_eq!(rt; names.as_str(), "ab\u{e9}");
     let removed = pairs.remove("b").ok_or("no member")?;
@@ -103,7 +103,7 @@ fn a_copy_has_the_same_members(rt: HostRuntime) -> Result<(), Fail> {
     };
     assert_eq!(rt; whole_of(first), Some(1));
     let text = text_of(member(second, "b").ok_or("no member")?).ok_or("no text")?;
-    assert_eq!(rt; text.as_str(), "c");
+    assert_eq!(rt; text.text(), "c");
     Ok(())
 }
 

@@ -39,7 +39,8 @@ impl Text {
         Text { text }
     }
 
-    pub fn as_str(&self) -> &str
+    /// The text, with no copy.
+    pub fn text(&self) -> &str
         ensures { result.now ≡ self.now }
     {
         self.text.as_str()

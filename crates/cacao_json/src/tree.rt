@@ -163,7 +163,7 @@ impl Pairs {
         ensures { self.new ≡ (if is_ok result then put name (data_of tree) self.old else self.old) }
     {
         tree_law(&tree);
-        match place_of(&self.pairs, name.as_str()) {
+        match place_of(&self.pairs, name.text()) {
             Ok(place) => {
                 self.pairs[place] = Pair { name, tree };
                 Ok(())
@@ -202,7 +202,7 @@ pub fn tree_law(tree: &Tree)
 {
     match tree {
         Tree::Text(text) => {
-            let _ = text.as_str();
+            let _ = text.text();
         }
         Tree::List(items) => {
             let _ = items.as_slice();

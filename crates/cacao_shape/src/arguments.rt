@@ -35,7 +35,7 @@ fn is_argument_text(value: &Tree) -> bool
     ensures { IsTrue result ↔ TextFits IsArgument (data_of value.now) }
 {
     match text_of(value) {
-        Some(text) => is_argument(text.as_str()),
+        Some(text) => is_argument(text.text()),
         None => false,
     }
 }

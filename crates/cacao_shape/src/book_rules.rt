@@ -51,7 +51,7 @@ fn keeps_k3(alloc: Global, book: &Tree) -> Result<bool, AllocError>
 fn is_step(alloc: Global, pair: &Pair) -> Result<bool, AllocError>
     ensures { IfOk result (λ fits. IsTrue fits ↔ (IsId (pair_data pair.now).0 × IsObject (pair_data pair.now).1)) }
 {
-    let has_key = is_id(alloc, pair.name.as_str())?;
+    let has_key = is_id(alloc, pair.name.text())?;
     Ok(has_key && is_object(&pair.tree))
 }
 

@@ -39,7 +39,7 @@ fn may_have_encoded_text(alloc: Global, tree: &Tree, name: &str) -> Result<bool,
     let Some(text) = text_of(value) else {
         return Ok(false);
     };
-    let content = decoded(alloc, text.as_str())?;
+    let content = decoded(alloc, text.text())?;
     Ok(content.is_some())
 }
 

@@ -54,7 +54,7 @@ fn is_declaration(tree: &Tree) -> bool
 fn declares(pair: &Pair) -> bool
     ensures { IsTrue result ↔ (IsName (pair_data pair.now).0 × IsDeclaration (pair_data pair.now).1) }
 {
-    Name::fits(pair.name.as_str()) && is_declaration(&pair.tree)
+    Name::fits(pair.name.text()) && is_declaration(&pair.tree)
 }
 
 // Whether each member declares a variable.
@@ -97,7 +97,7 @@ pub(crate) fn may_have_dictionary(tree: &Tree, name: &str) -> bool
 fn is_named_by_id(alloc: Global, pair: &Pair) -> Result<bool, AllocError>
     ensures { IfOk result (λ fits. IsTrue fits ↔ IsId (pair_data pair.now).0) }
 {
-    let fits = is_id(alloc, pair.name.as_str())?;
+    let fits = is_id(alloc, pair.name.text())?;
     Ok(fits)
 }
 

@@ -84,7 +84,7 @@ pub fn text_or_empty(value: &Tree) -> &str
     ensures { result.now ≡ text_of_data (data_of value.now) }
 {
     match text_of(value) {
-        Some(text) => text.as_str(),
+        Some(text) => text.text(),
         None => "",
     }
 }

@@ -20,7 +20,7 @@ pub fn text_at<'a>(tree: &'a Tree, name: &str) -> Option<&'a str>
 {
     let value = member(tree, name)?;
     let text = text_of(value)?;
-    Some(text.as_str())
+    Some(text.text())
 }
 
 /// The text under a name, and the empty one where there is none.
@@ -75,7 +75,7 @@ pub(crate) fn is_short_text(value: &Tree, most: usize) -> bool
     ensures { IsTrue result ↔ TextFits (IsShort most) (data_of value.now) }
 {
     match text_of(value) {
-        Some(text) => text.as_str().len() <= most,
+        Some(text) => text.text().len() <= most,
         None => false,
     }
 }

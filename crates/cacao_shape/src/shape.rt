@@ -24,7 +24,7 @@ fn first_broken_of_member(alloc: Global, pair: &Pair) -> Result<Option<u8>, Allo
 fn key_of(alloc: Global, pair: &Pair) -> Result<Text, AllocError>
     ensures { IfOk result (λ key. key ≡ (pair_data pair.now).0) }
 {
-    let key = Text::from_str(alloc, pair.name.as_str())?;
+    let key = Text::from_str(alloc, pair.name.text())?;
     Ok(key)
 }
 

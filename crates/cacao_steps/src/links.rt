@@ -15,7 +15,7 @@ fn add_key(steps: &[Step], key: &Text, places: &mut Places) -> Result<(), AllocE
     requires few { length steps.now ≤ 4096 }
     ensures { OnOk result (places.new ≡ places.old ++ option_to_list (place_of steps.now key.now)) }
 {
-    if let Some(place) = find_place(steps, key.as_str()) {
+    if let Some(place) = find_place(steps, key.text()) {
         places.push(place as u32)?;
     }
     Ok(())

@@ -28,7 +28,7 @@ fn read_condition(alloc: Global, kind: &StepKind) -> Result<Option<Cond>, AllocE
     let Some(text) = condition_of(kind) else {
         return Ok(None);
     };
-    match read_cond(alloc, text.as_str().as_bytes()) {
+    match read_cond(alloc, text.text().as_bytes()) {
         Ok(cond) => Ok(Some(cond)),
         Err(CondError::Grammar) => Ok(None),
         Err(CondError::Memory) => Err(AllocError),
@@ -43,7 +43,7 @@ fn read_subject(alloc: Global, kind: &StepKind) -> Result<Option<Name>, AllocErr
     let Some(text) = subject_of(kind) else {
         return Ok(None);
     };
-    let Some(name) = whole_reference(text.as_str()) else {
+    let Some(name) = whole_reference(text.text()) else {
         return Ok(None);
     };
     let name = Name::new(alloc, name)?;
@@ -60,7 +60,7 @@ fn read_content(alloc: Global, command: &StepCommand) -> Result<Option<Tree>, Al
     match &command.content {
         None => Ok(None),
         Some(text) => {
-            let found = find_tree(alloc, text.as_str().as_bytes())?;
+            let found = find_tree(alloc, text.text().as_bytes())?;
             Ok(found)
         }
     }
@@ -85,7 +85,7 @@ fn link_place(steps: &[Step], link: &Option<Text>) -> Option<u32>
     let Some(key) = link else {
         return None;
     };
-    match find_place(steps, key.as_str()) {
+    match find_place(steps, key.text()) {
         Some(place) => Some(place as u32),
         None => None,
     }
@@ -115,7 +115,7 @@ fn called_book(books: &[Book], step: &Step) -> Option<u32>
     ensures { result ≡ called books.now step.now }
 {
     match call_of(&step.kind) {
-        Some(id) => book_with(books, id.as_str()),
+        Some(id) => book_with(books, id.text()),
         None => None,
     }
 }

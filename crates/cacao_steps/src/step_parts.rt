@@ -98,5 +98,5 @@ pub fn is_action(kind: &StepKind) -> bool
 pub fn is_manual(command: &StepCommand) -> bool
     ensures { result ≡ is_manual command.now }
 {
-    command.kind.as_str() == "manual"
+    command.kind.text() == "manual"
 }

@@ -36,7 +36,7 @@ fn add_tree(alloc: Global, tree: &Tree, all: &mut Vec<Name>) -> Result<(), Alloc
 {
     match tree {
         Tree::Text(text) => {
-            add_references(alloc, text.as_str(), all)?;
+            add_references(alloc, text.text(), all)?;
             Ok(())
         }
         Tree::List(items) => {
@@ -108,7 +108,7 @@ fn add_command(
         return Ok(());
     }
     if let Some(text) = &command.content {
-        add_references(alloc, text.as_str(), all)?;
+        add_references(alloc, text.text(), all)?;
         return Ok(());
     }
     Ok(())

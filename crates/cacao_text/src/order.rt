@@ -26,7 +26,7 @@ pub fn is_in_order(pairs: &[Pair]) -> bool
     ensures { OnTrue result (AreInOrder (names_in pairs.now)) }
 {
     for pair in pairs {
-        if !pair.name.as_str().is_ascii() {
+        if !pair.name.text().is_ascii() {
             return false;
         }
     }
@@ -40,7 +40,7 @@ pub fn places(alloc: Global, pairs: &[Pair], unsigned: bool) -> Result<Vec<usize
 {
     let mut order = BTreeMap::new(alloc);
     for (place, pair) in pairs.iter().enumerate() {
-        let name = pair.name.as_str();
+        let name = pair.name.text();
         if is_kept(unsigned, name) {
             let units = units_of(alloc, name)?;
             insert_key(&mut order, Key { units, place })?;

@@ -77,7 +77,7 @@ fn write_tree(alloc: Global, writer: &mut Writer, tree: &Tree) -> Result<(), All
         Tree::Null => writer.null(),
         Tree::Flag(flag) => writer.boolean(*flag),
         Tree::Whole(n) => writer.i64(*n),
-        Tree::Text(text) => writer.string(text.as_str()),
+        Tree::Text(text) => writer.string(text.text()),
         Tree::List(items) => write_items(alloc, writer, items.as_slice()),
         Tree::Members(pairs) => write_pairs(alloc, writer, pairs.as_slice()),
     }
@@ -149,6 +149,6 @@ fn write_places(
 fn write_pair(alloc: Global, writer: &mut Writer, pair: &Pair) -> Result<(), AllocError>
     ensures { OnOk result (Adds writer.old writer.new (pair_tokens pair.now)) }
 {
-    writer.key(pair.name.as_str())?;
+    writer.key(pair.name.text())?;
     write_tree(alloc, writer, &pair.tree)
 }

@@ -50,7 +50,7 @@ fn net4_flow(alloc: Global, net: &Net4) -> Result<String, AllocError>
     ensures { IfOk result (λ text. string_bytes text ≡ flow_text (Flow.Net4 net.now)) }
 {
     let net = print_net4(alloc, net)?;
-    let net = net.as_str();
+    let net = net.text();
     format!(in alloc; "net4 {net}")
 }
 
@@ -58,7 +58,7 @@ fn net6_flow(alloc: Global, net: &Net6) -> Result<String, AllocError>
     ensures { IfOk result (λ text. string_bytes text ≡ flow_text (Flow.Net6 net.now)) }
 {
     let net = print_net6(alloc, net)?;
-    let net = net.as_str();
+    let net = net.text();
     format!(in alloc; "net6 {net}")
 }
 

@@ -44,7 +44,7 @@ fn is_answer(answer: &Answer, status: u16, rule: u32, text: &[u8]) -> bool
     if answer.rule != rule {
         return false;
     }
-    answer.text.as_str().as_bytes() == text
+    answer.text.text().as_bytes() == text
 }
 
 /// The act of a filter on an issue of a run.

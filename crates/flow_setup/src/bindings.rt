@@ -74,7 +74,7 @@ fn is_part(name: &str) -> bool
 fn is_part_member(pair: &Pair) -> bool
     ensures { IsTrue result ↔ (((pair_data pair.now).0 ≡ codes "agents") ⊎ ((pair_data pair.now).0 ≡ codes "variables")) }
 {
-    is_part(pair.name.as_str())
+    is_part(pair.name.text())
 }
 
 fn are_parts(members: &[Pair]) -> bool
@@ -119,7 +119,7 @@ fn is_id(alloc: Global, text: &str) -> Result<bool, AllocError>
 fn binds_filter(alloc: Global, pair: &Pair) -> Result<bool, AllocError>
     ensures { IfOk result (λ fits. IsTrue fits ↔ (IsId (pair_data pair.now).0 × IsFilter (pair_data pair.now).1)) }
 {
-    let has_id = is_id(alloc, pair.name.as_str())?;
+    let has_id = is_id(alloc, pair.name.text())?;
     Ok(has_id && is_filter(&pair.tree))
 }
 
@@ -158,7 +158,7 @@ fn is_short_text(value: &Tree) -> bool
     ensures { IsTrue result ↔ TextFits (IsShort 4096) (data_of value.now) }
 {
     match text_of(value) {
-        Some(text) => text.as_str().len() <= MOST_TEXT,
+        Some(text) => text.text().len() <= MOST_TEXT,
         None => false,
     }
 }
@@ -167,7 +167,7 @@ fn is_short_text(value: &Tree) -> bool
 fn binds_text(pair: &Pair) -> bool
     ensures { IsTrue result ↔ (IsName (pair_data pair.now).0 × TextFits (IsShort 4096) (pair_data pair.now).1) }
 {
-    Name::fits(pair.name.as_str()) && is_short_text(&pair.tree)
+    Name::fits(pair.name.text()) && is_short_text(&pair.tree)
 }
 
 fn bind_texts(members: &[Pair]) -> bool
@@ -225,7 +225,7 @@ fn read_agent(alloc: Global, pair: &Pair) -> Result<(Text, u8), AllocError>
     requires { IsFilter (pair_data pair.now).1 }
     ensures { IfOk result (λ bound. bound ≡ ((pair_data pair.now).0, unwrap_or (option_map nat_abs (whole (pair_data pair.now).1)) 0)) }
 {
-    let name = Text::from_str(alloc, pair.name.as_str())?;
+    let name = Text::from_str(alloc, pair.name.text())?;
     Ok((name, filter_number(&pair.tree)))
 }
 
@@ -246,7 +246,7 @@ fn text_or_empty(value: &Tree) -> &str
     ensures { result.now ≡ text_of_data (data_of value.now) }
 {
     match text_of(value) {
-        Some(text) => text.as_str(),
+        Some(text) => text.text(),
         None => "",
     }
 }
@@ -255,7 +255,7 @@ fn read_variable(alloc: Global, pair: &Pair) -> Result<(Name, Word), AllocError>
     requires { IsName (pair_data pair.now).0 }
     ensures { IfOk result (λ bound. bound ≡ ((pair_data pair.now).0, text_of_data (pair_data pair.now).1)) }
 {
-    let name = Name::new(alloc, pair.name.as_str())?;
+    let name = Name::new(alloc, pair.name.text())?;
     let text = Word::new(alloc, text_or_empty(&pair.tree))?;
     Ok((name, text))
 }

@@ -74,7 +74,7 @@ fn place_in(steps: &[Step], key: &Text) -> usize
     ensures place { result ≡ unwrap_or (place_of steps.now key.now) (length steps.now) }
     ensures within { result ≤ 4096 }
 {
-    match find_place(steps, key.as_str()) {
+    match find_place(steps, key.text()) {
         Some(place) => place,
         None => steps.len(),
     }
@@ -83,7 +83,7 @@ fn place_in(steps: &[Step], key: &Text) -> usize
 fn has_id(book: &Book, id: &Text) -> bool
     ensures { result ≡ bytes_eq book.now.id id.now }
 {
-    book.id.text() == id.as_str()
+    book.id.text() == id.text()
 }
 
 // The number of the first playbook with this identifier.
@@ -98,7 +98,7 @@ fn find_bound<'a>(agents: &'a [(Text, u8)], to: &str) -> Option<&'a (Text, u8)>
     requires { AreInOrder agents.now }
     ensures { option_copied result ≡ find (λ entry. bytes_eq entry.0 to.now) agents.now }
 {
-    match agents.binary_search_by(|bound| bound.0.as_str().cmp(to)) {
+    match agents.binary_search_by(|bound| bound.0.text().cmp(to)) {
         Ok(place) => Some(&agents[place]),
         Err(_) => None,
     }
@@ -265,7 +265,7 @@ impl Setup {
         ensures least { 1 ≤ result }
         ensures most { result ≤ 16 }
     {
-        match find_bound(self.agents.as_slice(), to.as_str()) {
+        match find_bound(self.agents.as_slice(), to.text()) {
             Some(bound) => bound.1,
             None => 1,
         }

@@ -113,7 +113,7 @@ impl Entries {
     {
         let entries = self.as_slice();
         for entry in entries {
-            if entry.name.as_str() == name {
+            if entry.name.text() == name {
                 return Some(&entry.content);
             }
         }
@@ -130,7 +130,7 @@ pub(crate) fn read_content(alloc: Global, tree: &Tree) -> Result<Content, AllocE
         Tree::Null => Ok(Content::Null),
         Tree::Flag(flag) => Ok(Content::Flag(*flag)),
         Tree::Whole(number) => Ok(Content::Whole(*number)),
-        Tree::Text(text) => Ok(Content::Text(Phrase::read(alloc, text.as_str())?)),
+        Tree::Text(text) => Ok(Content::Text(Phrase::read(alloc, text.text())?)),
         Tree::List(items) => Ok(Content::List(read_contents(alloc, items)?)),
         Tree::Members(pairs) => Ok(Content::Members(read_entries(alloc, pairs)?)),
     }

@@ -74,7 +74,7 @@ impl Phrase {
     pub fn parts(&self) -> (&[Reference], &str)
         ensures { (f : List ℕ → List ℕ) → replaced_by f self.now ≡ spelled_by f result.0.now ++ result.1.now }
     {
-        (self.references.as_slice(), self.rest.as_str())
+        (self.references.as_slice(), self.rest.text())
     }
 
     /// The name, where the text is one whole reference. It takes no memory.

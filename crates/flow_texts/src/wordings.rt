@@ -31,7 +31,7 @@ pub struct BookWords {
 pub fn is_manual(command: &StepCommand) -> bool
     ensures { result ≡ is_manual command.now }
 {
-    command.kind.as_str() == "manual"
+    command.kind.text() == "manual"
 }
 
 // The content of a tree, if there is one.
@@ -68,7 +68,7 @@ fn read_question(alloc: Global, command: &StepCommand) -> Result<Option<Phrase>,
     }
     match &command.content {
         Some(text) => {
-            let phrase = Phrase::read(alloc, text.as_str())?;
+            let phrase = Phrase::read(alloc, text.text())?;
             Ok(Some(phrase))
         }
         None => Ok(None),

@@ -52,7 +52,7 @@ impl Run {
         let (references, rest) = phrase.parts();
         let mut made = String::new(alloc);
         for reference in references {
-            made.push_str(reference.before.as_str())?;
+            made.push_str(reference.before.text())?;
             self.add_value(&mut made, scope, &reference.name)?;
         }
         made.push_str(rest)?;

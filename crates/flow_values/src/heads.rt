@@ -39,7 +39,7 @@ fn run_of(text: &[u8]) -> &[u8]
 fn case_with<'a>(cases: &'a [Case], value: &str) -> Option<&'a Text>
     ensures { option_copied result ≡ case_with cases.now value.now }
 {
-    match cases.iter().find(|case| case.value.as_str() == value) {
+    match cases.iter().find(|case| case.value.text() == value) {
         Some(case) => Some(&case.step),
         None => None,
     }
@@ -65,7 +65,7 @@ impl Run {
         requires scope { sight.scope < length self.now.tables.scopes.items }
         ensures { option_copied result ≡ value_shown (lists_seen self.now sight.entry) (scope_seen self.now sight.entry) (name_run subject.now) }
     {
-        let name = run_of(subject.as_str().as_bytes());
+        let name = run_of(subject.text().as_bytes());
         match self.value_of_bytes(sight, name) {
             Some(word) => Some(word.text()),
             None => None,

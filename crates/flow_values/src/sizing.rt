@@ -138,7 +138,7 @@ impl Run {
     {
         let (references, rest) = phrase.parts();
         for reference in references {
-            take_text(left, reference.before.as_str(), quoted);
+            take_text(left, reference.before.text(), quoted);
             self.take_value(left, scope, &reference.name, quoted);
         }
         take_text(left, rest, quoted);
@@ -197,11 +197,11 @@ impl Run {
         requires there { scope < length self.now.tables.scopes.items }
         ensures { left.new ≡ left.old - member_bytes setting entry.now.name (filled (lists_of self.now.tables) scope (content_data entry.now.content)) }
     {
-        if setting.has(entry.name.as_str()) {
+        if setting.has(entry.name.text()) {
             return;
         }
         take(left, 4);
-        take_text(left, entry.name.as_str(), true);
+        take_text(left, entry.name.text(), true);
         self.take_filled(left, scope, &entry.content);
     }
 

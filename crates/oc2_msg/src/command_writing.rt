@@ -144,7 +144,7 @@ fn delete_tree(alloc: Global, number: u32) -> Result<Tree, AllocError>
 fn update_tree(alloc: Global, name: &Text) -> Result<Tree, AllocError>
     ensures { IfOk result (λ t. data_of t ≡ command_data (command.Update name.now)) }
 {
-    let name = text_tree(alloc, name.as_str())?;
+    let name = text_tree(alloc, name.text())?;
     let file = one_member(alloc, "name", name)?;
     let target = one_member(alloc, TargetKind::File.word(), file)?;
     message(alloc, Action::Update, None, target)

@@ -188,7 +188,7 @@ fn is_answer(alloc: Global, text: &str, status: u16, rule: u32, wanted: &str) ->
     }
     match read_response(alloc, text.as_bytes()) {
         Ok(answer) => {
-            answer.status == status && answer.rule == rule && answer.text.as_str() == wanted
+            answer.status == status && answer.rule == rule && answer.text.text() == wanted
         }
         Err(_) => false,
     }

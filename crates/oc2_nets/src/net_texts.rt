@@ -28,7 +28,7 @@ impl NetText {
     }
 
     /// The text.
-    pub fn as_str(&self) -> &str
+    pub fn text(&self) -> &str
         ensures { result.now ≡ self.now }
     {
         self.text.as_str()

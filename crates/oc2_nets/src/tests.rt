@@ -10,14 +10,14 @@ use std::test::Fail;
 fn prints4(rt: &impl Abort, alloc: Global, text: &str, printed: &str) -> Result<(), Fail> {
     let net = read_net4(text).ok_or("not read")?;
     let shown = print_net4(alloc, &net)?;
-    assert_eq!(rt; shown.as_str(), printed, "{text}");
+    assert_eq!(rt; shown.text(), printed, "{text}");
     Ok(())
 }
 
 fn prints6(rt: &impl Abort, alloc: Global, text: &str, printed: &str) -> Result<(), Fail> {
     let net = read_net6(text).ok_or("not read")?;
     let shown = print_net6(alloc, &net)?;
-    assert_eq!(rt; shown.as_str(), printed, "{text}");
+    assert_eq!(rt; shown.text(), printed, "{text}");
     Ok(())
 }
 

@@ -40,7 +40,7 @@ fn is_among(name: &str, words: &[&str]) -> bool
 fn is_named_among(pair: &Pair, words: &[&str]) -> bool
     ensures { result ≡ list_any (λ word. bytes_eq (pair_data pair.now).0 word.now) words.now }
 {
-    is_among(pair.name.as_str(), words)
+    is_among(pair.name.text(), words)
 }
 
 fn are_among(pairs: &[Pair], words: &[&str]) -> bool
@@ -62,7 +62,7 @@ pub fn has_only(tree: &Tree, names: &[&str]) -> bool
 fn name_and_value(pair: &Pair) -> (&str, &Tree)
     ensures { (result.0.now, data_of result.1.now) ≡ pair_data pair.now }
 {
-    (pair.name.as_str(), &pair.tree)
+    (pair.name.text(), &pair.tree)
 }
 
 /// The name and the value of the one member of an object.
@@ -99,7 +99,7 @@ pub fn is_absent_or_object(tree: &Tree, name: &str) -> bool
 pub fn str_of(tree: &Tree) -> Option<&str>
     ensures { option_map (λ text. text.now) result ≡ as_str (data_of tree.now) }
 {
-    Some(text_of(tree)?.as_str())
+    Some(text_of(tree)?.text())
 }
 
 /// The number in this range that the tree is.

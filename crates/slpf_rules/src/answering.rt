@@ -118,7 +118,7 @@ impl Table {
     fn foresee_update(&self, name: &Text) -> Response
         ensures { result ≡ (answer_command self.now (command.Update name.now) 0).0 }
     {
-        if name.as_str() == "empty.rules" {
+        if name.text() == "empty.rules" {
             said(self.allocator(), 200, 0, Reason::Empty)
         } else {
             said(self.allocator(), 500, 0, Reason::UnknownFile)
@@ -154,7 +154,7 @@ impl Table {
         ensures response { result ≡ (answer_command self.old (command.Update name.now) 0).0 }
         ensures rules { self.new ≡ (answer_command self.old (command.Update name.now) 0).1 }
     {
-        if name.as_str() == "empty.rules" {
+        if name.text() == "empty.rules" {
             self.clear();
             said(self.allocator(), 200, 0, Reason::Empty)
         } else {

@@ -10,8 +10,8 @@ loop-pair-init c = λ w. w
 pub loop-pair-preserved : goal.loop-pair-preserved
 loop-pair-preserved c =
     let p = c.pair-item.result in
-    let same : c.as_str.result.now ≡ (pair_data p).0 = c.as_str.ensures in
-    λ w. c.loop-pair.invariant (ascii_step c.as_str.result.now c.args.pairs.now c.loop-pair.pair-index p c.loop-pair-test.true c.pair-item.is same (search rules) w)
+    let same : c.text.result.now ≡ (pair_data p).0 = c.text.ensures in
+    λ w. c.loop-pair.invariant (ascii_step c.text.result.now c.args.pairs.now c.loop-pair.pair-index p c.loop-pair-test.true c.pair-item.is same (search rules) w)
 
 pub returns : goal.returns
 returns c =

@@ -16,7 +16,7 @@ loop-place-preserved c =
     let ps = c.args.pairs.now in
     let i = c.loop-place.place in
     let p = c.index-pairs-place.result in
-    let same : c.as_str-name.result.now ≡ (pair_data p).0 = c.as_str-name.ensures in
+    let same : c.text-name.result.now ≡ (pair_data p).0 = c.text-name.ensures in
     let stays : c.is_kept.result ≡ is_kept u (pair_data p).0 = c.is_kept.ensures ∙ ap (is_kept u) same in
     elim c.if-is_kept.branch [
       | then-is_kept+in_ok-units+in_ok-insert_key w ↦

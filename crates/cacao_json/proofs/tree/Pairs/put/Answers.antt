@@ -11,23 +11,23 @@ pub invariant_of-self : goal.invariant_of-self
 invariant_of-self c =
     let p : Pair = record { name = c.args.name; tree = c.args.tree } in
     let ps = c.self.inside.pairs.items in
-    subst AreSortedMembers (sym (set_there ps c.deref.result.now c.deref.ensures.value c.as_str.result.now c.in-Ok.place p c.as_str.ensures c.in-Ok.ensures))
-    (sorted_put c.args.name (data_of c.args.tree) (pairs_data ps) (subst IsUtf8 c.as_str.ensures c.as_str.utf8) c.tree_law.ensures c.self.invariant)
+    subst AreSortedMembers (sym (set_there ps c.deref.result.now c.deref.ensures.value c.text.result.now c.in-Ok.place p c.text.ensures c.in-Ok.ensures))
+    (sorted_put c.args.name (data_of c.args.tree) (pairs_data ps) (subst IsUtf8 c.text.ensures c.text.utf8) c.tree_law.ensures c.self.invariant)
 
 pub invariant_of-self-in-Err : goal.invariant_of-self-in-Err
 invariant_of-self-in-Err c =
     let p : Pair = record { name = c.args.name; tree = c.args.tree } in
     let ps = c.self.inside.pairs.items in
-    subst AreSortedMembers (sym (ap pairs_data c.in_ok-insert-in-Err.ensures.items ∙ inserted_there ps c.deref.result.now c.deref.ensures.value c.as_str.result.now c.in-Err.place p c.as_str.ensures c.in-Err.ensures))
-    (sorted_put c.args.name (data_of c.args.tree) (pairs_data ps) (subst IsUtf8 c.as_str.ensures c.as_str.utf8) c.tree_law.ensures c.self.invariant)
+    subst AreSortedMembers (sym (ap pairs_data c.in_ok-insert-in-Err.ensures.items ∙ inserted_there ps c.deref.result.now c.deref.ensures.value c.text.result.now c.in-Err.place p c.text.ensures c.in-Err.ensures))
+    (sorted_put c.args.name (data_of c.args.tree) (pairs_data ps) (subst IsUtf8 c.text.ensures c.text.utf8) c.tree_law.ensures c.self.invariant)
 
 pub returns-in-Ok : goal.returns-in-Ok
 returns-in-Ok c =
     let p : Pair = record { name = c.args.name; tree = c.args.tree } in
-    set_there c.self.inside.pairs.items c.deref.result.now c.deref.ensures.value c.as_str.result.now c.in-Ok.place p c.as_str.ensures c.in-Ok.ensures ∙ ap (put c.args.name (data_of c.args.tree)) c.self.view_is
+    set_there c.self.inside.pairs.items c.deref.result.now c.deref.ensures.value c.text.result.now c.in-Ok.place p c.text.ensures c.in-Ok.ensures ∙ ap (put c.args.name (data_of c.args.tree)) c.self.view_is
 
 pub returns-in_ok-insert-in-Err : goal.returns-in_ok-insert-in-Err
 returns-in_ok-insert-in-Err c =
     let p : Pair = record { name = c.args.name; tree = c.args.tree } in
     ap pairs_data c.in_ok-insert-in-Err.ensures.items
-    ∙ inserted_there c.self.inside.pairs.items c.deref.result.now c.deref.ensures.value c.as_str.result.now c.in-Err.place p c.as_str.ensures c.in-Err.ensures ∙ ap (put c.args.name (data_of c.args.tree)) c.self.view_is
+    ∙ inserted_there c.self.inside.pairs.items c.deref.result.now c.deref.ensures.value c.text.result.now c.in-Err.place p c.text.ensures c.in-Err.ensures ∙ ap (put c.args.name (data_of c.args.tree)) c.self.view_is

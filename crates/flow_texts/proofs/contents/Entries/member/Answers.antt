@@ -5,9 +5,9 @@ use Rattle.flow_texts.proofs.contents.Entries.member.Goals as goal
 
 pub returns-then-eq : goal.returns-then-eq
 returns-then-eq c =
-    member_here c.args.name.now c.as_slice-entries.result.now c.loop-entry.entry-index c.entry-item.result c.as_str.result.now c.loop-entry-test.true c.entry-item.is c.as_str.ensures (sym c.if-eq.ensures) c.loop-entry.invariant
+    member_here c.args.name.now c.as_slice-entries.result.now c.loop-entry.entry-index c.entry-item.result c.text.result.now c.loop-entry-test.true c.entry-item.is c.text.ensures (sym c.if-eq.ensures) c.loop-entry.invariant
     ∙ ap (get_member c.args.name.now) c.as_slice-entries.ensures.value
 
 pub loop-entry-preserved : goal.loop-entry-preserved
 loop-entry-preserved c =
-    member_behind c.args.name.now c.as_slice-entries.result.now c.loop-entry.entry-index c.entry-item.result c.as_str.result.now c.loop-entry-test.true c.entry-item.is c.as_str.ensures (sym c.if-eq.ensures) c.loop-entry.invariant
+    member_behind c.args.name.now c.as_slice-entries.result.now c.loop-entry.entry-index c.entry-item.result c.text.result.now c.loop-entry-test.true c.entry-item.is c.text.ensures (sym c.if-eq.ensures) c.loop-entry.invariant
