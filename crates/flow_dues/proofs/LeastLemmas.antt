@@ -1,13 +1,13 @@
 -- The least moments of blocks.
-use Rattle.std.proofs.Common.{◌≡◌, ◌⊎◌, inl, inr, ℕ, ◌+◌, ◌*◌, ◌/◌, ◌<◌, ◌≤◌, min, Bool, true, false, ◌||◌, Option, Some, None, List, [], ◌∷◌, ◌++◌, length, set, get_or, arith, refl, sym, ap, ◌∙◌, subst, get_or-set_same, get_or-set_other, length-set, length-append}
-use Rattle.std.specs.Prelude.{slice_get, nat_le, IfSome, is_some}
+use Rattle.std.proofs.Common.{◌≡◌, ◌⊎◌, inl, inr, ℕ, suc, ◌+◌, ◌*◌, ◌/◌, ◌<◌, ◌≤◌, min, Bool, true, false, cond, ◌||◌, Option, Some, None, List, [], ◌∷◌, ◌++◌, length, set, get_or, arith, refl, sym, ap, ◌∙◌, subst, get_or-set_same, get_or-set_other, length-set, length-append}
+use Rattle.std.specs.Prelude.{slice_get, nat_le, IfSome, is_some, count_by}
 use Rattle.std.proofs.lemmas.Bool.{cases_eq, cases_lt, cases_Bool, false≢true, or_cases, or_left, or_right, le-leb, leb-true}
 use Rattle.std.proofs.lemmas.Bool.Decides.{nat_tests}
 use Rattle.std.proofs.lemmas.List.{get_or_past, get_or_append_left, get_or_push, get_or_read}
 use Rattle.std.proofs.lemmas.Option.{none-some}
 use Rattle.flow_dues.specs.Pairs.{at, is_by, IsFirstBy, listed}
-use Rattle.flow_dues.specs.Least.{sooner, IsLeast, AreLeast, IsFirstWithin}
-use Rattle.flow_dues.proofs.ListedLemmas.{at-listed, IsQueue-listed, get_push_none}
+use Rattle.flow_dues.specs.Least.{sooner, IsLeast, AreLeast, IsKept, IsFirstWithin}
+use Rattle.flow_dues.proofs.ListedLemmas.{at-listed, IsQueue-listed, get_push_none, count_push, count_put, none_counted}
 use Rattle.flow_dues.proofs.FirstLemmas.{first_pair, no_pairs}
 
 or_false : (b : Bool) → b ≡ (b || false)
@@ -57,9 +57,67 @@ IsLeast-same ms new from to o same l = record {
   reached = λ t h none. l.reached t h (λ k a b. ap (λ v. is_by t v) (sym (same k a b)) ∙ none k a b);
 }
 
--- a number that had no moment gets one
-pub IsLeast-add : (ms : List (Option ℕ)) (from to n : ℕ) (o new : Option ℕ) → from ≤ n → n < to → n < length ms → get_or ms n None ≡ None → IsLeast ms from to o → IsLeast (set ms n new) from to (sooner o new)
-IsLeast-add ms from to n o new ge lt in_list empty l =
+-- a moment that is at most another is the lesser one
+pub sooner_is : (before due : ℕ) → due ≤ before → sooner (Some before) (Some due) ≡ Some due
+sooner_is before due le = let e : min before due ≡ due = omega arith in ap (λ m. Some m) e
+
+sooner_last : (t : ℕ) (old new : Option ℕ) → sooner old new ≡ new → is_by t old ≡ true → is_by t new ≡ true
+sooner_last t old new e h = subst (λ (o : Option ℕ). is_by t o ≡ true) e (sooner_left t old new h)
+
+not_before : (t : ℕ) (old new : Option ℕ) → sooner old new ≡ new → is_by t new ≡ false → is_by t old ≡ false
+not_before t old new e late = elim (cases_Bool (is_by t old)) [
+  | inl early ↦ absurd (both (is_by t new) late (sooner_last t old new e early))
+  | inr is_late ↦ is_late
+]
+
+-- a number gets a moment that is no later than the one before it
+pub IsLeast-sooner : (ms : List (Option ℕ)) (from to n : ℕ) (o new : Option ℕ) → from ≤ n → n < to → n < length ms → sooner (get_or ms n None) new ≡ new → IsLeast ms from to o → IsLeast (set ms n new) from to (sooner o new)
+IsLeast-sooner ms from to n o new ge lt in_list early l =
+    let here : get_or (set ms n new) n None ≡ new = get_or-set_same ms n new None in_list in
+    record {
+      bound = λ t k a b h. elim (cases_eq k n) [
+        | inl same ↦ sooner_right t o new (ap (λ v. is_by t v) (sym here) ∙ ap (λ j. is_by t (get_or (set ms n new) j None)) (sym same) ∙ h)
+        | inr other ↦ sooner_left t o new (l.bound t k a b (ap (λ v. is_by t v) (sym (get_or-set_other ms n k new None other)) ∙ h))
+      ];
+      reached = λ t h none.
+          let late : is_by t new ≡ false = ap (λ v. is_by t v) (sym here) ∙ none n ge lt in
+          elim (sooner_cases t o new h) [
+            | inl left ↦ l.reached t left (λ k a b. elim (cases_eq k n) [
+              | inl same ↦ ap (λ j. is_by t (get_or ms j None)) same ∙ not_before t (get_or ms n None) new early late
+              | inr other ↦ ap (λ v. is_by t v) (sym (get_or-set_other ms n k new None other)) ∙ none k a b
+            ])
+            | inr right ↦ both (is_by t new) late right
+          ];
+    }
+
+itself : (m : ℕ) → is_by m (Some m) ≡ true
+itself m = le-leb m m (omega arith)
+
+later_by : (t m : ℕ) (o : Option ℕ) → m ≤ t → is_by m o ≡ true → is_by t o ≡ true
+later_by t m None le h = absurd (false≢true h)
+later_by t m (Some x) le h = let below : x ≤ m = leb-true x m h in le-leb x t (omega arith)
+
+not_later_by : (t m : ℕ) (o : Option ℕ) → m ≤ t → is_by t o ≡ false → is_by m o ≡ false
+not_later_by t m o le late = elim (cases_Bool (is_by m o)) [
+  | inl early ↦ absurd (both (is_by t o) late (later_by t m o le early))
+  | inr is_late ↦ is_late
+]
+
+-- where a number had a moment later than the least one, some other number has the least one
+other_least : (ms : List (Option ℕ)) (from to n t : ℕ) (o : Option ℕ) → ((m : ℕ) → o ≡ Some m → is_by m (get_or ms n None) ≡ false) → IsLeast ms from to o
+    → is_by t o ≡ true → ((k : ℕ) → from ≤ k → k < to → (k ≡ n → ⊥) → is_by t (get_or ms k None) ≡ false) → ⊥
+other_least ms from to n t None later l early none = false≢true early
+other_least ms from to n t (Some m) later l early none =
+    let le : m ≤ t = leb-true m t early in
+    l.reached m (itself m) (λ k a b. elim (cases_eq k n) [
+      | inl same ↦ ap (λ j. is_by m (get_or ms j None)) same ∙ later m refl
+      | inr other ↦ not_later_by t m (get_or ms k None) le (none k a b other)
+    ])
+
+-- a number gets another moment, and the one before it was later than the least one
+pub IsLeast-later : (ms : List (Option ℕ)) (from to n : ℕ) (o new : Option ℕ) → from ≤ n → n < to → n < length ms → ((m : ℕ) → o ≡ Some m → is_by m (get_or ms n None) ≡ false)
+    → IsLeast ms from to o → IsLeast (set ms n new) from to (sooner o new)
+IsLeast-later ms from to n o new ge lt in_list later l =
     let here : get_or (set ms n new) n None ≡ new = get_or-set_same ms n new None in_list in
     record {
       bound = λ t k a b h. elim (cases_eq k n) [
@@ -67,10 +125,7 @@ IsLeast-add ms from to n o new ge lt in_list empty l =
         | inr other ↦ sooner_left t o new (l.bound t k a b (ap (λ v. is_by t v) (sym (get_or-set_other ms n k new None other)) ∙ h))
       ];
       reached = λ t h none. elim (sooner_cases t o new h) [
-        | inl left ↦ l.reached t left (λ k a b. elim (cases_eq k n) [
-          | inl same ↦ ap (λ v. is_by t v) (ap (λ j. get_or ms j None) same ∙ empty)
-          | inr other ↦ ap (λ v. is_by t v) (sym (get_or-set_other ms n k new None other)) ∙ none k a b
-        ])
+        | inl left ↦ other_least ms from to n t o later l left (λ k a b other. ap (λ v. is_by t v) (sym (get_or-set_other ms n k new None other)) ∙ none k a b)
         | inr right ↦ both (is_by t new) (ap (λ v. is_by t v) (sym here) ∙ none n ge lt) right
       ];
     }
@@ -78,42 +133,71 @@ IsLeast-add ms from to n o new ge lt in_list empty l =
 -- ---- all blocks
 
 pub AreLeast-put : (ms ls : List (Option ℕ)) (n : ℕ) (new o : Option ℕ) → AreLeast ms ls → n < length ms
-    → IsLeast (set ms n new) (1024 * (n / 1024)) (1024 * (n / 1024) + 1024) o → AreLeast (set ms n new) (set ls (n / 1024) o)
+    → IsLeast (set ms n new) (32 * (n / 32)) (32 * (n / 32) + 32) o → AreLeast (set ms n new) (set ls (n / 32) o)
 AreLeast-put ms ls n new o all lt block =
     let covers = all.covers in
-    let inside : n / 1024 < length ls = omega arith in
+    let inside : n / 32 < length ls = omega arith in
     record {
-      covers = omega (arith, length-set ms n new, length-set ls (n / 1024) o);
-      blocks = λ b below. elim (cases_eq b (n / 1024)) [
-        | inl same ↦ rw (same, get_or-set_same ls (n / 1024) o None inside) block
-        | inr other ↦ rw (get_or-set_other ls (n / 1024) b o None other) (IsLeast-same ms (set ms n new) (1024 * b) (1024 * b + 1024) (get_or ls b None)
-            (λ k a z. get_or-set_other ms n k new None (λ e. other (omega arith))) (all.blocks b (omega (arith, length-set ls (n / 1024) o))))
+      covers = omega (arith, length-set ms n new, length-set ls (n / 32) o);
+      blocks = λ b below. elim (cases_eq b (n / 32)) [
+        | inl same ↦ rw (same, get_or-set_same ls (n / 32) o None inside) block
+        | inr other ↦ rw (get_or-set_other ls (n / 32) b o None other) (IsLeast-same ms (set ms n new) (32 * b) (32 * b + 32) (get_or ls b None)
+            (λ k a z. get_or-set_other ms n k new None (λ e. other (omega arith))) (all.blocks b (omega (arith, length-set ls (n / 32) o))))
       ];
     }
 
-none_from : (o : Option ℕ) → is_some o ≡ false → o ≡ None
-none_from None h = refl
-none_from (Some m) h = absurd (false≢true (sym h))
+-- the block of a number is there
+pub block_there : (ms ls : List (Option ℕ)) (n : ℕ) → AreLeast ms ls → n < length ms → n / 32 < length ls
+block_there ms ls n all lt = let covers = all.covers in omega arith
 
--- a number without a moment gets one, or none
-pub AreLeast-first : (ms ls : List (Option ℕ)) (n : ℕ) (before block new o : Option ℕ) → AreLeast ms ls → n < length ms → before ≡ get_or ms n before
-    → is_some before ≡ false → block ≡ get_or ls (n / 1024) block → o ≡ sooner block new → AreLeast (set ms n new) (set ls (n / 1024) o)
-AreLeast-first ms ls n before block new o all lt was empty read e =
+-- a number gets a moment that is no later than the one before it
+pub AreLeast-sooner : (ms ls : List (Option ℕ)) (n : ℕ) (before block new o : Option ℕ) → AreLeast ms ls → n < length ms → before ≡ get_or ms n before
+    → sooner before new ≡ new → block ≡ get_or ls (n / 32) None → o ≡ sooner block new → AreLeast (set ms n new) (set ls (n / 32) o)
+AreLeast-sooner ms ls n before block new o all lt was early read e =
     let covers = all.covers in
-    let inside : n / 1024 < length ls = omega arith in
-    let gone : get_or ms n None ≡ None = sym (get_or_read ms n before lt was None) ∙ none_from before empty in
-    let same : get_or ls (n / 1024) None ≡ block = sym (get_or_read ls (n / 1024) block inside read None) in
-    let left : IsLeast ms (1024 * (n / 1024)) (1024 * (n / 1024) + 1024) block = subst (λ (l : Option ℕ). IsLeast ms (1024 * (n / 1024)) (1024 * (n / 1024) + 1024) l) same (all.blocks (n / 1024) inside) in
-    AreLeast-put ms ls n new o all lt (rw e (IsLeast-add ms (1024 * (n / 1024)) (1024 * (n / 1024) + 1024) n block new (omega arith) (omega arith) lt gone left))
+    let inside : n / 32 < length ls = omega arith in
+    let there : sooner (get_or ms n None) new ≡ new = ap (λ v. sooner v new) (sym (get_or_read ms n before lt was None)) ∙ early in
+    let left : IsLeast ms (32 * (n / 32)) (32 * (n / 32) + 32) block = subst (λ (l : Option ℕ). IsLeast ms (32 * (n / 32)) (32 * (n / 32) + 32) l) (sym read) (all.blocks (n / 32) inside) in
+    AreLeast-put ms ls n new o all lt (rw e (IsLeast-sooner ms (32 * (n / 32)) (32 * (n / 32) + 32) n block new (omega arith) (omega arith) lt there left))
+
+-- a number gets another moment, and the one before it was later than the least one of its block
+pub AreLeast-later : (ms ls : List (Option ℕ)) (n : ℕ) (before block new o : Option ℕ) → AreLeast ms ls → n < length ms → before ≡ get_or ms n before
+    → ((m : ℕ) → block ≡ Some m → is_by m before ≡ false) → block ≡ get_or ls (n / 32) None → o ≡ sooner block new → AreLeast (set ms n new) (set ls (n / 32) o)
+AreLeast-later ms ls n before block new o all lt was later read e =
+    let covers = all.covers in
+    let inside : n / 32 < length ls = omega arith in
+    let left : IsLeast ms (32 * (n / 32)) (32 * (n / 32) + 32) block = subst (λ (l : Option ℕ). IsLeast ms (32 * (n / 32)) (32 * (n / 32) + 32) l) (sym read) (all.blocks (n / 32) inside) in
+    AreLeast-put ms ls n new o all lt (rw e (IsLeast-later ms (32 * (n / 32)) (32 * (n / 32) + 32) n block new (omega arith) (omega arith) lt
+    (λ m is. ap (λ v. is_by m v) (sym (get_or_read ms n before lt was None)) ∙ later m is) left))
 
 -- a number gets another moment, and its block is looked through
 pub AreLeast-again : (ms ls l : List (Option ℕ)) (n : ℕ) (new o : Option ℕ) → AreLeast ms ls → n < length ms → l ≡ set ms n new
-    → IsLeast l (1024 * (n / 1024)) (1024 * (n / 1024) + 1024) o → AreLeast (set ms n new) (set ls (n / 1024) o)
+    → IsLeast l (32 * (n / 32)) (32 * (n / 32) + 32) o → AreLeast (set ms n new) (set ls (n / 32) o)
 AreLeast-again ms ls l n new o all lt e block =
-    AreLeast-put ms ls n new o all lt (subst (λ (m : List (Option ℕ)). IsLeast m (1024 * (n / 1024)) (1024 * (n / 1024) + 1024) o) e block)
+    AreLeast-put ms ls n new o all lt (subst (λ (m : List (Option ℕ)). IsLeast m (32 * (n / 32)) (32 * (n / 32) + 32) o) e block)
+
+-- where no number has a moment, no block has one
+IsLeast-quiet : (ms : List (Option ℕ)) (from to : ℕ) → ((k : ℕ) → get_or ms k None ≡ None) → IsLeast ms from to None
+IsLeast-quiet ms from to quiet = record {
+  bound = λ t k a b h. absurd (both (is_by t (get_or ms k None)) (ap (λ v. is_by t v) (quiet k)) h);
+  reached = λ t h none. false≢true h;
+}
+
+quiet_least : (ms : List (Option ℕ)) (from to : ℕ) (o : Option ℕ) → ((k : ℕ) → get_or ms k None ≡ None) → IsLeast ms from to o → o ≡ None
+quiet_least ms from to None quiet l = refl
+quiet_least ms from to (Some m) quiet l = absurd (l.reached m (itself m) (λ k a b. ap (λ v. is_by m v) (quiet k)))
+
+quiet_above : (ms ls : List (Option ℕ)) → AreLeast ms ls → ((k : ℕ) → get_or ms k None ≡ None) → (b : ℕ) → get_or ls b None ≡ None
+quiet_above ms ls all quiet b = elim (cases_lt b (length ls)) [
+  | inl inside ↦ quiet_least ms (32 * b) (32 * b + 32) (get_or ls b None) quiet (all.blocks b inside)
+  | inr past ↦ get_or_past ls b None past
+]
+
+AreLeast-quiet : (ms ls : List (Option ℕ)) (n : ℕ) → AreLeast ms ls → n < length ms → ((k : ℕ) → get_or (set ms n None) k None ≡ None) → AreLeast (set ms n None) (set ls (n / 32) None)
+AreLeast-quiet ms ls n all lt quiet = AreLeast-put ms ls n None None all lt (IsLeast-quiet (set ms n None) (32 * (n / 32)) (32 * (n / 32) + 32) quiet)
 
 -- a block more, of numbers past the end
-pub AreLeast-block : (ms ls : List (Option ℕ)) → AreLeast ms ls → length ms ≡ 1024 * length ls → AreLeast ms (ls ++ None ∷ [])
+pub AreLeast-block : (ms ls : List (Option ℕ)) → AreLeast ms ls → length ms ≡ 32 * length ls → AreLeast ms (ls ++ None ∷ [])
 AreLeast-block ms ls all full = record {
   covers = omega (arith, length-append ls (None ∷ []));
   blocks = λ b below. elim (cases_lt b (length ls)) [
@@ -128,11 +212,66 @@ AreLeast-block ms ls all full = record {
 }
 
 -- a number more, without a moment
-pub AreLeast-number : (ms ls : List (Option ℕ)) → AreLeast ms ls → length ms < 1024 * length ls → AreLeast (ms ++ None ∷ []) ls
+pub AreLeast-number : (ms ls : List (Option ℕ)) → AreLeast ms ls → length ms < 32 * length ls → AreLeast (ms ++ None ∷ []) ls
 AreLeast-number ms ls all room = record {
   covers = omega (arith, length-append ms (None ∷ []));
-  blocks = λ b below. IsLeast-same ms (ms ++ None ∷ []) (1024 * b) (1024 * b + 1024) (get_or ls b None) (λ k a z. get_push_none ms k) (all.blocks b below);
+  blocks = λ b below. IsLeast-same ms (ms ++ None ∷ []) (32 * b) (32 * b + 32) (get_or ls b None) (λ k a z. get_push_none ms k) (all.blocks b below);
 }
+
+-- one number more, with room at each level
+pub kept_more : (ms low middle high new_low new_middle new_high new ms_seen low_seen middle_seen : List (Option ℕ)) (count : ℕ) → IsKept ms low middle high count
+    → middle_seen ≡ middle → low_seen ≡ low → ms_seen ≡ ms → AreLeast middle_seen new_high → length middle_seen < 32 * length new_high → length new_high ≤ 4294967296
+    → AreLeast low_seen new_middle → length low_seen < 32 * length new_middle → length new_middle ≤ 4294967296
+    → ((above : List (Option ℕ)) → AreLeast middle above → length middle < 32 * length above → AreLeast new_middle above)
+    → AreLeast ms_seen new_low → length ms_seen < 32 * length new_low → length new_low ≤ 4294967296
+    → ((above : List (Option ℕ)) → AreLeast low above → length low < 32 * length above → AreLeast new_low above)
+    → new ≡ ms ++ None ∷ [] → length ms + 1 < 4294967296 → IsKept new new_low new_middle new_high count
+kept_more ms low middle high new_low new_middle new_high new ms_seen low_seen middle_seen count k e1 e2 e3 high_tells high_room high_few middle_tells middle_room middle_few middle_above low_tells low_room low_few low_above e lt = record {
+  low_of = subst (λ (l : List (Option ℕ)). AreLeast l new_low) (sym e)
+      (AreLeast-number ms new_low (subst (λ (l : List (Option ℕ)). AreLeast l new_low) e3 low_tells) (subst (λ (l : List (Option ℕ)). length l < 32 * length new_low) e3 low_room));
+  middle_of = low_above new_middle (subst (λ (l : List (Option ℕ)). AreLeast l new_middle) e2 middle_tells) (subst (λ (l : List (Option ℕ)). length l < 32 * length new_middle) e2 middle_room);
+  high_of = middle_above new_high (subst (λ (l : List (Option ℕ)). AreLeast l new_high) e1 high_tells) (subst (λ (l : List (Option ℕ)). length l < 32 * length new_high) e1 high_room);
+  counted = k.counted ∙ sym (ap (λ (l : List (Option ℕ)). count_by is_some l) e ∙ count_push ms);
+  small = subst (λ (l : List (Option ℕ)). length l < 4294967296) (sym e) (omega (arith, length-append ms (None ∷ [])));
+  few_low = low_few;
+  few_middle = middle_few;
+  few_high = high_few;
+}
+
+-- where the count becomes 0 no number has a moment, so this one lost it
+empty_put : (ms : List (Option ℕ)) (count n r : ℕ) (before due : Option ℕ) → count ≡ count_by is_some ms → n < length ms → before ≡ get_or ms n before
+    → r + cond (is_some before) 1 0 ≡ count + cond (is_some due) 1 0 → r ≡ 0 → count_by is_some (set ms n due) ≡ 0
+empty_put ms count n r before due counted lt was sum zero = let put = count_put ms n before due lt (get_or_read ms n before lt was None) in omega (arith, counted, sum, zero, put)
+
+pub lost : (ms : List (Option ℕ)) (count n r : ℕ) (before due : Option ℕ) → count ≡ count_by is_some ms → n < length ms → before ≡ get_or ms n before
+    → r + cond (is_some before) 1 0 ≡ count + cond (is_some due) 1 0 → r ≡ 0 → due ≡ None
+lost ms count n r before due counted lt was sum zero =
+    sym (get_or-set_same ms n due None lt) ∙ none_counted (set ms n due) n (empty_put ms count n r before due counted lt was sum zero)
+
+-- the last number with a moment lost it
+pub kept_lost : (ms low middle high : List (Option ℕ)) (count n r : ℕ) (before due : Option ℕ) → IsKept ms low middle high count → n < length ms → before ≡ get_or ms n before
+    → r + cond (is_some before) 1 0 ≡ count + cond (is_some due) 1 0 → r ≡ 0
+    → IsKept (set ms n None) (set low (n / 32) None) (set middle (n / 32 / 32) None) (set high (n / 32 / 32 / 32) None) r
+kept_lost ms low middle high count n r before due k lt was sum zero =
+    let none : due ≡ None = lost ms count n r before due k.counted lt was sum zero in
+    let empty : count_by is_some (set ms n None) ≡ 0 =
+    subst (λ (o : Option ℕ). count_by is_some (set ms n o) ≡ 0) none (empty_put ms count n r before due k.counted lt was sum zero) in
+    let quiet : (j : ℕ) → get_or (set ms n None) j None ≡ None = λ j. none_counted (set ms n None) j empty in
+    let lows : AreLeast (set ms n None) (set low (n / 32) None) = AreLeast-quiet ms low n k.low_of lt quiet in
+    let quiet_low : (j : ℕ) → get_or (set low (n / 32) None) j None ≡ None = quiet_above (set ms n None) (set low (n / 32) None) lows quiet in
+    let in_low : n / 32 < length low = block_there ms low n k.low_of lt in
+    let middles : AreLeast (set low (n / 32) None) (set middle (n / 32 / 32) None) = AreLeast-quiet low middle (n / 32) k.middle_of in_low quiet_low in
+    let quiet_middle : (j : ℕ) → get_or (set middle (n / 32 / 32) None) j None ≡ None = quiet_above (set low (n / 32) None) (set middle (n / 32 / 32) None) middles quiet_low in
+    record {
+      low_of = lows;
+      middle_of = middles;
+      high_of = AreLeast-quiet middle high (n / 32 / 32) k.high_of (block_there low middle (n / 32) k.middle_of in_low) quiet_middle;
+      counted = zero ∙ sym empty;
+      small = let small = k.small in omega (arith, length-set ms n None);
+      few_low = let few = k.few_low in omega (arith, length-set low (n / 32) None);
+      few_middle = let few = k.few_middle in omega (arith, length-set middle (n / 32 / 32) None);
+      few_high = let few = k.few_high in omega (arith, length-set high (n / 32 / 32 / 32) None);
+    }
 
 pub AreLeast-nil : AreLeast [] []
 AreLeast-nil = record { covers = omega arith; blocks = λ b below. absurd (omega arith) }
@@ -149,24 +288,34 @@ late_block t from to k ms o l late a b = elim (cases_Bool (is_by t (get_or ms k 
   | inr no_by ↦ no_by
 ]
 
-pub late_more : (t n : ℕ) (ms : List (Option ℕ)) (o : Option ℕ) → IsLeast ms (1024 * n) (1024 * n + 1024) o → is_by t o ≡ false
-    → ((k : ℕ) → k < 1024 * n → is_by t (get_or ms k None) ≡ false) → (k : ℕ) → k < 1024 * (n + 1) → is_by t (get_or ms k None) ≡ false
-late_more t n ms o l late none k lt = elim (cases_lt k (1024 * n)) [
-  | inl before ↦ none k before
-  | inr here ↦ late_block t (1024 * n) (1024 * n + 1024) k ms o l late here (omega arith)
+-- nor of the blocks before one
+before_block : (t n : ℕ) (ms ls : List (Option ℕ)) → AreLeast ms ls → ((b : ℕ) → b < n → is_by t (get_or ls b None) ≡ false) → (k : ℕ) → k < 32 * n → is_by t (get_or ms k None) ≡ false
+before_block t n ms ls all none k lt = elim (cases_lt k (length ms)) [
+  | inl inside ↦
+      let covers = all.covers in
+      let below : k / 32 < length ls = omega arith in
+      late_block t (32 * (k / 32)) (32 * (k / 32) + 32) k ms (get_or ls (k / 32) None) (all.blocks (k / 32) below) (none (k / 32) (omega arith)) (omega arith) (omega arith)
+  | inr past ↦ past_none t ms k past
 ]
 
-pub none_at_all : (t : ℕ) (ms ls : List (Option ℕ)) (n : ℕ) → AreLeast ms ls → length ls ≤ n → ((k : ℕ) → k < 1024 * n → is_by t (get_or ms k None) ≡ false)
-    → IsFirstBy t (λ k. get_or ms k None) None
-none_at_all t ms ls n all le none = λ k. elim (cases_lt k (1024 * n)) [
-  | inl before ↦ none k before
-  | inr past ↦ let covers = all.covers in past_none t ms k (omega arith)
-]
+pub none_under : (t : ℕ) (ms ls : List (Option ℕ)) → AreLeast ms ls → IsFirstBy t (λ k. get_or ls k None) None → IsFirstBy t (λ k. get_or ms k None) None
+none_under t ms ls all none = λ k. before_block t (suc k) ms ls all (λ b lt. none b) k (omega arith)
 
 pub found_there : (t from to : ℕ) (ms : List (Option ℕ)) (least o : Option ℕ) → IsLeast ms from to least → is_by t least ≡ true
     → ((k : ℕ) → k < from → is_by t (get_or ms k None) ≡ false) → IsFirstWithin ms from to t o → IsFirstBy t (λ k. get_or ms k None) o
 found_there t from to ms least None l early none h = absurd (l.reached t early h)
 found_there t from to ms least (Some n) l early none h = (h.2, λ k lt. elim (cases_lt k from) [ inl before ↦ none k before | inr here ↦ h.3 k here lt ])
+
+-- the first number is in the first block that has one
+pub found_under : (t n : ℕ) (ms ls : List (Option ℕ)) (o : Option ℕ) → AreLeast ms ls → n < length ls → IsFirstBy t (λ k. get_or ls k None) (Some n)
+    → IsFirstWithin ms (32 * n) (32 * n + 32) t o → IsFirstBy t (λ k. get_or ms k None) o
+found_under t n ms ls o all inside h within =
+    found_there t (32 * n) (32 * n + 32) ms (get_or ls n None) o (all.blocks n inside) h.0 (before_block t n ms ls all h.1) within
+
+-- the first of a whole list
+pub first_whole : (t : ℕ) (ms : List (Option ℕ)) (o : Option ℕ) → IsFirstWithin ms 0 (length ms) t o → IsFirstBy t (λ k. get_or ms k None) o
+first_whole t ms None h = λ k. elim (cases_lt k (length ms)) [ inl inside ↦ h k (omega arith) inside | inr past ↦ past_none t ms k past ]
+first_whole t ms (Some n) h = (h.2, λ k lt. h.3 k (omega arith) lt)
 
 pub in_list : (t : ℕ) (ms : List (Option ℕ)) (o : Option ℕ) → IsFirstBy t (λ k. get_or ms k None) o → IfSome o (λ n. n < length ms)
 in_list t ms None h = tt
@@ -181,17 +330,30 @@ first_at t ms (Some n) h = (ap (λ v. is_by t v) (at-listed ms n) ∙ h.0, λ k 
 
 -- ---- the least pair
 
-itself : (m : ℕ) → is_by m (Some m) ≡ true
-itself m = le-leb m m (omega arith)
-
--- each moment is by the least of the blocks' least ones
-reaches : (ms ls : List (Option ℕ)) (o : Option ℕ) (k m : ℕ) → AreLeast ms ls → IsLeast ls 0 (length ls) o → get_or ms k None ≡ Some m → is_by m o ≡ true
-reaches ms ls o k m all top e = elim (cases_lt k (length ms)) [
-  | inl inside ↦
+-- the least of the blocks' least moments is the least moment
+pub IsLeast-under : (ms ls : List (Option ℕ)) (o : Option ℕ) → AreLeast ms ls → IsLeast ls 0 (length ls) o → IsLeast ms 0 (length ms) o
+IsLeast-under ms ls o all top = record {
+  bound = λ t k a inside h.
       let covers = all.covers in
-      let below : k / 1024 < length ls = omega arith in
-      top.bound m (k / 1024) (omega arith) below
-      ((all.blocks (k / 1024) below).bound m k (omega arith) (omega arith) (ap (λ v. is_by m v) e ∙ itself m))
+      let below : k / 32 < length ls = omega arith in
+      top.bound t (k / 32) (omega arith) below ((all.blocks (k / 32) below).bound t k (omega arith) (omega arith) h);
+  reached = λ t h none. top.reached t h (λ b a below. elim (cases_Bool (is_by t (get_or ls b None))) [
+    | inl early ↦ absurd ((all.blocks b below).reached t early (λ k x y. elim (cases_lt k (length ms)) [
+      | inl inside ↦ none k (omega arith) inside
+      | inr past ↦ past_none t ms k past
+    ]))
+    | inr late ↦ late
+  ]);
+}
+
+pub kept_least : (ms low middle high : List (Option ℕ)) (count : ℕ) (o : Option ℕ) → IsKept ms low middle high count → IsLeast high 0 (length high) o → IsLeast ms 0 (length ms) o
+kept_least ms low middle high count o k top =
+    IsLeast-under ms low o k.low_of (IsLeast-under low middle o k.middle_of (IsLeast-under middle high o k.high_of top))
+
+-- each moment is by the least of all
+reaches : (ms : List (Option ℕ)) (o : Option ℕ) (k m : ℕ) → IsLeast ms 0 (length ms) o → get_or ms k None ≡ Some m → is_by m o ≡ true
+reaches ms o k m top e = elim (cases_lt k (length ms)) [
+  | inl inside ↦ top.bound m k (omega arith) inside (ap (λ v. is_by m v) e ∙ itself m)
   | inr past ↦ absurd (none-some m (sym (get_or_past ms k None past) ∙ e))
 ]
 
@@ -199,26 +361,22 @@ none_of : (o : Option ℕ) → ((m : ℕ) → o ≡ Some m → ⊥) → o ≡ No
 none_of None h = refl
 none_of (Some m) h = absurd (h m refl)
 
-pub first_none : (ms ls : List (Option ℕ)) → AreLeast ms ls → IsLeast ls 0 (length ls) None → slice_get (listed ms) 0 ≡ None
-first_none ms ls all top =
-    ap (λ ds. slice_get ds 0) (no_pairs (listed ms) (λ k. at-listed ms k ∙ none_of (get_or ms k None) (λ m e. false≢true (reaches ms ls None k m all top e))))
+pub first_none : (ms : List (Option ℕ)) → IsLeast ms 0 (length ms) None → slice_get (listed ms) 0 ≡ None
+first_none ms top =
+    ap (λ ds. slice_get ds 0) (no_pairs (listed ms) (λ k. at-listed ms k ∙ none_of (get_or ms k None) (λ m e. false≢true (reaches ms None k m top e))))
 
 -- the least moment of all is that of some number
-pub first_found : (ms ls : List (Option ℕ)) (moment : ℕ) → AreLeast ms ls → IsLeast ls 0 (length ls) (Some moment) → IsFirstBy moment (at (listed ms)) None → ⊥
-first_found ms ls moment all top none =
-    top.reached moment (itself moment) (λ b a below. elim (cases_Bool (is_by moment (get_or ls b None))) [
-      | inl early ↦ absurd ((all.blocks b below).reached moment early (λ k x y. ap (λ v. is_by moment v) (sym (at-listed ms k)) ∙ none k))
-      | inr late ↦ late
-    ])
+pub first_found : (ms : List (Option ℕ)) (moment : ℕ) → IsLeast ms 0 (length ms) (Some moment) → IsFirstBy moment (at (listed ms)) None → ⊥
+first_found ms moment top none = top.reached moment (itself moment) (λ k x y. ap (λ v. is_by moment v) (sym (at-listed ms k)) ∙ none k)
 
 some_by : (t : ℕ) (o : Option ℕ) → is_by t o ≡ true → (m : ℕ) × (o ≡ Some m) × (m ≤ t)
 some_by t None h = absurd (false≢true h)
 some_by t (Some m) h = (m, refl, leb-true m t h)
 
-pub first_some : (ms ls : List (Option ℕ)) (moment n : ℕ) → AreLeast ms ls → IsLeast ls 0 (length ls) (Some moment) → IsFirstBy moment (at (listed ms)) (Some n)
+pub first_some : (ms : List (Option ℕ)) (moment n : ℕ) → IsLeast ms 0 (length ms) (Some moment) → IsFirstBy moment (at (listed ms)) (Some n)
     → slice_get (listed ms) 0 ≡ Some (moment, n)
-first_some ms ls moment n all top h =
-    let low : (k l : ℕ) → at (listed ms) k ≡ Some l → moment ≤ l = λ k l e. leb-true moment l (reaches ms ls (Some moment) k l all top (sym (at-listed ms k) ∙ e)) in
+first_some ms moment n top h =
+    let low : (k l : ℕ) → at (listed ms) k ≡ Some l → moment ≤ l = λ k l e. leb-true moment l (reaches ms (Some moment) k l top (sym (at-listed ms k) ∙ e)) in
     let has = some_by moment (at (listed ms) n) h.0 in
     let ge : moment ≤ has.0 = low n has.0 has.1 in
     let same : has.0 ≡ moment = omega (arith, has.2, ge) in

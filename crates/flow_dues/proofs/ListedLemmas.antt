@@ -85,6 +85,13 @@ count_push [] = refl
 count_push (None ∷ ms) = let e = count_push ms in omega arith
 count_push (Some m ∷ ms) = let e = count_push ms in omega (arith, some_more m ms, some_more m (ms ++ None ∷ []))
 
+-- no number has a moment
+pub none_counted : (ms : List (Option ℕ)) (k : ℕ) → count_by is_some ms ≡ 0 → get_or ms k None ≡ None
+none_counted [] k e = refl
+none_counted (Some m ∷ ms) k e = absurd (omega (arith, some_more m ms))
+none_counted (None ∷ ms) zero e = refl
+none_counted (None ∷ ms) (suc k) e = none_counted ms k e
+
 -- ---- one number gets another moment
 
 pub at_put : (ms : List (Option ℕ)) (n k : ℕ) (new : Option ℕ) → n < length ms → at (listed (set ms n new)) k ≡ cond (k == n) new (at (listed ms) k)

@@ -1,4 +1,4 @@
--- Moments kept by number, and the least moment of each block of 1,024 numbers.
+-- Moments kept by number, and the least moment of each block of 32.
 use Rattle.std.specs.Prelude.{◌≡◌, ℕ, ◌<◌, ◌≤◌, ◌+◌, ◌*◌, min, true, false, List, length, slice_index_or, count_by, Option, Some, None, is_some}
 use Rattle.flow_dues.specs.Pairs.{is_by}
 
@@ -17,15 +17,19 @@ pub record IsLeast (moments : List (Option ℕ)) (from to : ℕ) (least : Option
 
 -- the least moments of the blocks, and the blocks hold all numbers
 pub record AreLeast (moments least : List (Option ℕ)) : Type 0 where
-  pub covers : length moments ≤ 1024 * length least
-  pub blocks : (b : ℕ) → b < length least → IsLeast moments (1024 * b) (1024 * b + 1024) (slice_index_or least b None)
+  pub covers : length moments ≤ 32 * length least
+  pub blocks : (b : ℕ) → b < length least → IsLeast moments (32 * b) (32 * b + 32) (slice_index_or least b None)
 
--- the least moments, how many numbers have a moment, and that numbers are of 32 bits, so blocks of 22
-pub record IsKept (moments least : List (Option ℕ)) (count : ℕ) : Type 0 where
-  pub least_of : AreLeast moments least
+-- the least moments of blocks, of blocks of these, and of blocks of those; how many numbers have a moment; and that numbers are of 32 bits
+pub record IsKept (moments low middle high : List (Option ℕ)) (count : ℕ) : Type 0 where
+  pub low_of : AreLeast moments low
+  pub middle_of : AreLeast low middle
+  pub high_of : AreLeast middle high
   pub counted : count ≡ count_by is_some moments
   pub small : length moments < 4294967296
-  pub few : length least ≤ 4194304
+  pub few_low : length low ≤ 4294967296
+  pub few_middle : length middle ≤ 4294967296
+  pub few_high : length high ≤ 4294967296
 
 -- the first number from one on and below another whose moment is at most this one
 abbrev pub IsFirstWithin : List (Option ℕ) → ℕ → ℕ → ℕ → Option ℕ → Type 0

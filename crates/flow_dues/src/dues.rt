@@ -2,7 +2,7 @@
 ghost use Rattle.std.specs.Prelude.{◌≡◌, ℕ, ◌+◌, ◌<◌, ◌≤◌, ◌==◌, [], length, OnOk, Some, None, slice_get, if◌then◌else◌};
 ghost use Rattle.flow_dues.specs.Pairs.{at, with_due, without, least_by, IsFirstBy, IsQueue};
 
-use crate::least::{add_block, first_number, least_of_all, moment_of, put, recount};
+use crate::least::{add_block, first_below, first_of_all, least_of_all, moment_of, put, recount};
 use std::alloc::{AllocError, Global};
 use std::marker::Model;
 
@@ -12,7 +12,10 @@ use std::marker::Model;
 #[derive(Drop)]
 pub struct Dues {
     moments: Vec<Option<u64>>,
-    least: Vec<Option<u64>>,
+    // The least moment of each block of 32 numbers, of each 32 of these blocks, and of each 32 of those.
+    low: Vec<Option<u64>>,
+    middle: Vec<Option<u64>>,
+    high: Vec<Option<u64>>,
     count: usize,
 }
 
@@ -25,7 +28,7 @@ impl Model for Dues {
 
     ghost view = { λ d. record { pairs = listed d.moments.items; room = length d.moments.items } };
 
-    ghost invariant = { λ d. IsKept d.moments.items d.least.items d.count };
+    ghost invariant = { λ d. IsKept d.moments.items d.low.items d.middle.items d.high.items d.count };
 }
 
 impl Dues {
@@ -36,7 +39,9 @@ impl Dues {
     {
         Dues {
             moments: Vec::new(alloc),
-            least: Vec::new(alloc),
+            low: Vec::new(alloc),
+            middle: Vec::new(alloc),
+            high: Vec::new(alloc),
             count: 0,
         }
     }
@@ -48,7 +53,9 @@ impl Dues {
         ensures room { self.old.room ≤ self.new.room }
         ensures ok { OnOk result (self.new.room ≡ self.old.room + 1) }
     {
-        add_block(&self.moments, &mut self.least)?;
+        add_block(&self.middle, &mut self.high)?;
+        add_block(&self.low, &mut self.middle)?;
+        add_block(&self.moments, &mut self.low)?;
         self.moments.push(None)?;
         Ok(())
     }
@@ -74,7 +81,7 @@ impl Dues {
         let _ = &self.moments;
     }
 
-    // Gives a number another moment, or none.
+    // Gives a number another moment, or none. Where no number has a moment any more no level is looked through.
     fn give(&mut self, number: usize, due: Option<u64>)
         requires { number < self.old.room }
         ensures each { (n : ℕ) → at self.new.pairs n ≡ (if n == number then due else at self.old.pairs n) }
@@ -83,7 +90,19 @@ impl Dues {
         ensures room { self.new.room ≡ self.old.room }
     {
         self.count = recount(self.count, self.moments[number], due);
-        put(&mut self.moments, &mut self.least, number, due);
+        let block = number / 32;
+        let group = block / 32;
+        if self.count == 0 {
+            self.moments[number] = None;
+            self.low[block] = None;
+            self.middle[group] = None;
+            self.high[group / 32] = None;
+            return;
+        }
+        let low = put(&mut self.moments, &self.low, number, due);
+        let middle = put(&mut self.low, &self.middle, block, low);
+        let high = put(&mut self.middle, &self.high, group, middle);
+        self.high[group / 32] = high;
     }
 
     /// Gives a number this moment, whatever it had. It takes no memory.
@@ -119,7 +138,7 @@ impl Dues {
     pub fn first(&self) -> Option<(u64, u32)>
         ensures { result ≡ slice_get self.now.pairs 0 }
     {
-        let moment = least_of_all(&self.least)?;
+        let moment = least_of_all(&self.high)?;
         let number = self.least_by(moment)?;
         Some((moment, number))
     }
@@ -129,7 +148,10 @@ impl Dues {
         ensures number { result ≡ least_by self.now.pairs moment }
         ensures each { IsFirstBy moment (at self.now.pairs) result }
     {
-        let number = first_number(&self.moments, &self.least, moment)?;
+        let group = first_of_all(&self.high, moment);
+        let block = first_below(&self.middle, &self.high, moment, group);
+        let low = first_below(&self.low, &self.middle, moment, block);
+        let number = first_below(&self.moments, &self.low, moment, low)?;
         Some(number as u32)
     }
 

@@ -1,5 +1,6 @@
 // The least moments of blocks of numbers.
-ghost use Rattle.std.specs.Prelude.{◌≡◌, ℕ, ◌+◌, ◌*◌, ◌<◌, ◌≤◌, ◌≢◌, length, slice_index_or, slice_set, None, is_some, IfSome, OnOk, if◌then◌else◌};
+ghost use Rattle.std.specs.Prelude.{◌≡◌, ℕ, ◌+◌, ◌*◌, ◌/◌, ◌<◌, ◌≤◌, List, length, Option, slice_index_or, slice_set, Some, None, false, is_some, IfSome, OnOk, if◌then◌else◌};
+ghost use Rattle.std.specs.Bool.{OnTrue};
 ghost use Rattle.flow_dues.specs.Pairs.{is_by, IsFirstBy};
 ghost use Rattle.flow_dues.specs.Least.{sooner, IsLeast, AreLeast, IsFirstWithin};
 
@@ -62,23 +63,32 @@ fn first_by(moments: &[Option<u64>], from: usize, to: usize, moment: u64) -> Opt
     None
 }
 
-// The first number whose moment is at most this one.
-pub(crate) fn first_number(
-    moments: &[Option<u64>],
-    least: &[Option<u64>],
-    moment: u64,
-) -> Option<usize>
-    requires tells { AreLeast moments.now least.now }
-    requires few { length least.now ≤ 4194304 }
+// The first of these moments that is at most this one.
+pub(crate) fn first_of_all(moments: &[Option<u64>], moment: u64) -> Option<usize>
     ensures number { IsFirstBy moment (λ n. slice_index_or moments.now n None) result }
     ensures within { IfSome result (λ n. n < length moments.now) }
 {
-    for block in 0..least.len() {
-        if is_by(least[block], moment) {
-            return first_by(moments, 1024 * block, 1024 * block + 1024, moment);
-        }
+    first_by(moments, 0, moments.len(), moment)
+}
+
+// The first number whose moment is at most this one, by the first block whose least moment is.
+pub(crate) fn first_below(
+    moments: &[Option<u64>],
+    least: &[Option<u64>],
+    moment: u64,
+    found: Option<usize>,
+) -> Option<usize>
+    requires tells { AreLeast moments.now least.now }
+    requires few { length least.now ≤ 4294967296 }
+    requires found { IsFirstBy moment (λ n. slice_index_or least.now n None) found }
+    requires there { IfSome found (λ n. n < length least.now) }
+    ensures number { IsFirstBy moment (λ n. slice_index_or moments.now n None) result }
+    ensures within { IfSome result (λ n. n < length moments.now) }
+{
+    match found {
+        Some(block) => first_by(moments, 32 * block, 32 * block + 32, moment),
+        None => None,
     }
-    None
 }
 
 // The least of these moments.
@@ -88,28 +98,53 @@ pub(crate) fn least_of_all(least: &[Option<u64>]) -> Option<u64>
     least_in(least, 0, least.len())
 }
 
-// Gives a number another moment, or none.
+// Whether a moment is no later than the one before it.
+fn is_no_later(due: Option<u64>, before: Option<u64>) -> bool
+    ensures { OnTrue result (sooner before due ≡ due) }
+{
+    match (before, due) {
+        (None, _) => true,
+        (Some(_), None) => false,
+        (Some(before), Some(due)) => due <= before,
+    }
+}
+
+// Whether a moment is later than the least one of its block.
+fn is_later(due: Option<u64>, least: Option<u64>) -> bool
+    ensures { OnTrue result ((m : ℕ) → least ≡ Some m → is_by m due ≡ false) }
+{
+    match (due, least) {
+        (Some(due), Some(least)) => least < due,
+        _ => false,
+    }
+}
+
+// Gives a number another moment, or none. The least moment of its block is told. The block is looked through only where the
+// moment before was the least one and the new one is later.
 pub(crate) fn put(
     moments: &mut Vec<Option<u64>>,
-    least: &mut Vec<Option<u64>>,
+    least: &[Option<u64>],
     number: usize,
     due: Option<u64>,
-)
+) -> Option<u64>
     requires within { number < length moments.old.items }
-    requires tells { AreLeast moments.old.items least.old.items }
-    requires small { length moments.old.items < 4294967296 }
+    requires tells { AreLeast moments.old.items least.now }
+    requires small { length moments.old.items ≤ 4294967296 }
     ensures moments { moments.new.items ≡ slice_set moments.old.items number due }
-    ensures tells { AreLeast moments.new.items least.new.items }
-    ensures len { length least.new.items ≡ length least.old.items }
+    ensures block { number / 32 < length least.now }
+    ensures tells { AreLeast moments.new.items (slice_set least.now (number / 32) result) }
 {
-    let block = number / 1024;
+    let block = number / 32;
     let before = moments[number];
     moments[number] = due;
-    if before.is_none() {
-        least[block] = sooner(least[block], due);
-        return;
+    let was = moment_of(least, block);
+    if is_no_later(due, before) {
+        return sooner(was, due);
     }
-    least[block] = least_in(moments, 1024 * block, 1024 * block + 1024);
+    if is_later(before, was) {
+        return sooner(was, due);
+    }
+    least_in(moments, 32 * block, 32 * block + 32)
 }
 
 // Adds a block for one number more, where the last one is full.
@@ -118,13 +153,15 @@ pub(crate) fn add_block(
     least: &mut Vec<Option<u64>>,
 ) -> Result<(), AllocError>
     requires tells { AreLeast moments.now least.old.items }
-    requires few { length least.old.items ≤ 4194304 }
-    requires small { length moments.now < 4294967296 }
+    requires few { length least.old.items ≤ 4294967296 }
+    requires small { length moments.now ≤ 4294967296 }
     ensures tells { AreLeast moments.now least.new.items }
-    ensures few { length least.new.items ≤ 4194304 }
-    ensures ok { OnOk result (length moments.now < 1024 * length least.new.items) }
+    ensures few { length least.new.items ≤ 4294967296 }
+    ensures above { (above : List (Option ℕ)) → AreLeast least.old.items above → length least.old.items < 32 * length above
+        → AreLeast least.new.items above }
+    ensures ok { OnOk result (length moments.now < 32 * length least.new.items) }
 {
-    if moments.len() < 1024 * least.len() {
+    if moments.len() < 32 * least.len() {
         return Ok(());
     }
     least.push(None)?;

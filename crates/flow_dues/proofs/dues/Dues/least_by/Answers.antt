@@ -19,16 +19,16 @@ number_of t l ms q room o e v h =
 
 pub returns-in_err-number-clause-number : goal.returns-in_err-number-clause-number
 returns-in_err-number-clause-number c =
-    c.from_residual.ensures ∙ number_of c.args.moment c.deref.result.now c.self.inside.moments.items c.args.self.now _ None c.deref.ensures.value c.self.view_is c.in_err-number.ensures.number
+    c.from_residual.ensures ∙ number_of c.args.moment c.deref-6.result.now c.self.inside.moments.items c.args.self.now _ None c.deref-6.ensures.value c.self.view_is c.in_err-number.ensures.number
 
 pub returns-in_err-number-clause-each : goal.returns-in_err-number-clause-each
 returns-in_err-number-clause-each c =
-    rw c.from_residual.ensures (each_of c.args.moment c.deref.result.now c.self.inside.moments.items c.args.self.now _ None c.deref.ensures.value c.self.view_is c.in_err-number.ensures.number)
+    rw c.from_residual.ensures (each_of c.args.moment c.deref-6.result.now c.self.inside.moments.items c.args.self.now _ None c.deref-6.ensures.value c.self.view_is c.in_err-number.ensures.number)
 
 pub returns-clause-number : goal.returns-clause-number
 returns-clause-number c =
-    number_of c.args.moment c.deref.result.now c.self.inside.moments.items c.args.self.now _ (Some c.in_ok-number.number) c.deref.ensures.value c.self.view_is c.in_ok-number.ensures.number
+    number_of c.args.moment c.deref-6.result.now c.self.inside.moments.items c.args.self.now _ (Some c.in_ok-number.number) c.deref-6.ensures.value c.self.view_is c.in_ok-number.ensures.number
 
 pub returns-clause-each : goal.returns-clause-each
 returns-clause-each c =
-    each_of c.args.moment c.deref.result.now c.self.inside.moments.items c.args.self.now _ (Some c.in_ok-number.number) c.deref.ensures.value c.self.view_is c.in_ok-number.ensures.number
+    each_of c.args.moment c.deref-6.result.now c.self.inside.moments.items c.args.self.now _ (Some c.in_ok-number.number) c.deref-6.ensures.value c.self.view_is c.in_ok-number.ensures.number
