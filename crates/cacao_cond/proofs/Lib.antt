@@ -5,5 +5,5 @@ pub mod Sound
 pub mod Again
 pub mod NameLemmas
 pub mod Printed
-pub mod ListedLemmas
 pub mod PartLemmas
+pub mod TruthLemmas

@@ -7,7 +7,7 @@ use Rattle.cacao_cond.specs.Trees.ConstantTree.{last_constant, more_constants}
 use Rattle.cacao_cond.specs.Trees.AnyTree.{last_part, or_else}
 use Rattle.cacao_cond.specs.Trees.AllTree.{last_prime, and_also}
 use Rattle.cacao_cond.specs.Worths.{Worth}
-use Rattle.cacao_cond.specs.Truth.{equals, holds, holds_all, holds_prime, is_among}
+use Rattle.cacao_cond.specs.Truth.{equals, holds_by, holds_all, holds_prime, is_among}
 use Rattle.cacao_cond.specs.Names.{named, named_all, named_prime}
 use Rattle.cacao_cond.specs.Parts.{parts_of, primes_of, constants_in, AreLists, SaysByParts}
 
@@ -94,13 +94,13 @@ constants_are_lists = record { some = some_constants; made = made_constants; one
 
 -- ---- what they say
 
-holds_by_parts : (cond : AnyTree) (values : List (List ℕ × Worth)) → holds cond values ≡ list_any (λ part. holds_all part values) (parts_of cond)
-holds_by_parts (last_part part) values = or_none (holds_all part values)
-holds_by_parts (or_else part rest) values = ap (λ b. holds_all part values || b) (holds_by_parts rest values)
+holds_by_parts : (cond : AnyTree) (worth : List ℕ → Worth) → holds_by cond worth ≡ list_any (λ part. holds_all part worth) (parts_of cond)
+holds_by_parts (last_part part) worth = or_none (holds_all part worth)
+holds_by_parts (or_else part rest) worth = ap (λ b. holds_all part worth || b) (holds_by_parts rest worth)
 
-holds_by_primes : (part : AllTree) (values : List (List ℕ × Worth)) → holds_all part values ≡ list_all (λ prime. holds_prime prime values) (primes_of part)
-holds_by_primes (last_prime prime) values = and_none (holds_prime prime values)
-holds_by_primes (and_also prime rest) values = ap (λ b. holds_prime prime values && b) (holds_by_primes rest values)
+holds_by_primes : (part : AllTree) (worth : List ℕ → Worth) → holds_all part worth ≡ list_all (λ prime. holds_prime prime worth) (primes_of part)
+holds_by_primes (last_prime prime) worth = and_none (holds_prime prime worth)
+holds_by_primes (and_also prime rest) worth = ap (λ b. holds_prime prime worth && b) (holds_by_primes rest worth)
 
 among_by_constants : (constants : ConstantTree) (value : Worth) → is_among value constants ≡ list_any (equals value) (constants_in constants)
 among_by_constants (last_constant constant) value = or_none (equals value constant)

@@ -5,5 +5,4 @@ pub mod Truth
 pub mod Names
 pub mod Printing
 pub mod Worths
-pub mod Listed
 pub mod Parts

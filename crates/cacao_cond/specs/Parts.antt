@@ -7,7 +7,7 @@ use Rattle.cacao_cond.specs.Trees.ConstantTree.{last_constant, more_constants}
 use Rattle.cacao_cond.specs.Trees.AnyTree.{last_part, or_else}
 use Rattle.cacao_cond.specs.Trees.AllTree.{last_prime, and_also}
 use Rattle.cacao_cond.specs.Worths.{Worth}
-use Rattle.cacao_cond.specs.Truth.{equals, holds, holds_all, holds_prime, is_among}
+use Rattle.cacao_cond.specs.Truth.{equals, holds_by, holds_all, holds_prime, is_among}
 use Rattle.cacao_cond.specs.Names.{named, named_all, named_prime}
 
 -- the parts of a condition, of which one has to hold
@@ -33,8 +33,8 @@ pub record AreLists {T X : Type 0} (items : T → List X) : Type 0 where
 
 -- what a condition says, by its lists
 pub record SaysByParts : Type 0 where
-  pub any : (cond : AnyTree) (values : List (List ℕ × Worth)) → holds cond values ≡ list_any (λ part. holds_all part values) (parts_of cond)
-  pub all : (part : AllTree) (values : List (List ℕ × Worth)) → holds_all part values ≡ list_all (λ prime. holds_prime prime values) (primes_of part)
+  pub any : (cond : AnyTree) (worth : List ℕ → Worth) → holds_by cond worth ≡ list_any (λ part. holds_all part worth) (parts_of cond)
+  pub all : (part : AllTree) (worth : List ℕ → Worth) → holds_all part worth ≡ list_all (λ prime. holds_prime prime worth) (primes_of part)
   pub among : (constants : ConstantTree) (value : Worth) → is_among value constants ≡ list_any (equals value) (constants_in constants)
   pub names : (cond : AnyTree) → named cond ≡ flat_map named_all (parts_of cond)
   pub part_names : (part : AllTree) → named_all part ≡ flat_map named_prime (primes_of part)

@@ -1,4 +1,4 @@
--- The truth of a condition where its variables have these values.
+-- The truth of a condition where its variables have values.
 use Rattle.std.specs.Prelude.{ℕ, ◌&&◌, ◌||◌, Bool, true, false, not, List, codes, find, unwrap_or, option_map, Option, Some, None}
 use Rattle.std.specs.Bool.{beq}
 use Rattle.std.specs.Fmt.{signed_decimal}
@@ -70,18 +70,23 @@ abbrev pub is_among : Worth → ConstantTree → Bool
 is_among a (last_constant b) = equals a b
 is_among a (more_constants b rest) = equals a b || is_among a rest
 
+-- whether a condition holds where each name has this value
 abbrev mutual
   -- one of the parts holds
-  pub holds : AnyTree → List (List ℕ × Worth) → Bool
-  holds (last_part part) values = holds_all part values
-  holds (or_else part rest) values = holds_all part values || holds rest values
+  pub holds_by : AnyTree → (List ℕ → Worth) → Bool
+  holds_by (last_part part) worth = holds_all part worth
+  holds_by (or_else part rest) worth = holds_all part worth || holds_by rest worth
 
   -- each of the parts holds
-  pub holds_all : AllTree → List (List ℕ × Worth) → Bool
-  holds_all (last_prime prime) values = holds_prime prime values
-  holds_all (and_also prime rest) values = holds_prime prime values && holds_all rest values
+  pub holds_all : AllTree → (List ℕ → Worth) → Bool
+  holds_all (last_prime prime) worth = holds_prime prime worth
+  holds_all (and_also prime rest) worth = holds_prime prime worth && holds_all rest worth
 
-  pub holds_prime : PrimeTree → List (List ℕ × Worth) → Bool
-  holds_prime (group any) values = holds any values
-  holds_prime (compared name op constant) values = compares (worth_in values name) op constant
-  holds_prime (among name constants) values = is_among (worth_in values name) constants
+  pub holds_prime : PrimeTree → (List ℕ → Worth) → Bool
+  holds_prime (group any) worth = holds_by any worth
+  holds_prime (compared name op constant) worth = compares (worth name) op constant
+  holds_prime (among name constants) worth = is_among (worth name) constants
+
+-- whether it holds where these values are listed
+abbrev pub holds : AnyTree → List (List ℕ × Worth) → Bool
+holds any values = holds_by any (worth_in values)

@@ -1,11 +1,9 @@
 // The values by which conditions are decided.
-ghost use Rattle.std.specs.Prelude.{◌≡◌, ◌++◌, [], ◌∷◌, OnOk, OnErr, Option, option_map};
+ghost use Rattle.std.specs.Prelude.{◌≡◌, option_map};
 ghost use Rattle.cacao_cond.specs.Worths.{worth_of, whole_worth, flag_worth, value_of};
 
 use cacao_vars::{Kind, Name};
 use decimals::read_integer;
-use std::alloc::{AllocError, Global};
-use std::marker::Model;
 
 /// The value of a variable: unset, a whole number, a flag, or a text.
 #[derive(Clone, Copy, Debug, PartialEq, Eq)]
@@ -61,50 +59,19 @@ pub fn value_of<'a>(kind: &Kind, text: Option<&'a str>) -> Atom<'a>
     }
 }
 
-/// The values of names. A name that is not listed is unset.
-#[derive(Debug, Drop)]
-pub struct Values<'a> {
-    items: Vec<(&'a Name, Atom<'a>)>,
-}
-
-impl<'a> Model for Values<'a> {
-    ghost use Rattle.std.specs.Prelude.{List, ℕ};
+/// Gives names their values, for a condition to be decided by them.
+pub trait Worths {
+    ghost use Rattle.std.specs.Prelude.{List, ℕ, ⊤};
     ghost use Rattle.cacao_cond.specs.Worths.{Worth};
 
-    ghost Value = { List (List ℕ × Worth) };
+    // What a name is worth.
+    ghost worth: { Self → List ℕ → Worth };
 
-    ghost use Rattle.cacao_cond.specs.Listed.{listed};
+    // Whether it may be asked.
+    ghost may_tell: { Self → Type 0 } = { λ worths. ⊤ };
 
-    ghost view = { λ values. listed values.items.items };
-}
-
-mod finding;
-
-impl<'a> Values<'a> {
-    ghost use Rattle.cacao_cond.specs.Truth.{worth_at};
-
-    /// No values. It takes no memory.
-    pub fn new(alloc: Global) -> Values<'a>
-        ensures { result ≡ [] }
-    {
-        Values {
-            items: Vec::new(alloc),
-        }
-    }
-
-    /// Adds the value of a name.
-    pub fn push(&mut self, name: &'a Name, atom: Atom<'a>) -> Result<(), AllocError>
-        ensures ok { OnOk result (self.new ≡ self.old ++ (name.now, worth_of atom.entry) ∷ []) }
-        ensures err { OnErr result (self.new ≡ self.old) }
-    {
-        self.items.push((name, atom))?;
-        Ok(())
-    }
-
-    /// The value of a name, where it is listed. It takes no memory.
-    pub fn find(&self, name: &Name) -> Option<Atom<'a>>
-        ensures { option_map worth_of result ≡ worth_at self.now name.now }
-    {
-        finding::find_in(self.items.as_slice(), name)
-    }
+    /// The value of a name: unset where it has none.
+    fn worth(&self, name: &Name) -> Atom<'_>
+        requires { may_tell self.now }
+        ensures { worth_of result ≡ worth self.now name.now };
 }

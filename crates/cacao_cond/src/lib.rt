@@ -11,7 +11,7 @@ mod tokens;
 mod trees;
 mod truths;
 
-pub use deciding::{Atom, Values, value_of};
+pub use deciding::{Atom, Worths, value_of};
 pub use errors::CondError;
 pub use laws::{conditions_are_lists, spells_at_most_one};
 pub use naming::names;

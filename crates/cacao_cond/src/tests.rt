@@ -1,5 +1,5 @@
 // Rows whose answers are known from outside.
-use crate::{Atom, Cond, CondError, Values, names, print_cond, read_cond, truth, value_of};
+use crate::{Atom, Cond, CondError, Worths, names, print_cond, read_cond, truth, value_of};
 use cacao_vars::{Kind, Name};
 use std::alloc::Global;
 use std::test::Fail;
@@ -13,10 +13,6 @@ fn read(alloc: Global, text: &str) -> Result<Option<Cond>, Fail> {
         Err(CondError::Grammar) => Ok(None),
         Err(CondError::Memory) => Err("memory")?,
     }
-}
-
-fn name(alloc: Global, text: &str) -> Result<Name, Fail> {
-    Ok(Name::read(alloc, text)?.ok_or("no name")?)
 }
 
 #[test]
@@ -86,6 +82,25 @@ fn a_thousand_parentheses(rt: HostRuntime) -> Result<(), Fail> {
     Ok(())
 }
 
+// Whether such a condition holds, where it is one.
+fn nested_truth(alloc: Global, depth: u32) -> Result<Option<bool>, Fail> {
+    let text = nested(alloc, depth, depth)?;
+    let two = Two {
+        a: Atom::Whole(1),
+        b: Atom::Unset,
+    };
+    match read(alloc, text.as_str())? {
+        Some(cond) => Ok(Some(truth(&cond, &two))),
+        None => Ok(None),
+    }
+}
+
+#[test]
+fn a_thousand_parentheses_decided(rt: HostRuntime) -> Result<(), Fail> {
+    assert_eq!(rt; nested_truth(rt.alloc(), 1000)?, Some(true));
+    Ok(())
+}
+
 #[test]
 fn printed_texts(rt: HostRuntime) -> Result<(), Fail> {
     let alloc = rt.alloc();
@@ -110,97 +125,87 @@ fn printed_texts(rt: HostRuntime) -> Result<(), Fail> {
     Ok(())
 }
 
-/// Names of variables.
+/// The values of two names; all others are unset.
 #[derive(Drop)]
-struct Names {
-    severity: Name,
-    host: Name,
-    a: Name,
-    flag: Name,
-    none: Name,
-    low: Name,
-    yes: Name,
+struct Two<'a> {
+    a: Atom<'a>,
+    b: Atom<'a>,
 }
 
-impl Names {
-    /// One value for each, and a second one for `a`.
-    fn values<'a>(&'a self, alloc: Global) -> Result<Values<'a>, Fail> {
-        let mut values = Values::new(alloc);
-        values.push(&self.severity, Atom::Whole(8))?;
-        values.push(&self.host, Atom::Text("198.51.100.7"))?;
-        values.push(&self.a, Atom::Text("10"))?;
-        values.push(&self.a, Atom::Text("11"))?;
-        values.push(&self.flag, Atom::Flag(false))?;
-        values.push(&self.none, Atom::Unset)?;
-        values.push(&self.low, Atom::Whole(-2))?;
-        values.push(&self.yes, Atom::Text("true"))?;
-        Ok(values)
+impl<'a> Worths for Two<'a> {
+    ghost use Rattle.std.specs.Prelude.{codes, if◌then◌else◌};
+    ghost use Rattle.std.specs.Str.{bytes_eq};
+    ghost use Rattle.cacao_cond.specs.Worths.{worth_of, unset};
+
+    ghost worth = { λ two name.
+        if bytes_eq name (codes "__a__") then worth_of two.a
+        else if bytes_eq name (codes "__b__") then worth_of two.b
+        else unset };
+
+    fn worth(&self, name: &Name) -> Atom<'_> {
+        match name.text() {
+            "__a__" => self.a,
+            "__b__" => self.b,
+            _ => Atom::Unset,
+        }
     }
 }
 
 #[test]
 fn truths(rt: HostRuntime) -> Result<(), Fail> {
     let alloc = rt.alloc();
-    let severity = name(alloc, "__severity__")?;
-    let host = name(alloc, "__host__")?;
-    let a = name(alloc, "__a__")?;
-    let flag = name(alloc, "__flag__")?;
-    let none = name(alloc, "__none__")?;
-    let low = name(alloc, "__low__")?;
-    let yes = name(alloc, "__yes__")?;
-    let names = Names {
-        severity,
-        host,
-        a,
-        flag,
-        none,
-        low,
-        yes,
-    };
-    let values = names.values(alloc)?;
+    let ten = Atom::Text("10");
+    let host = Atom::Text("198.51.100.7");
     let table = [
         (
-            "__severity__:value >= 7 AND (__host__:value IN ('198.51.100.7', '10.0.0.1') OR __rule__:value = 0)",
+            host,
+            "__b__:value >= 7 AND (__a__:value IN ('198.51.100.7', '10.0.0.1') OR __rule__:value = 0)",
             true,
         ),
-        ("__a__:value = 10", true),
-        ("__a__:value < 11", false),
-        ("__a__:value != 10", false),
-        ("__a__:value < '9'", true),
-        ("__severity__:value > 10", false),
-        ("__severity__:value = '8'", true),
-        ("__flag__:value < true", true),
-        ("__flag__:value = 'false'", true),
-        ("__flag__:value != 0", true),
-        ("__flag__:value = false", true),
-        ("__flag__:value = 'true'", false),
-        ("__severity__:value >= 8", true),
-        ("__severity__:value <= 8", true),
-        ("__severity__:value > -2", true),
-        ("__low__:value < 1", true),
-        ("__low__:value > 1", false),
-        ("__low__:value = -2", true),
-        ("__yes__:value = true", true),
-        ("__yes__:value > true", false),
-        ("__severity__:value = 8 OR __a__:value = 1", true),
-        ("__severity__:value IN (7, 8)", true),
-        ("__severity__:value = 8 AND __a__:value = 1", false),
-        ("__severity__:value = 7 OR __a__:value = 1", false),
-        ("__none__:value != 1", false),
-        ("__rule__:value != 1", false),
-        ("__rule__:value IN (0)", false),
+        (ten, "__a__:value = 10", true),
+        (ten, "__a__:value < 11", false),
+        (ten, "__a__:value != 10", false),
+        (ten, "__a__:value < '9'", true),
+        (ten, "__b__:value > 10", false),
+        (ten, "__b__:value = '8'", true),
+        (Atom::Flag(false), "__a__:value < true", true),
+        (Atom::Flag(false), "__a__:value = 'false'", true),
+        (Atom::Flag(false), "__a__:value != 0", true),
+        (Atom::Flag(false), "__a__:value = false", true),
+        (Atom::Flag(false), "__a__:value = 'true'", false),
+        (ten, "__b__:value >= 8", true),
+        (ten, "__b__:value <= 8", true),
+        (ten, "__b__:value > -2", true),
+        (Atom::Whole(-2), "__a__:value < 1", true),
+        (Atom::Whole(-2), "__a__:value > 1", false),
+        (Atom::Whole(-2), "__a__:value = -2", true),
+        (Atom::Text("true"), "__a__:value = true", true),
+        (Atom::Text("true"), "__a__:value > true", false),
+        (ten, "__b__:value = 8 OR __a__:value = 1", true),
+        (ten, "__b__:value IN (7, 8)", true),
+        (ten, "__b__:value = 8 AND __a__:value = 1", false),
+        (ten, "__b__:value = 7 OR __a__:value = 1", false),
+        (Atom::Unset, "__a__:value != 1", false),
+        (ten, "__rule__:value != 1", false),
+        (ten, "__rule__:value IN (0)", false),
         (
+            ten,
             "__a__:value = 1 AND __a__:value = 1 OR __a__:value = 10",
             true,
         ),
         (
+            ten,
             "__a__:value = 10 OR __a__:value = 1 AND __a__:value = 1",
             true,
         ),
     ];
-    for (text, wanted) in table {
+    for (a, text, wanted) in table {
+        let two = Two {
+            a,
+            b: Atom::Whole(8),
+        };
         let cond = read(alloc, text)?.ok_or("no condition")?;
-        assert_eq!(rt; truth(&cond, &values), wanted, "{text}");
+        assert_eq!(rt; truth(&cond, &two), wanted, "{text}");
     }
     Ok(())
 }

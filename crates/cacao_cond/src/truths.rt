@@ -4,9 +4,9 @@ ghost use Rattle.std.specs.Fmt.{signed_decimal};
 ghost use Rattle.std.specs.Str.{bytes_eq};
 ghost use Rattle.cacao_cond.specs.Worths.{whole, flag, text, worth_of};
 ghost use Rattle.cacao_cond.specs.Trees.{constants_of, tree_of, all_of_tree, prime_tree};
-ghost use Rattle.cacao_cond.specs.Truth.{flag_text, equals, order_of, compares, is_among, holds, holds_all, holds_prime, worth_in};
+ghost use Rattle.cacao_cond.specs.Truth.{flag_text, equals, order_of, compares, is_among, holds_by, holds_all, holds_prime};
 
-use crate::deciding::{Atom, Values};
+use crate::deciding::{Atom, Worths};
 use crate::trees::{AllOf, Cond, Constant, Constants, Op, Prime};
 use cacao_vars::Name;
 use itoa::Buffer;
@@ -128,52 +128,52 @@ fn is_one_of(value: Atom<'_>, constants: &Constants) -> bool
     }
 }
 
-fn compared_is_true(name: &Name, op: Op, constant: &Constant, values: &Values<'_>) -> bool
-    ensures { result ≡ compares (worth_in values.now name.now) op constant.now }
+fn compared_is_true<W: Worths>(name: &Name, op: Op, constant: &Constant, worths: &W) -> bool
+    requires { W.may_tell worths.now }
+    ensures { result ≡ compares (W.worth worths.now name.now) op constant.now }
 {
-    match values.find(name) {
-        Some(value) => is_true_of(value, op, constant),
-        None => is_true_of(Atom::Unset, op, constant),
-    }
+    is_true_of(worths.worth(name), op, constant)
 }
 
-fn among_is_true(name: &Name, constants: &Constants, values: &Values<'_>) -> bool
-    ensures { result ≡ is_among (worth_in values.now name.now) (constants_of constants.now) }
+fn among_is_true<W: Worths>(name: &Name, constants: &Constants, worths: &W) -> bool
+    requires { W.may_tell worths.now }
+    ensures { result ≡ is_among (W.worth worths.now name.now) (constants_of constants.now) }
 {
-    match values.find(name) {
-        Some(value) => is_one_of(value, constants),
-        None => is_one_of(Atom::Unset, constants),
-    }
+    is_one_of(worths.worth(name), constants)
 }
 
-/// Whether the condition holds where its variables have these values. It takes no memory.
+/// Whether the condition holds where its names have these values. Each is asked for where it is compared, so this takes
+/// no memory of its own; what behind an `OR` or an `AND` decides nothing more is not asked for.
 #[cycle(truth)]
-pub fn truth(cond: &Cond, values: &Values<'_>) -> bool
-    ensures { result ≡ holds (tree_of cond.now) values.now }
+pub fn truth<W: Worths>(cond: &Cond, worths: &W) -> bool
+    requires { W.may_tell worths.now }
+    ensures { result ≡ holds_by (tree_of cond.now) (W.worth worths.now) }
 {
     match cond {
-        Cond::Last(part) => all_hold(part, values),
-        Cond::Or(part, rest) => all_hold(part, values) || truth(rest, values),
+        Cond::Last(part) => all_hold(part, worths),
+        Cond::Or(part, rest) => all_hold(part, worths) || truth(rest, worths),
     }
 }
 
 #[cycle(truth)]
-fn all_hold(all: &AllOf, values: &Values<'_>) -> bool
-    ensures { result ≡ holds_all (all_of_tree all.now) values.now }
+fn all_hold<W: Worths>(all: &AllOf, worths: &W) -> bool
+    requires { W.may_tell worths.now }
+    ensures { result ≡ holds_all (all_of_tree all.now) (W.worth worths.now) }
 {
     match all {
-        AllOf::Last(prime) => prime_holds(prime, values),
-        AllOf::And(prime, rest) => prime_holds(prime, values) && all_hold(rest, values),
+        AllOf::Last(prime) => prime_holds(prime, worths),
+        AllOf::And(prime, rest) => prime_holds(prime, worths) && all_hold(rest, worths),
     }
 }
 
 #[cycle(truth)]
-fn prime_holds(prime: &Prime, values: &Values<'_>) -> bool
-    ensures { result ≡ holds_prime (prime_tree prime.now) values.now }
+fn prime_holds<W: Worths>(prime: &Prime, worths: &W) -> bool
+    requires { W.may_tell worths.now }
+    ensures { result ≡ holds_prime (prime_tree prime.now) (W.worth worths.now) }
 {
     match prime {
-        Prime::Group(cond) => truth(cond, values),
-        Prime::Compare { name, op, constant } => compared_is_true(name, *op, constant, values),
-        Prime::Among { name, constants } => among_is_true(name, constants, values),
+        Prime::Group(cond) => truth(cond, worths),
+        Prime::Compare { name, op, constant } => compared_is_true(name, *op, constant, worths),
+        Prime::Among { name, constants } => among_is_true(name, constants, worths),
     }
 }
