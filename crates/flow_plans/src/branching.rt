@@ -239,7 +239,7 @@ pub(crate) fn control(
         opening: Some(&stand.step.variables),
         scope: stand.task.scope,
     };
-    let head = run.head(alloc, stand, sight)?;
+    let head = run.head(stand, sight);
     let plan = single(run, alloc, stand, head)?;
     Ok(plan)
 }

@@ -36,8 +36,8 @@ fn issue_with(stand: Stand<'_>, agent: u8, bytes: Bytes) -> Issue
     }
 }
 
-// The edits of a new issue.
-fn planned(alloc: Global, task: u32, made: Made) -> Result<Vec<Planned>, AllocError>
+/// The edits of a new issue.
+pub fn planned(alloc: Global, task: u32, made: Made) -> Result<Vec<Planned>, AllocError>
     ensures edits { IfOk result (λ plan. edits_of plan.items ≡ (made_of task made).1) }
     ensures declared { IfOk result (λ plan. AreDeclared plan.items) }
 {

@@ -130,7 +130,7 @@ fn rejoin_while(
         opening: None,
         scope,
     };
-    if !run.is_true(alloc, stand, sight)? {
+    if !run.is_true(stand, sight) {
         return done(run, alloc, stand, true);
     }
     let mut edits = Vec::new(alloc);

@@ -11,5 +11,5 @@ mod planning;
 mod walking;
 mod writing;
 
-pub use issuing::{Made, next_command, next_question};
+pub use issuing::{Made, next_command, next_question, planned};
 pub use planning::{begin, change, first_change, moment_of};

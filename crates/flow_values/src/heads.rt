@@ -1,5 +1,5 @@
 // The branches that control steps take (CACAO 2.0, sections 4.8 to 4.10).
-ghost use Rattle.std.specs.Prelude.{◌≡◌, ◌<◌, Some, IfOk, length, codes};
+ghost use Rattle.std.specs.Prelude.{◌≡◌, ◌<◌, Some, length, codes};
 ghost use Rattle.std.specs.Option.{option_copied, option_to_list};
 ghost use Rattle.cacao_vars.specs.Names.{is_name_character};
 ghost use Rattle.cacao_vars.specs.References.{name_run};
@@ -13,7 +13,6 @@ ghost use Rattle.flow_values.specs.Sights.{lists_seen, scope_seen};
 use crate::run::{Run, Sight, Stand};
 use cacao_book::{Case, StepKind};
 use cacao_json::Text;
-use std::alloc::{AllocError, Global};
 
 // A letter, a digit, `_` or `-`.
 fn is_name_byte(byte: u8) -> bool
@@ -72,18 +71,14 @@ impl Run {
         }
     }
 
-    /// The key at which the branch begins that the step takes, seen from inside the step; None where it takes none.
-    pub fn head<'a>(
-        &'a self,
-        alloc: Global,
-        stand: Stand<'a>,
-        sight: Sight<'a>,
-    ) -> Result<Option<&'a Text>, AllocError>
+    /// The key at which the branch begins that the step takes, seen from inside the step; None where it takes none. It
+    /// takes no memory.
+    pub fn head<'a>(&'a self, stand: Stand<'a>, sight: Sight<'a>) -> Option<&'a Text>
         requires well { IsWell self.now }
         requires scope { sight.scope < length self.now.tables.scopes.items }
         requires stands { step_at self.now.setup stand.task.book stand.task.step ≡ Some stand.step.now }
         requires one { HasOneHead stand.step.now.kind }
-        ensures { IfOk result (λ head. option_to_list (option_copied head) ≡ heads (lists_seen self.now sight.entry) (scope_seen self.now sight.entry) stand.entry.step.now.kind) }
+        ensures { option_to_list (option_copied result) ≡ heads (lists_seen self.now sight.entry) (scope_seen self.now sight.entry) stand.entry.step.now.kind }
     {
         match &stand.step.kind {
             StepKind::If {
@@ -91,24 +86,23 @@ impl Run {
                 on_false,
                 ..
             } => {
-                if self.is_true(alloc, stand, sight)? {
-                    Ok(Some(on_true))
+                if self.is_true(stand, sight) {
+                    Some(on_true)
                 } else {
-                    Ok(on_false.as_ref())
+                    on_false.as_ref()
                 }
             }
             StepKind::While { on_true, .. } => {
-                if self.is_true(alloc, stand, sight)? {
-                    Ok(Some(on_true))
+                if self.is_true(stand, sight) {
+                    Some(on_true)
                 } else {
-                    Ok(None)
+                    None
                 }
             }
-            StepKind::Switch { subject, cases } => Ok(chosen_case(
-                cases.as_slice(),
-                self.subject_text(sight, subject),
-            )),
-            _ => Ok(None),
+            StepKind::Switch { subject, cases } => {
+                chosen_case(cases.as_slice(), self.subject_text(sight, subject))
+            }
+            _ => None,
         }
     }
 }

@@ -13,4 +13,4 @@ returns c =
     let is : Some tree ≡ condition_in stand.step.now.kind =
     condition_here r.setup stand.task.book stand.task.step stand.step.now tree c.requires.stands c.in-Some.ensures in
     c.truth.ensures
-    ∙ holds_here (lists_seen r c.args.sight) (scope_seen r c.args.sight) tree (condition_in stand.step.now.kind) c.as_slice.result.now c.in_ok-values.values is (c.as_slice.ensures ∙ c.in_ok-names.ensures.listed) c.in_ok-values.ensures
+    ∙ holds_here (lists_seen r c.args.sight) (scope_seen r c.args.sight) tree (condition_in stand.step.now.kind) is
