@@ -43,6 +43,8 @@ impl History {
             → (D.view disk.new).disk.calls
             ≤ (D.view disk.old).disk.calls + 3 + length ((D.view disk.new).disk.reads 0) / 4096 }
         ensures bytes { (D.view disk.new).disk.written ≤ (D.view disk.old).disk.written }
+        // Unless the disk failed, the file reads as before.
+        ensures reads { result ≢ Err EngineError.Disk → (D.view disk.new).disk.reads 0 ≡ (D.view disk.old).disk.reads 0 }
 
         // The one image then stands for the records.
         ensures ready { IfOk result (λ history. IsReady history (D.view disk.new)) }

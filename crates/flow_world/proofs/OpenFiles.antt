@@ -66,13 +66,14 @@ next_opens agent old new v fs gs opens steady ready durable stands prepared of_a
 
 -- ---- the journal
 
-pub journal_open : (given : Given) (run : ℕ) (old new : SiteView) (v : EngineView) → OpensFile 0 old new → new.disk.faults ≡ old.disk.faults → engine.IsReady v.history new → IsHistory v.history
+pub journal_open : (given : Given) (run : ℕ) (old new : SiteView) (v : EngineView) → OpensFile 0 old new → new.disk.faults ≡ old.disk.faults → new.disk.reads 0 ≡ old.disk.reads 0 → engine.IsReady v.history new → IsHistory v.history
     → ArePut v.history.seen v.puts → v.history.broken ≡ false → v.history.seen.given ≡ given → v.history.seen.run ≡ run → v.puts ≡ [] → IsDurable 0 new.disk
     → (IsTrue old.disk.told → HoldsRecords v.history.records (new.disk.reads 0))
     → (IsTrue old.disk.told → IsTrue v.history.prepared ↔ (9 < length (new.disk.reads 0))) → IsJournalOpen given run old new v
-journal_open given run old new v opens steady ready history put whole given_is of_run no_puts durable stands prepared = record {
+journal_open given run old new v opens steady reads ready history put whole given_is of_run no_puts durable stands prepared = record {
   opens = opens;
   steady = steady;
+  reads = reads;
   whole = record { engine = record { ready = ready; history = history; put = put }; whole = whole };
   given_is = given_is;
   of_run = of_run;
@@ -83,9 +84,16 @@ journal_open given run old new v opens steady ready history put whole given_is o
 }
 
 pub journal_refused : (given : Given) (run : ℕ) (old new : SiteView) (error : WorldError) (why : EngineError) → OpensFile 0 old new → IsRefusedOpening given run why old new
-    → error ≡ opening_refusal why → (why ≢ engine_error.Disk → new.disk.faults ≡ old.disk.faults) → RefusesOpening error given run old new
-journal_refused given run old new error why opens refused_so is steady =
-    inl (record { opens = opens; why = why; refused = refused_so; is = is; steady = λ other. steady (λ e. other (is ∙ ap opening_refusal e)) })
+    → error ≡ opening_refusal why → (why ≢ engine_error.Disk → new.disk.faults ≡ old.disk.faults) → (why ≢ engine_error.Disk → new.disk.reads 0 ≡ old.disk.reads 0) → RefusesOpening error given run old new
+journal_refused given run old new error why opens refused_so is steady reads =
+    inl (record {
+      opens = opens;
+      why = why;
+      refused = refused_so;
+      is = is;
+      steady = λ other. steady (λ e. other (is ∙ ap opening_refusal e));
+      reads = λ other. reads (λ e. other (is ∙ ap opening_refusal e));
+    })
 
 pub second_refused : (error : WorldError) (given : Given) (run : ℕ) (old mid new : SiteView) (v : EngineView) → IsJournalOpen given run old mid v → RefusesFilters error mid new
     → RefusesOpening error given run old new

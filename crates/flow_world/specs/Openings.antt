@@ -26,12 +26,17 @@ pub record OpensFile (file : ℕ) (old new : SiteView) : Type 0 where
 abbrev pub IsSteady : WorldError → SiteView → SiteView → Type 0
 IsSteady why old new = why ≢ error.Disk → new.disk.faults ≡ old.disk.faults
 
+-- the journal's file reads as before, where the disk did not fail
+abbrev pub ReadsAsBefore : WorldError → SiteView → SiteView → Type 0
+ReadsAsBefore why old new = why ≢ error.Disk → new.disk.reads 0 ≡ old.disk.reads 0
+
 -- ---- the journal
 
--- the journal is open, no call of the disk failed, and the one image of its file stands for the records
+-- the journal is open, no call of the disk failed, its file reads as before, and its one image stands for the records
 pub record IsJournalOpen (given : Given) (run : ℕ) (old new : SiteView) (v : EngineView) : Type 0 where
   pub opens : OpensFile 0 old new
   pub steady : new.disk.faults ≡ old.disk.faults
+  pub reads : new.disk.reads 0 ≡ old.disk.reads 0
   pub whole : IsWhole v new
   pub given_is : v.history.seen.given ≡ given
   pub of_run : v.history.seen.run ≡ run
@@ -40,13 +45,14 @@ pub record IsJournalOpen (given : Given) (run : ℕ) (old new : SiteView) (v : E
   pub stands : IsTrue old.disk.told → HoldsRecords v.history.records (new.disk.reads 0)
   pub prepared : IsTrue old.disk.told → IsTrue v.history.prepared ↔ (9 < length (new.disk.reads 0))
 
--- or it was not opened
+-- or it was not opened; unless the disk failed, its file reads as before
 pub record RefusesJournal (error : WorldError) (given : Given) (run : ℕ) (old new : SiteView) : Type 0 where
   pub opens : OpensFile 0 old new
   pub why : EngineError
   pub refused : IsRefusedOpening given run why old new
   pub is : error ≡ opening_refusal why
   pub steady : IsSteady error old new
+  pub reads : ReadsAsBefore error old new
 
 -- ---- the filters
 
