@@ -2,6 +2,7 @@
 use Rattle.std.proofs.Common.{◌≡◌, ◌⊎◌, ℕ, suc, ◌+◌, ◌<◌, ◌≤◌, Bool, true, false, cond, List, [], ◌∷◌, ◌++◌, length, Option, Some, None, Ok, Err, arith, refl, ap, ap₂, sym, subst, ◌∙◌}
 use Rattle.std.specs.Prelude.{IsErrOf, IsSome, nat_lt, not, ◌==◌, option_and_then}
 use Rattle.std.specs.Option.{option_or}
+use Rattle.std.proofs.lemmas.Option.{none-some}
 use Rattle.cacao_site.specs.Counts.{Rose}
 use Rattle.cacao_site.specs.DiskCalls.{AllLeft, OnlyFile}
 use Rattle.cacao_site.specs.View.{SiteView}
@@ -15,16 +16,19 @@ use Rattle.run_records.specs.Ranges.{InRange}
 use Rattle.run_records.specs.declared.record.Record.{Record}
 use Rattle.flow_rules.specs.Changes.{change, moment_of}
 use Rattle.flow_rules.specs.Edits.{Edit}
+use Rattle.flow_rules.specs.Moves.{record_of}
 use Rattle.flow_rules.specs.Runs.{shown_after}
 use Rattle.flow_rules.specs.State.{Shown}
-use Rattle.flow_core.specs.Views.{View, Takes, begins, passed, taken}
+use Rattle.flow_rules.specs.declared.moves.Move.{Move}
+use Rattle.flow_core.specs.Views.{View, Takes, begins, passed, taken, taken_by}
+use Rattle.flow_core.proofs.ComingLemmas.{taken_made}
 use Rattle.flow_core.specs.declared.flow_errors.LimitKind.{LimitKind}
 use Rattle.flow_core.specs.declared.flow_errors.LimitKind.TheVariants as limit
 use Rattle.engine_history.specs.Appending.{IsSameFlow, IsSameJournal, RefusesEntry, RefusesRoom, length_with_entry}
 use Rattle.engine_history.specs.declared.error.EngineError.{EngineError}
 use Rattle.engine_history.specs.declared.error.EngineError.TheVariants as refused
 use Rattle.engine_history.specs.declared.history.History.TheInside.{Inside}
-use Rattle.engine_history.specs.HistoryCalls.{Adds, Is, MayCome, Offers, Refuses, limit_of, with_record}
+use Rattle.engine_history.specs.HistoryCalls.{Adds, Is, IsOfMove, MayCome, MayMove, Offers, Refuses, limit_of, with_record}
 use Rattle.engine_history.specs.HistoryView.{HistoryView, HoldsRecords, IsReady, entries_of, flow_of, length_with}
 use Rattle.engine_history.specs.Errors.{error_of}
 use Rattle.engine_history.specs.KeptHistory.{IsKept, history_view, records_of, stand_before}
@@ -81,6 +85,20 @@ pub taken_same : (v w : View) (r : Record) → w.count ≡ v.count → w.seen �
 taken_same v w r count seen =
     ap₂ (λ (n : ℕ) (s : Shown). cond (not (n == 0)) (change s r) (begins s r)) count seen
 
+-- no room was made for a record that may come next
+refuses_early : (IsNext : Record → Type 0) (a : Inside) (c : MayCome (history_view a) IsNext) (e : EngineError) (k : HistoryView) (site : SiteView) → a.journal.broken ≡ false → k ≡ history_view a
+    → RefusesRoom a.flow (Some c.edits) e → Refuses (history_view a) k IsNext e site site
+refuses_early IsNext a c refused.Disk k site whole same h = absurd h
+refuses_early IsNext a c (refused.Damaged place) k site whole same h = absurd h
+refuses_early IsNext a c (refused.OtherRun held asked) k site whole same h = absurd h
+refuses_early IsNext a c (refused.OtherBook index) k site whole same h = absurd h
+refuses_early IsNext a c (refused.Limit what) k site whole same h =
+    let passes : limit_of (history_view a) c.next c.edits ≡ Some what =
+    ap (λ (o : Option LimitKind). option_or o (cond (nat_lt 67_108_864 (length_with (history_view a).records c.next)) (Some limit.Journal) None)) h in
+    (record { comes = c; passes = passes; whole = whole }, same, refl)
+refuses_early IsNext a c refused.Broken k site whole same h = absurd h
+refuses_early IsNext a c refused.Memory k site whole same h = (whole, same, refl)
+
 module _ (a : Inside) (next : Record) (edits : List Edit) (kept : IsKept a) (fits : InRange next) (takes : taken a.flow next ≡ Some edits) where
   abbrev rs : List Record
   rs = records_of a.journal.items
@@ -95,16 +113,7 @@ module _ (a : Inside) (next : Record) (edits : List Edit) (kept : IsKept a) (fit
 
   pub refuses_room : (e : EngineError) (k : HistoryView) (site : SiteView) → a.journal.broken ≡ false → k ≡ history_view a → RefusesRoom a.flow (taken a.flow next) e → Refuses (history_view a) k (Is next) e site site
   unfolding comes
-  refuses_room refused.Disk k site whole same h = absurd h
-  refuses_room (refused.Damaged place) k site whole same h = absurd h
-  refuses_room (refused.OtherRun held asked) k site whole same h = absurd h
-  refuses_room (refused.OtherBook index) k site whole same h = absurd h
-  refuses_room (refused.Limit what) k site whole same h =
-      let past : passed a.flow.seen edits ≡ Some what = sym (ap (option_and_then (passed a.flow.seen)) takes) ∙ h in
-      let passes : limit_of (history_view a) next edits ≡ Some what = ap (λ (o : Option LimitKind). option_or o (cond (nat_lt 67_108_864 (length_with rs next)) (Some limit.Journal) None)) past in
-      (record { comes = comes; passes = passes; whole = whole }, same, refl)
-  refuses_room refused.Broken k site whole same h = absurd h
-  refuses_room refused.Memory k site whole same h = (whole, same, refl)
+  refuses_room e k site whole same h = refuses_early (Is next) a comes e k site whole same (subst (λ (o : Option (List Edit)). RefusesRoom a.flow o e) takes h)
 
   -- the bytes of the file with the record
   length_is : (j : JournalView) (entry : List ℕ) → IsSameJournal a.journal j → entry ≡ layout next → length_with rs next ≡ length_with_entry j entry
@@ -256,3 +265,56 @@ taken_now h v next kept is comes =
 -- no limit of the flow is passed
 pub none_passed : (v : View) (next : Record) (edits : List Edit) → taken v next ≡ Some edits → option_and_then (passed v.seen) (taken v next) ≡ None → passed v.seen edits ≡ None
 none_passed v next edits e h = sym (ap (option_and_then (passed v.seen)) e) ∙ h
+
+-- ---- the record of a move
+
+some_bound : {A B : Type 0} (f : A → Option B) (o : Option A) (b : B) → option_and_then f o ≡ Some b → (x : A) × (o ≡ Some x) × (f x ≡ Some b)
+some_bound f None b e = absurd (none-some b e)
+some_bound f (Some x) b e = (x, refl, e)
+
+-- whether it is taken goes by the number of the records and by what is shown
+taken_by_same : (v w : View) (step : Move) (moment : ℕ) → w.count ≡ v.count → w.seen ≡ v.seen → taken_by w moment step ≡ taken_by v moment step
+taken_by_same v w step moment count seen =
+    ap₂ (λ (n : ℕ) (s : Shown). option_and_then (λ (r : Record). cond (not (n == 0)) (change s r) (begins s r)) (record_of s moment step)) count seen
+
+pub may_move_now : (h : Inside) (v : HistoryView) (step : Move) (moment : ℕ) → IsKept h → history_view h ≡ v → MayMove (flow_of v) step moment → MayMove h.flow step moment
+may_move_now h v step moment kept is may =
+    let here : MayMove (flow_of (history_view h)) step moment = subst (λ (x : HistoryView). MayMove (flow_of x) step moment) (sym is) may in
+    let same : taken_by h.flow moment step ≡ taken_by (flow_of (history_view h)) moment step = taken_by_same (flow_of (history_view h)) h.flow step moment kept.count refl in
+    record {
+      comes = subst IsSome (sym same) here.comes;
+      in_range = λ next made text none. here.in_range next made text (ap (option_and_then (passed h.flow.seen)) (sym same) ∙ none);
+    }
+
+-- what it changes
+pub move_takes : (v : View) (step : Move) (moment : ℕ) (next : Record) → record_of v.seen moment step ≡ Some next → IsSome (taken_by v moment step)
+    → (edits : List Edit) × (taken v next ≡ Some edits) × (taken_by v moment step ≡ Some edits)
+move_takes v step moment next made comes =
+    let found = some_value (taken_by v moment step) comes in
+    (found.0, taken_made v moment step next found.0 made found.1, found.1)
+
+pub move_within : (v : View) (step : Move) (moment : ℕ) (edits : List Edit) → taken_by v moment step ≡ Some edits → option_and_then (passed v.seen) (taken_by v moment step) ≡ None → passed v.seen edits ≡ None
+move_within v step moment edits e h = sym (ap (option_and_then (passed v.seen)) e) ∙ h
+
+move_comes : (h : Inside) (step : Move) (moment : ℕ) (edits : List Edit) → IsKept h → taken_by h.flow moment step ≡ Some edits → MayCome (history_view h) (IsOfMove (history_view h) step moment)
+move_comes h step moment edits kept e =
+    let found = some_bound (taken h.flow) (record_of h.flow.seen moment step) edits e in
+    record {
+      next = found.0;
+      edits = edits;
+      is = found.1;
+      takes = taken_same h.flow (flow_of (history_view h)) found.0 (sym kept.count) refl ∙ found.2;
+    }
+
+-- no room was made for it
+pub refuses_move : (h : Inside) (step : Move) (moment : ℕ) → IsKept h → IsSome (taken_by h.flow moment step) → (e : EngineError) (k : HistoryView) (site : SiteView) → h.journal.broken ≡ false → k ≡ history_view h
+    → RefusesRoom h.flow (taken_by h.flow moment step) e → Refuses (history_view h) k (IsOfMove (history_view h) step moment) e site site
+unfolding move_comes
+refuses_move h step moment kept comes e k site whole same r =
+    let found = some_value (taken_by h.flow moment step) comes in
+    refuses_early (IsOfMove (history_view h) step moment) h (move_comes h step moment found.0 kept found.1) e k site whole same
+    (subst (λ (o : Option (List Edit)). RefusesRoom h.flow o e) found.1 r)
+
+-- it is that record
+pub is_of_move : (h : HistoryView) (step : Move) (moment : ℕ) (next : Record) → record_of h.seen moment step ≡ Some next → (r : Record) → Is next r → IsOfMove h step moment r
+is_of_move h step moment next made r is = made ∙ ap (λ (x : Record). Some x) (sym is)

@@ -1,5 +1,6 @@
 pub mod AppendLemmas
 pub mod HistoryLemmas
+pub mod KindLemmas
 pub mod LineLemmas
 pub mod OpenLemmas
 pub mod OpenedLemmas

@@ -1,5 +1,5 @@
 -- What becomes of a record that is appended to the history of a run.
-use Rattle.std.specs.Prelude.{◌≡◌, ◌⊎◌, ℕ, ◌+◌, ◌≤◌, nat_lt, true, false, List, [], ◌∷◌, ◌++◌, length, Option, Some, None, if◌then◌else◌}
+use Rattle.std.specs.Prelude.{◌≡◌, ◌⊎◌, ℕ, ◌+◌, ◌≤◌, nat_lt, true, false, List, [], ◌∷◌, ◌++◌, length, Option, Some, None, IsSome, option_and_then, if◌then◌else◌}
 use Rattle.std.specs.Option.{option_or}
 use Rattle.cacao_site.specs.Counts.{Rose}
 use Rattle.cacao_site.specs.DiskCalls.{OnlyFile}
@@ -10,8 +10,10 @@ use Rattle.run_records.specs.Ranges.{InRange}
 use Rattle.run_records.specs.declared.record.Record.{Record}
 use Rattle.flow_rules.specs.Changes.{moment_of}
 use Rattle.flow_rules.specs.Edits.{Edit}
+use Rattle.flow_rules.specs.Moves.{record_of}
 use Rattle.flow_rules.specs.Runs.{shown_after}
-use Rattle.flow_core.specs.Views.{passed, taken}
+use Rattle.flow_rules.specs.declared.moves.Move.{Move}
+use Rattle.flow_core.specs.Views.{AsksText, View, passed, taken, taken_by}
 use Rattle.flow_core.specs.declared.flow_errors.LimitKind.{LimitKind}
 use Rattle.flow_core.specs.declared.flow_errors.LimitKind.TheVariants as limit
 use Rattle.engine_history.specs.HistoryView.{HistoryView, HoldsRecords, flow_of, length_with}
@@ -21,6 +23,16 @@ use Rattle.engine_history.specs.declared.error.EngineError.TheVariants as refuse
 -- the record itself
 abbrev pub Is : Record → Record → Type 0
 Is r next = next ≡ r
+
+-- that of a move at a moment
+abbrev pub IsOfMove : HistoryView → Move → ℕ → Record → Type 0
+IsOfMove h step moment next = record_of h.seen moment step ≡ Some next
+
+-- A move has a record that may come next; where that passes no limit of the flow, and asks by a text, it is in range.
+pub record MayMove (v : View) (step : Move) (moment : ℕ) : Type 0 where
+  pub comes : IsSome (taken_by v moment step)
+  pub in_range : (next : Record) → record_of v.seen moment step ≡ Some next → AsksText next
+      → option_and_then (passed v.seen) (taken_by v moment step) ≡ None → InRange next
 
 -- the limit that a record passes which changes so much: that on tasks, on the bytes of a command, or on those of the file
 abbrev pub limit_of : HistoryView → Record → List Edit → Option LimitKind

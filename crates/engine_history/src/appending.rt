@@ -1,19 +1,23 @@
 // The parts of an append: all memory first, then the disk, then the run.
-ghost use Rattle.std.specs.Prelude.{◌≡◌, ◌≢◌, ◌++◌, ◌∷◌, ◌<◌, ◌≤◌, [], None, Err, true, false, IfErr, IfOk, IsSome, OnErr, OnOk, length, option_and_then, vec_capacity, vec_len};
+ghost use Rattle.std.specs.Prelude.{◌≡◌, ◌≢◌, ◌++◌, ◌∷◌, ◌<◌, ◌≤◌, [], List, Option, None, Some, Err, true, false, IfErr, IfOk, IsSome, OnErr, OnOk, length, option_and_then, vec_capacity, vec_len};
 ghost use Rattle.cacao_site.specs.DiskCalls.{AllLeft};
 ghost use Rattle.run_journal.specs.Durable.{IsImage, MayAppend};
 ghost use Rattle.run_journal.specs.JournalView.{JournalView};
 ghost use Rattle.run_records.specs.Layout.{layout};
 ghost use Rattle.run_records.specs.Ranges.{InRange};
-ghost use Rattle.flow_core.specs.Views.{IsReadyFor, Takes, passed, taken};
+ghost use Rattle.flow_rules.specs.Edits.{Edit};
+ghost use Rattle.flow_rules.specs.Moves.{record_of};
+ghost use Rattle.flow_core.specs.Views.{AsksText, IsReadyFor, Refuses, Takes, View, passed, taken, taken_by};
+ghost use Rattle.flow_core.specs.declared.flow_errors.FlowError.TheVariants.{NotEnabled};
 ghost use Rattle.engine_history.specs.Appending.{IsSameFlow, IsSameJournal, RefusesEntry, RefusesRoom, length_with_entry};
+ghost use Rattle.engine_history.specs.HistoryCalls.{MayMove};
 ghost use Rattle.engine_history.specs.KeptHistory.{stand_before};
 ghost use Rattle.engine_history.specs.declared.error.EngineError.TheVariants.{Memory};
 
 use crate::error::EngineError;
 use crate::history::Stand;
 use cacao_site::{Bytes, Disk};
-use flow_core::{Flow, FlowError};
+use flow_core::{Flow, FlowError, Move};
 use run_journal::Journal;
 use run_records::{Record, write_record};
 use std::alloc::{AllocError, Global};
@@ -23,6 +27,18 @@ use std::alloc::{AllocError, Global};
 pub(crate) struct Made {
     pub(crate) entry: Bytes,
     pub(crate) stand: Option<Stand>,
+}
+
+/// What a refusal of a flow means for the engine, of a record that may come next.
+fn refusal_of(error: FlowError) -> EngineError
+    requires { error ≢ NotEnabled }
+    ensures { (v : View) (edits : Option (List Edit)) → Refuses v error edits → RefusesRoom v edits result }
+{
+    match error {
+        FlowError::NotEnabled => unreachable!(),
+        FlowError::Limit { what } => EngineError::Limit { what },
+        FlowError::Memory => EngineError::Memory,
+    }
 }
 
 /// Takes the memory that the flow needs for a record that may come next.
@@ -36,11 +52,24 @@ fn make_ready(flow: &mut Flow, next: &Record) -> Result<(), EngineError>
 {
     match flow.ready(next) {
         Ok(()) => Ok(()),
-        Err(error) => match error {
-            FlowError::NotEnabled => unreachable!(),
-            FlowError::Limit { what } => Err(EngineError::Limit { what }),
-            FlowError::Memory => Err(EngineError::Memory),
-        },
+        Err(error) => Err(refusal_of(error)),
+    }
+}
+
+/// Makes the record of a move that may come next, and takes the memory that the flow needs for it.
+fn ready_move(flow: &mut Flow, step: Move, moment: u64) -> Result<Record, EngineError>
+    requires comes { IsSome (taken_by flow.old moment step) }
+    requires few { flow.old.count < 100_000_000 }
+    ensures made { IfOk result (λ next. record_of flow.old.seen moment step ≡ Some next) }
+    ensures text { IfOk result AsksText }
+    ensures ready { IfOk result (IsReadyFor flow.new) }
+    ensures within { OnOk result (option_and_then (passed flow.old.seen) (taken_by flow.old moment step) ≡ None) }
+    ensures refused { IfErr result (RefusesRoom flow.old (taken_by flow.old moment step)) }
+    ensures same { IsSameFlow flow.old flow.new }
+{
+    match flow.ready_move(step, moment) {
+        Ok(next) => Ok(next),
+        Err(error) => Err(refusal_of(error)),
     }
 }
 
@@ -72,6 +101,35 @@ fn make_room(
     Ok(())
 }
 
+/// The entry of a record, with room for it and for its stand.
+fn make_entry(
+    alloc: Global,
+    flow: &Flow,
+    journal: &mut Journal,
+    stands: &mut Vec<Option<Stand>>,
+    next: &Record,
+) -> Result<Made, EngineError>
+    requires { InRange next.now }
+    ensures entry { IfOk result (λ made. made.entry ≡ layout next.now) }
+    ensures size { IfOk result (λ made. length made.entry ≤ 17_829_888) }
+    ensures spare { IfOk result (λ made. length made.entry < journal.new.spare) }
+    ensures stand { IfOk result (λ made. made.stand ≡ stand_before flow.now.seen next.now) }
+    ensures room { OnOk result (vec_len stands.new < vec_capacity stands.new) }
+    ensures memory { OnErr result (result ≡ Err Memory) }
+    ensures same { IsSameJournal journal.old journal.new }
+    ensures stands { stands.new.items ≡ stands.old.items }
+{
+    let stand = stand_for(flow, next);
+    let entry = match write_record(alloc, next) {
+        Ok(entry) => entry,
+        Err(_) => return Err(EngineError::Memory),
+    };
+    match make_room(journal, stands, &entry) {
+        Ok(()) => Ok(Made { entry, stand }),
+        Err(_) => Err(EngineError::Memory),
+    }
+}
+
 /// Takes all memory that a record needs which may come next.
 pub(crate) fn prepare(
     alloc: Global,
@@ -95,17 +153,54 @@ pub(crate) fn prepare(
     ensures same_journal { IsSameJournal journal.old journal.new }
     ensures stands { stands.new.items ≡ stands.old.items }
 {
-    let stand = stand_for(flow, next);
     match make_ready(flow, next) {
         Ok(()) => {}
         Err(error) => return Err(error),
     }
-    let entry = match write_record(alloc, next) {
-        Ok(entry) => entry,
-        Err(_) => return Err(EngineError::Memory),
+    match make_entry(alloc, flow, journal, stands, next) {
+        Ok(made) => Ok(made),
+        Err(_) => Err(EngineError::Memory),
+    }
+}
+
+/// The record of a move, for which there is room.
+#[derive(Drop)]
+pub(crate) struct Moved {
+    pub(crate) next: Record,
+    pub(crate) made: Made,
+}
+
+/// Makes the record of a move, and takes all memory that it needs.
+pub(crate) fn prepare_move(
+    alloc: Global,
+    flow: &mut Flow,
+    journal: &mut Journal,
+    stands: &mut Vec<Option<Stand>>,
+    step: Move,
+    moment: u64,
+) -> Result<Moved, EngineError>
+    requires moves { MayMove flow.old step moment }
+    requires few { flow.old.count < 100_000_000 }
+    ensures next { IfOk result (λ moved. record_of flow.old.seen moment step ≡ Some moved.next) }
+    ensures in_range { IfOk result (λ moved. InRange moved.next) }
+    ensures entry { IfOk result (λ moved. moved.made.entry ≡ layout moved.next) }
+    ensures size { IfOk result (λ moved. length moved.made.entry ≤ 17_829_888) }
+    ensures spare { IfOk result (λ moved. length moved.made.entry < journal.new.spare) }
+    ensures stand { IfOk result (λ moved. moved.made.stand ≡ stand_before flow.old.seen moved.next) }
+    ensures ready { IfOk result (λ moved. IsReadyFor flow.new moved.next) }
+    ensures within { OnOk result (option_and_then (passed flow.old.seen) (taken_by flow.old moment step) ≡ None) }
+    ensures room { OnOk result (vec_len stands.new < vec_capacity stands.new) }
+    ensures refused { IfErr result (RefusesRoom flow.old (taken_by flow.old moment step)) }
+    ensures same_flow { IsSameFlow flow.old flow.new }
+    ensures same_journal { IsSameJournal journal.old journal.new }
+    ensures stands { stands.new.items ≡ stands.old.items }
+{
+    let next = match ready_move(flow, step, moment) {
+        Ok(next) => next,
+        Err(error) => return Err(error),
     };
-    match make_room(journal, stands, &entry) {
-        Ok(()) => Ok(Made { entry, stand }),
+    match make_entry(alloc, flow, journal, stands, &next) {
+        Ok(made) => Ok(Moved { next, made }),
         Err(_) => Err(EngineError::Memory),
     }
 }

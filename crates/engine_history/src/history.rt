@@ -4,13 +4,13 @@ ghost use Rattle.run_records.specs.Ranges.{InRange};
 ghost use Rattle.flow_rules.specs.Runs.{begin_of};
 ghost use Rattle.flow_core.specs.Views.{taken};
 ghost use Rattle.engine_history.specs.HistoryView.{HistoryView, IsReady, flow_of};
-ghost use Rattle.engine_history.specs.HistoryCalls.{Adds, Is, Refuses};
+ghost use Rattle.engine_history.specs.HistoryCalls.{Adds, Is, IsOfMove, MayMove, Refuses};
 ghost use Rattle.engine_history.specs.Histories.{IsHistory};
 
-use crate::appending::{keep, prepare};
+use crate::appending::{Moved, keep, prepare, prepare_move};
 use crate::error::EngineError;
 use cacao_site::Disk;
-use flow_core::Flow;
+use flow_core::{Flow, Move};
 use run_journal::Journal;
 use run_records::Record;
 use std::alloc::{AllocError, Global};
@@ -109,5 +109,52 @@ impl History {
             Err(error) => return Err(error),
         }
         Ok(())
+    }
+
+    /// Appends the record of a move at a moment, in milliseconds, and gives it. What it changes is made once: `append` of the record
+    /// that the flow makes of the move does the same. Nothing but a failure of the disk leaves a trace where it is refused. Between the
+    /// append and that step it takes no memory.
+    pub fn append_move<D: Disk>(
+        &mut self,
+        disk: &mut D,
+        step: Move,
+        moment: u64,
+    ) -> Result<Record, EngineError>
+        requires moves { MayMove (flow_of self.old) step moment }
+        requires ready { IsReady self.old (D.view disk.old) }
+        ensures ready { IsReady self.new (D.view disk.new) }
+        ensures made { IfOk result (IsOfMove self.old step moment) }
+        ensures ok { IfOk result (λ next. Adds self.old self.new (Is next) (D.view disk.old) (D.view disk.new)) }
+        ensures refused { IfErr result (λ error. Refuses self.old self.new (IsOfMove self.old step moment) error
+            (D.view disk.old) (D.view disk.new)) }
+    {
+        if self.journal.is_broken() {
+            return Err(EngineError::Broken);
+        }
+        let _ = self.journal.count();
+        let moved = match prepare_move(
+            self.alloc,
+            &mut self.flow,
+            &mut self.journal,
+            &mut self.stands,
+            step,
+            moment,
+        ) {
+            Ok(moved) => moved,
+            Err(error) => return Err(error),
+        };
+        let Moved { next, made } = moved;
+        match keep(
+            &mut self.flow,
+            &mut self.journal,
+            &mut self.stands,
+            disk,
+            &next,
+            made,
+        ) {
+            Ok(()) => {}
+            Err(error) => return Err(error),
+        }
+        Ok(next)
     }
 }

@@ -11,13 +11,10 @@ use std::time::CpuClock;
 
 /// Takes the move that comes next at a moment, in milliseconds. The moment of the next one; None where none will come.
 fn take_next(played: &mut Played, moment: u64) -> Result<Option<u64>, FlowError> {
-    match played.next(moment)? {
-        Some(record) => {
-            played.take(&record)?;
-            Ok(Some(moment))
-        }
-        None => Ok(played.due()),
+    if played.take_next(moment)? {
+        return Ok(Some(moment));
     }
+    Ok(played.due())
 }
 
 /// Takes a Begin, and then moves, each at the least moment at which there is one: so many of both, and waits, at the most.

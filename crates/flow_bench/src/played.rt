@@ -1,5 +1,5 @@
 // A run that is played.
-ghost use Rattle.std.specs.Prelude.{◌≡◌, ◌+◌, ◌<◌, OnOk};
+ghost use Rattle.std.specs.Prelude.{◌≡◌, ◌+◌, ◌<◌, IfOk, IfSome, OnOk};
 ghost use Rattle.flow_core.specs.Views.{IsReadyFor};
 
 use crate::lines::line;
@@ -60,20 +60,6 @@ impl Played {
         self.flow.begin(moment)
     }
 
-    /// The record of the move that comes next at a moment, in milliseconds, if there is one.
-    pub(crate) fn next(&self, moment: u64) -> Result<Option<Record>, FlowError> {
-        if self.records >= MOST {
-            return Err(FlowError::Memory);
-        }
-        match self.flow.enabled(moment) {
-            Some(step) => {
-                let record = self.flow.make(step, moment)?;
-                Ok(Some(record))
-            }
-            None => Ok(None),
-        }
-    }
-
     /// The moment for which it waits, in milliseconds.
     pub(crate) fn due(&self) -> Option<u64> {
         self.flow.due()
@@ -116,6 +102,33 @@ impl Played {
         self.records += 1;
     }
 
+    /// Makes ready for the move that comes next at a moment, in milliseconds, and gives its record, if there is one.
+    fn ready_next(&mut self, moment: u64) -> Result<Option<Record>, FlowError>
+        ensures ready { IfOk result (λ o. IfSome o (IsReadyFor self.new)) }
+        ensures few { IfOk result (λ o. IfSome o (λ _. self.new.count < 50_000_000)) }
+    {
+        if self.records >= MOST {
+            return Err(FlowError::Memory);
+        }
+        match self.flow.enabled(moment) {
+            Some(step) => {
+                let record = self.flow.ready_move(step, moment)?;
+                Ok(Some(record))
+            }
+            None => Ok(None),
+        }
+    }
+
+    /// Takes the record for which it is ready, and gives its line.
+    fn apply_told(&mut self, item: &Record) -> Result<String, FlowError>
+        requires ready { IsReadyFor self.old item.now }
+        requires few { self.old.count < 50_000_000 }
+    {
+        let told = line(self.alloc, &self.flow, self.records, item)?;
+        self.apply(item);
+        Ok(told)
+    }
+
     /// Takes a record.
     pub(crate) fn take(&mut self, item: &Record) -> Result<(), FlowError> {
         self.ready(item)?;
@@ -126,8 +139,24 @@ impl Played {
     /// Takes a record, and gives its line.
     pub(crate) fn tell(&mut self, item: &Record) -> Result<String, FlowError> {
         self.ready(item)?;
-        let told = line(self.alloc, &self.flow, self.records, item)?;
-        self.apply(item);
-        Ok(told)
+        self.apply_told(item)
+    }
+
+    /// Takes the record of the move that comes next at a moment, in milliseconds. Whether there was one.
+    pub(crate) fn take_next(&mut self, moment: u64) -> Result<bool, FlowError> {
+        let Some(item) = self.ready_next(moment)? else {
+            return Ok(false);
+        };
+        self.apply(&item);
+        Ok(true)
+    }
+
+    /// Takes the record of the move that comes next at a moment, in milliseconds, and gives its line, if there is one.
+    pub(crate) fn tell_next(&mut self, moment: u64) -> Result<Option<String>, FlowError> {
+        let Some(item) = self.ready_next(moment)? else {
+            return Ok(None);
+        };
+        let told = self.apply_told(&item)?;
+        Ok(Some(told))
     }
 }

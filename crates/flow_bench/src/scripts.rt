@@ -119,14 +119,17 @@ fn take(rt: &(impl Print + AllocGlobal), played: &mut Played, record: &Record) -
     }
 }
 
-/// Takes the move that comes next at a moment. Whether there was one that was taken.
+/// Takes the move that comes next at a moment, and prints its line. Whether there was one that was taken.
 fn take_move(
     rt: &(impl Print + AllocGlobal),
     played: &mut Played,
     moment: u64,
 ) -> io::Result<bool> {
-    match played.next(moment) {
-        Ok(Some(record)) => take(rt, played, &record),
+    match played.tell_next(moment) {
+        Ok(Some(line)) => {
+            say(rt, line.as_str())?;
+            Ok(true)
+        }
         Ok(None) => Ok(false),
         Err(error) => {
             say_refusal(rt, error)?;

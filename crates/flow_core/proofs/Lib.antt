@@ -1,3 +1,4 @@
+pub mod ComingLemmas
 pub mod DueFacts
 pub mod EditFits
 pub mod FlowLemmas

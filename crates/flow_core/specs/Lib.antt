@@ -1,3 +1,4 @@
+pub mod Comings
 pub mod Flows
 pub mod MoveKinds
 pub mod Views

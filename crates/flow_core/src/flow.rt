@@ -7,6 +7,7 @@ ghost use Rattle.flow_core.specs.Flows.{plan_of, HasSizes, IsReached};
 ghost use Rattle.flow_setup.specs.Setups.{IsSetup};
 ghost use Rattle.flow_core.specs.Views.{blank_shown, taken, taken_by, passed, AsksText, IsReadyFor, Takes, Answers};
 
+use crate::coming::Coming;
 use crate::flow_errors::FlowError;
 use crate::limits::{MOST_EDITS, passed};
 use flow_plans::{begin, change, first_change, moment_of};
@@ -26,7 +27,7 @@ pub(crate) struct Plan {
 }
 
 /// A run of playbooks (CACAO 2.0, section 4). It is made idle, and takes its Begin and then its other records one after
-/// another: `ready` takes the memory that a record needs, and `apply` takes the record.
+/// another: `ready` takes the memory that a record needs, or `ready_move` that of a move's, and `apply` takes the record.
 #[derive(Drop)]
 pub struct Flow {
     pub(crate) alloc: Global,
@@ -85,7 +86,7 @@ impl Flow {
     }
 
     /// What a record changes; None where it may not come next.
-    fn edits_for(&self, item: &Record) -> Result<Option<Vec<Planned>>, AllocError>
+    pub(crate) fn edits_for(&self, item: &Record) -> Result<Option<Vec<Planned>>, AllocError>
         ensures edits { IfOk result (λ o. option_map (λ plan. edits_of plan.items) o ≡ taken self.now item.now) }
         ensures declared { IfOk result (λ o. IfSome o (λ plan. AreDeclared plan.items)) }
     {
@@ -164,20 +165,28 @@ impl Flow {
         ensures text { IfOk result AsksText }
         ensures answers { Answers self.now result (taken_by self.now moment step) }
     {
-        if self.is_long(step, moment)? {
-            return Err(self.why_long(step, moment));
-        }
-        let found = self.record_for(step, moment)?;
-        let Some(item) = found else {
-            return Err(FlowError::NotEnabled);
-        };
-        let found = self.edits_for(&item)?;
-        let Some(edits) = found else {
-            return Err(FlowError::NotEnabled);
-        };
+        let Coming { item, edits } = self.coming(step, moment)?;
         match passed(self.run.tables.tasks.len(), edits.as_slice()) {
             Some(what) => Err(FlowError::Limit { what }),
             None => Ok(item),
         }
+    }
+
+    /// The record of a move at a moment, in milliseconds, as `make` gives it or refuses it; the flow is then ready for it, as `ready`
+    /// makes it. A refusal changes nothing.
+    pub fn ready_move(&mut self, step: Move, moment: u64) -> Result<Record, FlowError>
+        requires { self.old.count < 100_000_000 }
+        ensures made { IfOk result (λ item. record_of self.old.seen moment step ≡ Some item) }
+        ensures text { IfOk result AsksText }
+        ensures ready { IfOk result (IsReadyFor self.new) }
+        ensures count { self.new.count ≡ self.old.count }
+        ensures seen { self.new.seen ≡ self.old.seen }
+        ensures err { OnErr result (self.new ≡ self.old) }
+        ensures answers { Answers self.old result (taken_by self.old moment step) }
+    {
+        let Coming { item, edits } = self.coming(step, moment)?;
+        let moment = moment_of(&item);
+        self.hold(Plan { moment, edits })?;
+        Ok(item)
     }
 }

@@ -2,6 +2,7 @@
 #![tactic(auto)]
 
 mod bounding;
+mod coming;
 mod flow;
 mod flow_errors;
 mod limits;

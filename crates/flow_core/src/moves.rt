@@ -1,25 +1,21 @@
-// The moves that a flow makes by itself, and what it waits for. No call here takes memory but those that make a record.
-ghost use Rattle.std.specs.Prelude.{◌≡◌, ◌<◌, IfOk, IfSome, true, is_some, slice_get, option_map};
-ghost use Rattle.flow_rules.specs.Moves.{enabled_move, record_of, due, asks, ready_set, deadlines, move_at};
-ghost use Rattle.flow_rules.specs.declared.moves.Move.TheVariants as does_move;
+// The moves that a flow makes by itself, and what it waits for. No call here takes memory.
+ghost use Rattle.std.specs.Prelude.{◌≡◌, true, is_some, slice_get, option_map};
+ghost use Rattle.flow_rules.specs.Moves.{enabled_move, due, asks, ready_set, deadlines, move_at};
 ghost use Rattle.flow_rules.specs.Places.{places};
 ghost use Rattle.flow_rules.specs.Sane.{IsNotStuck};
 ghost use Rattle.flow_rules.specs.Waiting.{AlwaysWaits};
 ghost use Rattle.flow_core.specs.MoveKinds.{is_operators};
 ghost use Rattle.flow_dues.specs.Pairs.{IsQueue, rising};
 ghost use Rattle.flow_dues.specs.Least.{sooner};
-ghost use Rattle.flow_values.specs.RunFacts.{shown_of, IsWell};
-ghost use Rattle.flow_core.specs.Views.{AsksText, has_begun};
+ghost use Rattle.flow_values.specs.RunFacts.{shown_of};
+ghost use Rattle.flow_core.specs.Views.{has_begun};
 
 use crate::flow::Flow;
 use cacao_book::StepKind;
 use flow_dues::Dues;
-use flow_plans::{next_command, next_question};
-use flow_rules::{Issue, Move, Phase};
+use flow_rules::{Move, Phase};
 use flow_setup::setup_law;
 use flow_values::{Place, Run, place_in};
-use run_records::Record;
-use std::alloc::{AllocError, Global};
 
 /// The lesser of two moments, where there are any.
 fn sooner(one: Option<u64>, other: Option<u64>) -> Option<u64>
@@ -73,89 +69,7 @@ fn move_of(run: &Run, now: u64, t: u32) -> Option<Move>
     }
 }
 
-/// The record of the command that a task sends next.
-fn send_record(
-    run: &Run,
-    alloc: Global,
-    task: u32,
-    moment: u64,
-) -> Result<Option<Record>, AllocError>
-    requires { IsWell run.now }
-    ensures made { IfOk result (λ o. o ≡ record_of (shown_of run.now) moment (does_move.Send task)) }
-    ensures text { IfOk result (λ o. IfSome o AsksText) }
-{
-    let issue = run.tables.issues.len() as u32;
-    let found = next_command(run, alloc, moment, task)?;
-    let Some(made) = found else {
-        return Ok(None);
-    };
-    let Issue { agent, bytes, .. } = made.issue;
-    Ok(Some(Record::Send {
-        task,
-        issue,
-        agent,
-        moment,
-        bytes,
-    }))
-}
-
-/// The record of what a task asks an operator next.
-fn ask_record(
-    run: &Run,
-    alloc: Global,
-    task: u32,
-    moment: u64,
-) -> Result<Option<Record>, AllocError>
-    requires { IsWell run.now }
-    ensures made { IfOk result (λ o. o ≡ record_of (shown_of run.now) moment (does_move.Ask task)) }
-    ensures text { IfOk result (λ o. IfSome o AsksText) }
-{
-    let issue = run.tables.issues.len() as u32;
-    let found = next_question(run, alloc, moment, task)?;
-    let Some(made) = found else {
-        return Ok(None);
-    };
-    let Issue { bytes, .. } = made.issue;
-    Ok(Some(Record::Ask {
-        task,
-        issue,
-        moment,
-        bytes,
-    }))
-}
-
 impl Flow {
-    /// The record of a move at a moment; None where it has none.
-    pub(crate) fn record_for(&self, step: Move, moment: u64) -> Result<Option<Record>, AllocError>
-        ensures made { IfOk result (λ o. o ≡ record_of self.now.seen moment step) }
-        ensures text { IfOk result (λ o. IfSome o AsksText) }
-    {
-        match step {
-            Move::Walk { task } => Ok(Some(Record::Walk { task, moment })),
-            Move::Upgrade => Ok(Some(Record::Upgrade { version: 2, moment })),
-            Move::Send { task } => {
-                if self.count == 0 {
-                    return Ok(None);
-                }
-                if !self.run.has_numbers() {
-                    return Err(AllocError);
-                }
-                setup_law(&self.run.setup);
-                send_record(&self.run, self.alloc, task, moment)
-            }
-            Move::Ask { task } => {
-                if self.count == 0 {
-                    return Ok(None);
-                }
-                if !self.run.has_numbers() {
-                    return Err(AllocError);
-                }
-                setup_law(&self.run.setup);
-                ask_record(&self.run, self.alloc, task, moment)
-            }
-        }
-    }
-
     /// The move of the least-numbered task that has one at a moment, in milliseconds.
     pub fn enabled(&self, moment: u64) -> Option<Move>
         ensures { result ≡ enabled_move self.now.seen moment }

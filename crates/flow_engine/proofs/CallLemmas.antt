@@ -9,63 +9,43 @@ use Rattle.flow_rules.specs.Changes.{change, moment_of}
 use Rattle.flow_rules.specs.Edits.{Edit, all_edited, all_shown_edited, edited, shown_edited, changed_at, closed}
 use Rattle.flow_rules.specs.Edits.Edit.{opens, writes, makes, moves, issues, closes, upgrades}
 use Rattle.flow_rules.specs.Laws.{KeepsIssues, RecordsKeepIssues, ended_by}
+use Rattle.flow_rules.specs.declared.moves.Move.{Move}
+use Rattle.flow_rules.specs.Moves.{enabled_move}
 use Rattle.flow_rules.specs.Runs.{Next, after, shown_after}
 use Rattle.flow_rules.specs.State.{Lists, Shown, State, shown}
 use Rattle.flow_core.specs.Flows.{IsReached, IsStateOf}
 use Rattle.flow_core.specs.Views.{View, begins, taken}
-use Rattle.engine_history.specs.HistoryCalls.{Adds, Is, MayCome, Offers, PassesLimit, Refuses}
+use Rattle.engine_history.specs.HistoryCalls.{Adds, Is, IsOfMove, MayCome, Refuses}
 use Rattle.engine_history.specs.HistoryView.{HistoryView, flow_of}
 use Rattle.engine_history.specs.declared.error.EngineError.{EngineError}
 use Rattle.engine_history.specs.declared.error.EngineError.TheVariants as refused
-use Rattle.flow_engine.specs.EngineCalls.{Appends, IsStanding, Refused}
+use Rattle.engine_history.proofs.KindLemmas.{adds_as, refuses_as}
+use Rattle.flow_engine.specs.EngineCalls.{Appends, IsMove, IsStanding, Refused}
 use Rattle.flow_engine.specs.EngineView.{EngineView}
 use Rattle.flow_engine.specs.OpenIssues.{ArePut, OpenIssues, without_ended}
 use Rattle.flow_engine.proofs.EndedPuts.{KeepsOthers, puts_stay}
 
 -- ---- one record, and one of a kind
 
+appends_as : (One Other : Record → Type 0) → ((r : Record) → One r → Other r) → (old new : SiteView) (v w : EngineView) → Appends v w One old new → Appends v w Other old new
+appends_as One Other same old new v w a = record { adds = adds_as One Other same v.history w.history old new a.adds; puts = a.puts }
+
+pub refused_of_kind : (One Other : Record → Type 0) → ((r : Record) → One r → Other r) → (old new : SiteView) (v w : EngineView) (error : EngineError) → Refused v w One error old new → Refused v w Other error old new
+refused_of_kind One Other same old new v w error r = (refuses_as One Other same v.history w.history error old new r.0, r.1)
+
 module _ (IsNext : Record → Type 0) (next : Record) (is_next : IsNext next) (old new : SiteView) where
-  comes_as : (h : HistoryView) → MayCome h (Is next) → MayCome h IsNext
-  comes_as h c = record { next = c.next; edits = c.edits; is = subst IsNext (sym c.is) is_next; takes = c.takes }
-
-  offers_as : (h : HistoryView) → Offers h (Is next) old new → Offers h IsNext old new
-  unfolding comes_as
-  offers_as h o = record {
-    comes = comes_as h o.comes;
-    in_range = o.in_range;
-    within = o.within;
-    whole = o.whole;
-    file = o.file;
-    calls = o.calls;
-    written = o.written;
-  }
-
-  appends_as : (v w : EngineView) → Appends v w (Is next) old new → Appends v w IsNext old new
-  unfolding comes_as offers_as
-  appends_as v w a = record {
-    adds = record { offers = offers_as v.history (a.adds).offers; steady = (a.adds).steady; view = (a.adds).view };
-    puts = a.puts;
-  }
-
-  refuses_as : (h k : HistoryView) (error : EngineError) → Refuses h k (Is next) error old new → Refuses h k IsNext error old new
-  unfolding comes_as
-  refuses_as h k refused.Disk r = (offers_as h r.0, r.1, r.2)
-  refuses_as h k (refused.Damaged place) r = r
-  refuses_as h k (refused.OtherRun held asked) r = r
-  refuses_as h k (refused.OtherBook index) r = r
-  refuses_as h k (refused.Limit what) r = (record { comes = comes_as h (r.0).comes; passes = (r.0).passes; whole = (r.0).whole }, r.1, r.2)
-  refuses_as h k refused.Broken r = r
-  refuses_as h k refused.Memory r = r
+  one : (r : Record) → Is next r → IsNext r
+  one r is = subst IsNext (sym is) is_next
 
   pub ok_as : (v w : EngineView) (result : Result (Unit {0}) EngineError) → OnOk result (Appends v w (Is next) old new) → OnOk result (Appends v w IsNext old new)
-  ok_as v w (Ok x) a = appends_as v w a
+  ok_as v w (Ok x) a = appends_as (Is next) IsNext one old new v w a
   ok_as v w (Err e) a = tt
 
   pub done_as : (v w : EngineView) → Appends v w (Is next) old new → Appends v w IsNext old new
-  done_as v w a = appends_as v w a
+  done_as v w a = appends_as (Is next) IsNext one old new v w a
 
   pub refused_as : (v w : EngineView) (error : EngineError) → Refused v w (Is next) error old new → Refused v w IsNext error old new
-  refused_as v w error r = (refuses_as v.history w.history error r.0, r.1)
+  refused_as v w error r = refused_of_kind (Is next) IsNext one old new v w error r
 
   pub err_as : (v w : EngineView) (result : Result (Unit {0}) EngineError) → IfErr result (λ error. Refused v w (Is next) error old new)
       → IfErr result (λ error. Refused v w IsNext error old new)
@@ -77,6 +57,10 @@ module _ (IsNext : Record → Type 0) (next : Record) (is_next : IsNext next) (o
   err_through v w result f (e, is, same) r =
       subst (λ (x : Result Bool EngineError). IfErr x (λ error. Refused v w IsNext error old new)) (sym is)
       (subst (λ (x : EngineError). Refused v w IsNext x old new) (sym same) (refused_as v w f r))
+
+-- the record of the enabled move
+pub is_move : (h : HistoryView) (moment : ℕ) (found : Move) → enabled_move h.seen moment ≡ Some found → (r : Record) → IsOfMove h found moment r → IsMove h moment r
+is_move h moment found enabled r is = record { move = found; enabled = enabled; is = is }
 
 -- an append to the parts of an engine is one to the engine
 pub appends_made : (v : EngineView) (h k : HistoryView) (p q : OpenIssues) (next : Record) (old new : SiteView) → (let here : EngineView = record { history = h; puts = p } in here) ≡ v
@@ -131,6 +115,12 @@ puts_appended law h k next open_issues old new is adds puts =
     subst (λ (s : Shown). ArePut s (without_ended open_issues next)) seen
     (subst (λ (r : Record). ArePut (shown_after (moment_of c.next) c.edits h.seen) (without_ended open_issues r)) c.is
     (puts_stay h.seen (shown_after (moment_of c.next) c.edits h.seen) c.next open_issues keeps puts))
+
+-- so it is behind the calls of an engine
+pub puts_kept : RecordsKeepIssues → (v : EngineView) (h k : HistoryView) (p q : OpenIssues) (next : Record) (old new : SiteView) → (let here : EngineView = record { history = h; puts = p } in here) ≡ v → IsStanding v.history
+    → Adds h k (Is next) old new → ArePut h.seen p → q ≡ without_ended p next → ArePut k.seen q
+puts_kept law v h k p q next old new is standing adds puts ended =
+    subst (ArePut k.seen) (sym ended) (puts_appended law h k next p old new (subst IsStanding (ap (λ (x : EngineView). x.history) (sym is)) standing) adds puts)
 
 pub run_appended : (h k : HistoryView) (IsNext : Record → Type 0) (old new : SiteView) → Adds h k IsNext old new → k.seen.run ≡ h.seen.run
 run_appended h k IsNext old new adds = ap (λ (x : HistoryView). x.seen.run) adds.view

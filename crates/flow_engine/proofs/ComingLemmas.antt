@@ -4,7 +4,6 @@ use Rattle.std.specs.Bool.{⊤}
 use Rattle.std.specs.Prelude.{All, IsSome, count_by, nat_eq, nat_le, nat_lt, is_none, map, option_and_then, option_map, slice_get, unwrap_or}
 use Rattle.std.specs.Cmp.Lexicographic.{pointwise, lists_equiv, nat_list_eq_equiv}
 use Rattle.std.specs.List.{AllByRecursion, list_any}
-use Rattle.std.specs.Option.{option_or}
 use Rattle.std.specs.Str.{IsUtf8, bytes_eq, is_utf8}
 use Rattle.std.proofs.lemmas.Bool.{and_from}
 use Rattle.std.proofs.lemmas.List.{length-map}
@@ -38,13 +37,13 @@ use Rattle.flow_core.specs.Views.{AsksText, Answers, View, begins, blank_shown, 
 use Rattle.flow_core.specs.declared.flow_errors.LimitKind.{LimitKind}
 use Rattle.flow_core.specs.declared.flow_errors.LimitKind.TheVariants as limit
 use Rattle.flow_core.proofs.FlowLemmas.{reached_state}
-use Rattle.engine_history.specs.HistoryCalls.{PassesLimit, with_record}
-use Rattle.engine_history.specs.HistoryView.{HistoryView, entries_of, flow_of, length_with}
+use Rattle.engine_history.specs.HistoryCalls.{MayMove, with_record}
+use Rattle.engine_history.specs.HistoryView.{HistoryView, entries_of, flow_of}
 use Rattle.engine_history.specs.Histories.{IsHistory}
 use Rattle.flow_engine.specs.declared.puts.Puts.{Puts}
 use Rattle.operator_answers.specs.Answers.{IsOperatorAnswer}
 use Rattle.operator_answers.specs.declared.answers.OperatorAnswer.{OperatorAnswer}
-use Rattle.flow_engine.specs.EngineCalls.{IsComing, IsMove, IsStanding, IsWaiting}
+use Rattle.flow_engine.specs.EngineCalls.{IsComing, IsStanding, IsWaiting}
 use Rattle.flow_engine.specs.OpenIssues.{ArePut, IsPut, OpenIssues, puts_of}
 
 inner : {A : Type 0} (a b : A) → Some a ≡ Some b → a ≡ b
@@ -343,15 +342,14 @@ fit_fields s (entry.Ask task n moment bytes) edits m now of e text none =
     (short_first _ shape.rest edits shape.edits_are none, text)
 fit_fields s (entry.Told issue moment status bytes) edits m now of e text none = tt
 
-module _ (law : MovesAreEnabled) (h : HistoryView) (v : View) (moment : ℕ) (m : Move) (count : v.count ≡ length h.records) (seen : v.seen ≡ h.seen) (is : IsStanding h) (enabled : enabled_move h.seen moment ≡ Some m) where
+module _ (law : MovesAreEnabled) (h : HistoryView) (moment : ℕ) (m : Move) (is : IsStanding h) (enabled : enabled_move h.seen moment ≡ Some m) where
   -- what is known of the record of the enabled move
   record IsMade : Type 0 where
     made : Record
     edits : List Edit
     made_is : record_of h.seen moment m ≡ Some made
     changes : change h.seen made ≡ Some edits
-    takes : taken (flow_of h) made ≡ Some edits
-    taken_by_it : taken_by v moment m ≡ Some edits
+    takes : taken_by (flow_of h) moment m ≡ Some edits
 
   begun : length h.records ≢ 0
   begun = begun_with_move h moment m is enabled
@@ -360,41 +358,23 @@ module _ (law : MovesAreEnabled) (h : HistoryView) (v : View) (moment : ℕ) (m 
   made_so =
       let has : HasRecord h.seen moment m = law h.seen moment m enabled in
       let found = some_known (change h.seen has.made) has.is_next in
-      let here : record_of v.seen moment m ≡ Some has.made = ap (λ (s : Shown). record_of s moment m) seen ∙ has.made_is in
-      let at_once : taken v has.made ≡ Some found.0 =
-      taken_is (length h.records) v has.made count begun ∙ ap (λ (s : Shown). change s has.made) seen ∙ found.1 in
       record {
         made = has.made;
         edits = found.0;
         made_is = has.made_is;
         changes = found.1;
-        takes = taken_is (length h.records) (flow_of h) has.made refl begun ∙ found.1;
-        taken_by_it = ap (option_and_then (taken v)) here ∙ at_once;
+        takes = ap (option_and_then (taken (flow_of h))) has.made_is ∙ taken_is (length h.records) (flow_of h) has.made refl begun ∙ found.1;
       }
 
-  pub move_comes : EnabledAreInRange → (made : Record) → record_of v.seen moment m ≡ Some made → AsksText made → option_and_then (passed v.seen) (taken_by v moment m) ≡ None
-      → IsComing h made × IsMove h moment made
-  move_comes ranges made made_is text none =
+  -- it may come next, and is in range within the limits
+  pub may_move : EnabledAreInRange → MayMove (flow_of h) m moment
+  may_move ranges =
       let k : IsMade = made_so in
-      let here : record_of h.seen moment m ≡ Some made = ap (λ (s : Shown). record_of s moment m) (sym seen) ∙ made_is in
-      let same : k.made ≡ made = inner k.made made (sym k.made_is ∙ here) in
-      let changes : change h.seen made ≡ Some k.edits = subst (λ (r : Record). change h.seen r ≡ Some k.edits) same k.changes in
-      let passes : passed h.seen k.edits ≡ None =
-      ap (λ (s : Shown). passed s k.edits) (sym seen) ∙ ap (option_and_then (passed v.seen)) (sym k.taken_by_it) ∙ none in (
-        coming ranges h made is begun (subst IsSome (sym changes) refl) (fit_fields h.seen made k.edits m moment here changes text (no_long h.seen k.edits passes)),
-        record { move = m; enabled = enabled; is = here },
-      )
-
-  pub move_passes : (what : LimitKind) → option_and_then (passed v.seen) (taken_by v moment m) ≡ Some what → h.broken ≡ false → PassesLimit h (IsMove h moment) what
-  move_passes what some whole =
-      let k : IsMade = made_so in
-      let passes : passed h.seen k.edits ≡ Some what =
-      ap (λ (s : Shown). passed s k.edits) (sym seen) ∙ ap (option_and_then (passed v.seen)) (sym k.taken_by_it) ∙ some in
       record {
-        comes = record { next = k.made; edits = k.edits; is = record { move = m; enabled = enabled; is = k.made_is }; takes = k.takes };
-        passes = ap (λ (o : Option LimitKind). option_or o (cond (nat_lt 67_108_864 (length_with h.records k.made)) (Some limit.Journal) None)) passes;
-        whole = whole;
+        comes = subst IsSome (sym k.takes) refl;
+        in_range = λ made made_is text none.
+            let same : k.made ≡ made = inner k.made made (sym k.made_is ∙ made_is) in
+            let changes : change h.seen made ≡ Some k.edits = subst (λ (r : Record). change h.seen r ≡ Some k.edits) same k.changes in
+            let passes : passed h.seen k.edits ≡ None = sym (ap (option_and_then (passed h.seen)) k.takes) ∙ none in
+            (coming ranges h made is begun (subst IsSome (sym changes) refl) (fit_fields h.seen made k.edits m moment made_is changes text (no_long h.seen k.edits passes))).in_range;
       }
-
-  pub move_has_record : taken_by v moment m ≡ None → ⊥
-  move_has_record none = let k : IsMade = made_so in none_some k.edits (sym none ∙ k.taken_by_it)

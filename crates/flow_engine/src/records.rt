@@ -1,6 +1,5 @@
 // The calls that append a record.
 ghost use Rattle.std.specs.Prelude.{◌≡◌, ◌≢◌, ◌≤◌, [], ℕ, None, Some, true, false, Ok, IfOk, IfErr, OnOk, IsSome, IfSome, MatchOption, length, slice_get};
-ghost use Rattle.cacao_site.specs.View.{SiteView};
 ghost use Rattle.oc2_msg.specs.declared.answers.Answer.{Answer};
 ghost use Rattle.oc2_msg.specs.Ranges.{AnswerInRange};
 ghost use Rattle.run_records.specs.Ranges.{InRange, last_moment};
@@ -9,7 +8,7 @@ ghost use Rattle.flow_rules.specs.Changes.{is_in_time, is_waiting, outcome};
 ghost use Rattle.flow_rules.specs.Moves.{deadline_of, enabled_move};
 ghost use Rattle.flow_rules.specs.declared.issues.Issue.{Issue};
 ghost use Rattle.flow_core.specs.Views.{taken};
-ghost use Rattle.engine_history.specs.HistoryCalls.{Is, Refuses};
+ghost use Rattle.engine_history.specs.HistoryCalls.{Is, MayMove};
 ghost use Rattle.engine_history.specs.HistoryView.{IsReady, flow_of};
 ghost use Rattle.operator_answers.specs.Answers.{IsOperatorAnswer};
 ghost use Rattle.flow_engine.specs.EngineCalls.{Appends, IsBeginning, IsComing, IsFinal, IsFromFilter, IsMove, IsReply, IsReplyTo, IsStanding, IsWaiting, Refused};
@@ -19,7 +18,7 @@ ghost use Rattle.flow_engine.specs.OpenIssues.{puts_of};
 use crate::engine::Engine;
 use cacao_site::{Bytes, Disk, Parcel, Site};
 use engine_history::EngineError;
-use flow_core::{Flow, FlowError, Move};
+use flow_core::{Flow, Move};
 use flow_rules::{
     moves_are_in_range, moves_have_records, records_keep_issues, runs_are_sane, waiting_can_end,
 };
@@ -119,23 +118,40 @@ impl Engine {
         Ok(next)
     }
 
-    /// The record of the enabled move.
-    fn move_record(&self, found: Move, moment: u64) -> Result<Record, EngineError>
-        requires enabled { enabled_move self.now.history.seen moment ≡ Some found }
-        requires whole { self.now.history.broken ≡ false }
-        ensures is { IfOk result (IsMove self.now.history moment) }
-        ensures comes { IfOk result (IsComing self.now.history) }
-        ensures refused { (site : SiteView) → IfErr result (λ error.
-            Refuses self.now.history self.now.history (IsMove self.now.history moment) error site site) }
+    /// The enabled move has a record that may come next, and that is in range within the limits. The call does nothing.
+    fn may_move(&self, found: Move, moment: u64)
+        requires { enabled_move self.now.history.seen moment ≡ Some found }
+        ensures { MayMove (flow_of self.now.history) found moment }
     {
         self.stand();
         moves_have_records();
         moves_are_in_range();
-        match self.history.flow().make(found, moment) {
-            Ok(next) => Ok(next),
-            Err(FlowError::NotEnabled) => unreachable!(),
-            Err(FlowError::Limit { what }) => Err(EngineError::Limit { what }),
-            Err(FlowError::Memory) => Err(EngineError::Memory),
+    }
+
+    /// Appends the record of the enabled move, as `append` does, with what it changes made once; gives the record.
+    fn append_move<D: Disk>(
+        &mut self,
+        disk: &mut D,
+        found: Move,
+        moment: u64,
+    ) -> Result<Record, EngineError>
+        requires enabled { enabled_move self.old.history.seen moment ≡ Some found }
+        requires ready { IsReady self.old.history (D.view disk.old) }
+        ensures ready { IsReady self.new.history (D.view disk.new) }
+        ensures is { IfOk result (IsMove self.old.history moment) }
+        ensures ok { OnOk result (Appends self.old self.new (IsMove self.old.history moment) (D.view disk.old) (D.view disk.new)) }
+        ensures refused { IfErr result (λ error. Refused self.old self.new (IsMove self.old.history moment) error
+            (D.view disk.old) (D.view disk.new)) }
+    {
+        self.stand();
+        records_keep_issues();
+        self.may_move(found, moment);
+        match self.history.append_move(disk, found, moment) {
+            Ok(next) => {
+                self.puts.end(&next);
+                Ok(next)
+            }
+            Err(error) => Err(error),
         }
     }
 
@@ -240,8 +256,7 @@ impl Engine {
         let Some(found) = self.history.flow().enabled(moment) else {
             return Ok(false);
         };
-        let next = self.move_record(found, moment)?;
-        self.append(site, &next)?;
+        self.append_move(site, found, moment)?;
         Ok(true)
     }
 

@@ -3,3 +3,4 @@ pub mod AcceptLemmas
 pub mod LineLemmas
 pub mod OneAnswer
 pub mod ReplayLemmas
+pub mod ReportLemmas

@@ -1,7 +1,8 @@
 use Rattle.std.proofs.Common.{◌<◌, inl, arith, drop, length}
 use Rattle.engine_history.proofs.OpenLemmas.{first_entry}
 use Rattle.run_reports.specs.Beginnings.{HasBegun, IsNotBegun}
-use Rattle.run_reports.proofs.BeginLemmas.{none-case, place-is}
+use Rattle.run_reports.proofs.BeginLemmas.{none-case, place-is, some-arm}
+use Rattle.run_reports.proofs.ReportLemmas.{reports-run}
 use Rattle.run_reports.proofs.reports.run_report.Goals as goal
 
 pub returns-in-Ok-None-clause-damaged : goal.returns-in-Ok-None-clause-damaged
@@ -18,3 +19,11 @@ returns-in-Ok-None-clause-damaged c =
       },
       place-is place e,
     )
+
+pub returns-in-Ok-report-clause-ok : goal.returns-in-Ok-report-clause-ok
+returns-in-Ok-report-clause-ok c =
+    let items = c.args.journal.now.items in
+    let some : 0 < length items = omega arith in
+    let first = c.entry.result.now in
+    let begun : HasBegun first c.in-Ok-Some.flow = some-arm (IsNotBegun first) (HasBegun first) c.in-Ok-Some.field-0 c.in-Ok-Some.flow c.in-Ok-Some.ensures c.in-Ok-Some.field-0-is in
+    reports-run items first c.in-Ok-Some.flow c.replay.new.flow c.in-Ok-report.text (first_entry items first some c.entry.ensures) begun c.in-Ok-replay.ensures.ok c.law.ensures.sizes.tasks c.in-Ok-report.ensures
