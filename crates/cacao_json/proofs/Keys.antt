@@ -2,21 +2,8 @@
 use Rattle.std.proofs.Common.{◌≡◌, ℕ, ◌+◌, ◌≤◌, List, [], ◌∷◌, ◌++◌, length, Bool, true, false, arith}
 use Rattle.json.specs.Token.{Token}
 use Rattle.json.specs.Lex.{Lexeme, token, comma, colon, Place, fresh, after_value, after_comma, after_key, begins_colon, punctuate, place_token, if_allowed, may_begin, may_close}
+use Rattle.cacao_json.specs.Straight.{keys_in}
 use Rattle.cacao_json.proofs.Words.{is_good}
-
--- the keys among the tokens
-abbrev pub keys_in : List Token → ℕ
-keys_in [] = 0
-keys_in (Token.begin_object ∷ ts) = keys_in ts
-keys_in (Token.end_object ∷ ts) = keys_in ts
-keys_in (Token.begin_array ∷ ts) = keys_in ts
-keys_in (Token.end_array ∷ ts) = keys_in ts
-keys_in (Token.key s ∷ ts) = 1 + keys_in ts
-keys_in (Token.string s ∷ ts) = keys_in ts
-keys_in (Token.number s ∷ ts) = keys_in ts
-keys_in (Token.boolean b ∷ ts) = keys_in ts
-keys_in (Token.null ∷ ts) = keys_in ts
-keys_in (Token.bad ∷ ts) = keys_in ts
 
 pub keys_in-append : (ts us : List Token) → keys_in (ts ++ us) ≡ keys_in ts + keys_in us
 keys_in-append [] us = omega arith
@@ -44,7 +31,7 @@ colons_in (comma ∷ ls) = colons_in ls
 colons_in (colon ∷ ls) = 1 + colons_in ls
 
 -- 1 where a key is owed its colon
-abbrev owed : Place → Bool → ℕ
+abbrev pub owed : Place → Bool → ℕ
 owed after_key true = 1
 owed after_key false = 0
 owed fresh b = 0

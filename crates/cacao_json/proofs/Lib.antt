@@ -20,3 +20,6 @@ pub mod Shapes
 pub mod EscapeLengths
 pub mod Spelling
 pub mod Profiles
+pub mod ExactColons
+pub mod StraightLemmas
+pub mod TokenSteps

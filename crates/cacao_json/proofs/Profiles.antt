@@ -58,7 +58,7 @@ put_by Less k l d e ms c u h w p = (u, h, c, w)
 put_by Equal k l d e ms c u h w p = (w.0, h, w.2, w.3)
 put_by Greater k l d e ms c u h w p = (w.0, w.1, below_put l k d ms (nat_list_cmp_total.antisymm l k ∙ ap ordering_reverse c) w.2, p)
 
-formed_put : (k : List ℕ) (d : Data) (ms : Members) → IsUtf8 k → IsFormed d → AreFormedMembers ms → AreFormedMembers (put k d ms)
+pub formed_put : (k : List ℕ) (d : Data) (ms : Members) → IsUtf8 k → IsFormed d → AreFormedMembers ms → AreFormedMembers (put k d ms)
 formed_put k d no_members u h w = (u, h, tt, tt)
 formed_put k d (member l e ms) u h w = put_by (slice_cmp nat_cmp k l) k l d e ms refl u h w (formed_put k d ms u h w.3)
 

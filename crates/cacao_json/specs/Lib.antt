@@ -8,3 +8,4 @@ pub mod Profile
 pub mod Places
 pub mod Falls
 pub mod Laws
+pub mod Straight

@@ -9,9 +9,11 @@ mod find;
 pub mod laws;
 mod place;
 pub mod read;
+mod straight;
 pub mod text;
 pub mod tree;
 mod whole;
+mod wide;
 
 pub use copy::copy_tree;
 pub use error::JsonError;

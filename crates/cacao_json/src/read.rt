@@ -9,6 +9,7 @@ ghost use Rattle.cacao_json.specs.Profile.{IsTree};
 use crate::convert::tree_of;
 use crate::count::{count_colons, left_after_members};
 use crate::error::JsonError;
+use crate::straight::straight_tree;
 use crate::tree::Tree;
 use crate::whole::left_after_numbers;
 use serde_json::{Category, Value};
@@ -38,6 +39,18 @@ fn read_kept(alloc: Global, bytes: &[u8]) -> Result<Tree, JsonError>
     ensures ok { IfOk result (λ t. tree bytes.now ≡ Some (data_of t)) }
     ensures err { IfErr result (RefusesText bytes.now) }
 {
+    match straight_tree(alloc, bytes)? {
+        Some(tree) => Ok(tree),
+        None => read_again(alloc, bytes),
+    }
+}
+
+/// The tree of a text that seemed to have none, or the cause why it has none.
+fn read_again(alloc: Global, bytes: &[u8]) -> Result<Tree, JsonError>
+    requires { length bytes.now ≤ 1048576 }
+    ensures ok { IfOk result (λ t. tree bytes.now ≡ Some (data_of t)) }
+    ensures err { IfErr result (RefusesText bytes.now) }
+{
     let Some(value) = read_value(alloc, bytes)? else {
         return Err(JsonError::NotJson);
     };
@@ -61,6 +74,16 @@ fn read_kept(alloc: Global, bytes: &[u8]) -> Result<Tree, JsonError>
 /// The tree of a text of any length, by the rules of `read_tree`. `None`: it has none. `Err`: there was no memory
 /// for the tree.
 pub fn find_tree(alloc: Global, bytes: &[u8]) -> Result<Option<Tree>, AllocError>
+    ensures value { IfOk result (λ found. option_map data_of found ≡ tree bytes.now) }
+    ensures profile { IfOk result (λ found. IfSome found (λ t. IsTree (data_of t))) }
+{
+    match straight_tree(alloc, bytes)? {
+        Some(tree) => Ok(Some(tree)),
+        None => find_again(alloc, bytes),
+    }
+}
+
+fn find_again(alloc: Global, bytes: &[u8]) -> Result<Option<Tree>, AllocError>
     ensures value { IfOk result (λ found. option_map data_of found ≡ tree bytes.now) }
     ensures profile { IfOk result (λ found. IfSome found (λ t. IsTree (data_of t))) }
 {

@@ -75,6 +75,44 @@ fn members_stand_in_order_each_once(rt: HostRuntime) -> Result<(), Fail> {
     Ok(())
 }
 
+/// An object of 100 members, whose names fall from `n999` to `n900`, and one more.
+fn wide_text(alloc: Global, last: &str) -> Result<String, Fail> {
+    let mut text = String::from_str(alloc, "{")?;
+    for n in 0..100u32 {
+        text.push_str(format!(in alloc; "\"n{}\":{n},", 999 - n)?.as_str())?;
+    }
+    text.push_str(last)?;
+    Ok(text)
+}
+
+#[test]
+fn wide_objects_are_put_in_order(rt: HostRuntime) -> Result<(), Fail> {
+    let alloc = rt.alloc();
+    let tree = answer(alloc, wide_text(alloc, r#""a":7}"#)?.as_str())?;
+    assert_eq!(rt; whole_of(member(&tree, "a").ok_or("no member")?), Some(7));
+    for (name, number) in [
+        ("n999", 0),
+        ("n950", 49),
+        ("n936", 63),
+        ("n935", 64),
+        ("n900", 99),
+    ] {
+        let found = member(&tree, name).ok_or("no member")?;
+        assert_eq!(rt; whole_of(found), Some(number));
+    }
+    let repeated = JsonError::RepeatedName {
+        colons: 101,
+        members: 100,
+    };
+    refuses(
+        &rt,
+        alloc,
+        wide_text(alloc, r#""n950":1}"#)?.as_str(),
+        repeated,
+    );
+    Ok(())
+}
+
 #[test]
 fn items_stand_in_their_order(rt: HostRuntime) -> Result<(), Fail> {
     let alloc = rt.alloc();

@@ -1,11 +1,13 @@
 // The tree of a JSON text.
-ghost use Rattle.std.specs.Prelude.{◌≡◌, map, is_ok, option_map, if◌then◌else◌};
+ghost use Rattle.std.specs.Prelude.{◌≡◌, ◌+◌, map, is_ok, option_map, if◌then◌else◌, OnOk};
+ghost use Rattle.cacao_json.specs.Counts.{members, members_of_pairs};
 ghost use Rattle.serde_json.specs.Data.{no_items, no_members, put};
 ghost use Rattle.serde_json.specs.Find.{get_member};
 ghost use Rattle.cacao_json.specs.Tree.{data_of, pair_data, items_of, members_of, item_last, without};
 ghost use Rattle.cacao_json.specs.Profile.{IsSorted, AreSorted, AreSortedMembers};
 
-use crate::place::place_of;
+use crate::place::{is_behind, place_of, place_to_add};
+use crate::straight::Halt;
 use crate::text::Text;
 use std::alloc::{AllocError, Global};
 use std::marker::Model;
@@ -170,6 +172,28 @@ impl Pairs {
             }
             Err(place) => {
                 self.pairs.insert(place, Pair { name, tree })?;
+                Ok(())
+            }
+        }
+    }
+
+    /// Whether there are at least this many members, and the name is not greater than all of theirs.
+    pub(crate) fn is_wide(&self, wide: usize, name: &str) -> bool {
+        self.pairs.len() >= wide && !is_behind(&self.pairs, name)
+    }
+
+    /// One member more, in its place. `Err`: its name was there, or there was no memory.
+    pub(crate) fn add(&mut self, name: Text, tree: Tree) -> Result<(), Halt>
+        requires { IsSorted (data_of tree) }
+        ensures value { OnOk result (self.new ≡ put name (data_of tree) self.old) }
+        ensures counted { OnOk result (members_of_pairs self.new
+            ≡ 1 + (members (data_of tree) + members_of_pairs self.old)) }
+    {
+        match place_to_add(&self.pairs, name.text()) {
+            Ok(_) => Err(Halt::NoTree),
+            Err(place) => {
+                let pair = Pair { name, tree };
+                self.pairs.insert(place, pair)?;
                 Ok(())
             }
         }

@@ -4,7 +4,7 @@ use Rattle.cacao_json.specs.Counts.{numbers}
 use Rattle.cacao_json.proofs.LeftToTake.{first_broken_below}
 use Rattle.cacao_json.proofs.Readings.{numbers-reading, all_taken, tree-from_reading}
 use Rattle.cacao_json.proofs.Shapes.{IsTree-from_tree}
-use Rattle.cacao_json.proofs.read.read_kept.Goals as goal
+use Rattle.cacao_json.proofs.read.read_again.Goals as goal
 
 pub tree_of-requires : goal.tree_of-requires
 tree_of-requires c =
