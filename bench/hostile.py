@@ -64,6 +64,7 @@ def shim(folder):
 def play_part(part, program, cases, rounds, seed):
     """What was tried and found in one part."""
     table = play.Table()
+    program.leave_no_cores()
     PARTS[part](program, cases, table, rounds, random.Random(seed))
     return table
 

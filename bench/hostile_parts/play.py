@@ -30,6 +30,10 @@ class Played:
         return f"{words!r} ended with {self.status} and said {said!r}"
 
 
+def limit(kind, most):
+    resource.setrlimit(kind, (most, resource.getrlimit(kind)[1]))
+
+
 class Limits:
     """What a run may have, each as `resource` takes it; and the user who runs it."""
 
@@ -40,9 +44,9 @@ class Limits:
     def take(self):
         """Runs in the new process, before the program."""
         pairs = [(resource.RLIMIT_STACK, self.stack), (resource.RLIMIT_FSIZE, self.file), (resource.RLIMIT_AS, self.space)]
-        for kind, most in [*pairs, (resource.RLIMIT_NOFILE, self.opened), (resource.RLIMIT_CORE, 0)]:
+        for kind, most in [*pairs, (resource.RLIMIT_NOFILE, self.opened)]:
             if most is not None:
-                resource.setrlimit(kind, (most, resource.getrlimit(kind)[1]))
+                limit(kind, most)
         if self.no_signal:
             signal.signal(signal.SIGXFSZ, signal.SIG_IGN)
         if self.user is not None:
@@ -59,6 +63,11 @@ class Program:
     def __init__(self, path, shim):
         self.path, self.shim = path, shim
 
+    @staticmethod
+    def leave_no_cores():
+        """No run of this process leaves a core."""
+        limit(resource.RLIMIT_CORE, 0)
+
     def play(self, folder, words, shim=None, limits=None, stdout=None, kill_after=None, seconds=SECONDS):
         """Runs the program with these words in the folder. `shim` has what the library is asked for, by the names of its source without HOSTILE_.
         What it says goes to a file, or to `stdout`, which then keeps it."""
@@ -67,10 +76,9 @@ class Program:
             env["LD_PRELOAD"] = self.shim
             env.update({f"HOSTILE_{name}": str(value) for name, value in shim.items()})
         with tempfile.TemporaryFile() as told:
-            limits = limits or Limits()
-            process = subprocess.Popen(
-                [self.path, *words], cwd=folder, env=env, stdin=subprocess.DEVNULL, stdout=stdout or told, stderr=subprocess.DEVNULL, preexec_fn=limits.take
-            )
+            # A process without limits of its own starts much faster.
+            take = limits.take if limits else None
+            process = subprocess.Popen([self.path, *words], cwd=folder, env=env, stdin=subprocess.DEVNULL, stdout=stdout or told, stderr=subprocess.DEVNULL, preexec_fn=take)
             try:
                 if kill_after is not None:
                     time.sleep(kill_after)

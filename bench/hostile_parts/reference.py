@@ -1,6 +1,9 @@
 """What an undisturbed run of a case does, and whether a disturbed one agrees with it."""
+import hashlib
+import os
+
 from .journal import ENGINE, Damaged, Kept, agent_file, disagreement, is_answered, is_late, kinds, line_front, record
-from .play import Folder, put
+from .play import Folder, bytes_of, put
 
 ENDED = (0, 6)
 ASKED = 16
@@ -18,12 +21,23 @@ def reports(program, folder, agents):
     return [program.play(folder, ["show"])] + [program.play(folder, ["rules", str(agent)]) for agent in agents]
 
 
+def state_of(folder):
+    """A digest of all files of a folder, with their names."""
+    digest = hashlib.blake2b()
+    for name in sorted(os.listdir(folder)):
+        text = bytes_of(folder, name)
+        digest.update(f"{name} {len(text)} ".encode() + text)
+    return digest.digest()
+
+
 class Reference:
     """The undisturbed run: what each of its stages said and ended with, what the files then stand for, and what the reports say."""
 
     def __init__(self, program, case, row):
         self.program, self.case, self.row = program, case, row
         self.has_audit = program.has(["audit", ENGINE])
+        # Of each state of the files from which all was well: how many records they have.
+        self.known = {}
         with Folder(case.files) as folder:
             self.played = []
             while len(self.played) < len(case.stages):
@@ -70,9 +84,7 @@ class Reference:
             self.row.expect(acts == self.kept.filters[agent][: len(acts)], f"{how}: the acts of agent {agent} are not the front of the undisturbed ones")
         self.row.expect(disagreement(kept) is None, f"{how}: {disagreement(kept)}")
         self.row.expect(kept.engine or not kept.agents(), f"{how}: there are acts, and there is no run")
-        said = [int(line.split(" ")[0]) for played in saids for line in played.lines if is_record(line)]
-        self.row.midway += 0 < len(kept.engine) < len(self.kept.engine)
-        self.row.expect(not said or max(said) < len(kept.engine), f"{how}: record {max(said, default=0)} was said, and {len(kept.engine)} are kept")
+        self.said_is_kept(saids, len(kept.engine), how)
         shown = self.program.play(folder, ["show"])
         counted = f"records {len(kept.engine)}" if kept.engine else "no run"
         self.row.expect(shown.status == 0 and counted in shown.lines, f"{how}: {shown}, with {len(kept.engine)} records")
@@ -80,6 +92,25 @@ class Reference:
             listed = self.program.play(folder, ["rules", str(agent)])
             self.row.expect(listed.status == 0, f"{how}: {listed}")
         return self.audit(folder, kept, how)
+
+    def said_is_kept(self, saids, kept, how):
+        said = [int(line.split(" ")[0]) for played in saids for line in played.lines if is_record(line)]
+        self.row.midway += 0 < kept < len(self.kept.engine)
+        self.row.expect(not said or max(said) < kept, f"{how}: record {max(said, default=0)} was said, and {kept} are kept")
+
+    def settles(self, folder, played, how):
+        """The files are good, with all that was said, and the run goes on to its end. The program does the same from the same files and words, so
+        from a state that was seen before, and from which all was well, nothing is played again."""
+        state, found = state_of(folder), self.row.found
+        if state in self.known:
+            return self.said_is_kept([played], self.known[state], how)
+        kept = len(Kept(folder).engine)
+        self.look(folder, [played], how)
+        kept = len(Kept(folder).engine) if self.row.found == found else None
+        self.goes_on(folder, how)
+        if self.row.found == found:
+            self.known[state] = kept
+        return None
 
     def audit(self, folder, kept, how):
         if not self.has_audit:

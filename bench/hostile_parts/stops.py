@@ -173,8 +173,7 @@ def refuse_in_run(reference, shim, how):
             row.late += 1
             return row.expect(played.status in (NO_MEMORY, reference.played[0].status), f"{how}: {played}")
         row.expect(as_refused(played, reference.played[0], row), f"{how}: {played}")
-        reference.look(folder, [played], how)
-        return reference.goes_on(folder, how)
+        return reference.settles(folder, played, how)
 
 
 def refuse_in_report(program, folder, words, row, shim, right, how):
