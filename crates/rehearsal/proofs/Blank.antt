@@ -34,14 +34,21 @@ use Rattle.flow_world.specs.Openings.{OpensFile, OpensFilters, RefusesFile, Refu
 use Rattle.flow_world.specs.Sessions.{HasRefused, RefusesLater, Went}
 use Rattle.flow_world.specs.declared.error.WorldError.{WorldError}
 use Rattle.flow_world.specs.declared.error.WorldError.TheVariants as refusal
+use Rattle.cacao_json.specs.Reading.{tree}
+use Rattle.cacao_check.specs.Fits.{FitsKind}
+use Rattle.flow_core.specs.Setups.{AreAccepted}
+use Rattle.rehearsal.specs.Books.{rehearsal, rehearsal_text}
 use Rattle.rehearsal.specs.Counts.{KeepsImages}
 use Rattle.rehearsal.specs.NewSites.{MayComeOfNew, TellsOfBefore}
+use Rattle.rehearsal.specs.Plans.{site_plan}
 use Rattle.rehearsal.specs.Rehearsals.{FailsToRehearse, most_records, run_number}
 use Rattle.rehearsal.specs.Settings.{IsNewSite}
 use Rattle.rehearsal.specs.declared.error.RehearsalError.{RehearsalError}
 use Rattle.rehearsal.specs.declared.error.RehearsalError.TheVariants as error
 use Rattle.rehearsal.specs.declared.summary.Summary.{Summary}
+use Rattle.rehearsal.proofs.Closing.{may_close}
 use Rattle.rehearsal.proofs.Held.{keeps_only}
+use Rattle.rehearsal.proofs.Manual.{was_accepted}
 use Rattle.rehearsal.proofs.Used.{finds_first}
 
 -- ---- the files
@@ -212,16 +219,18 @@ module _ (given : Given) (run most : ℕ) (answers : List OperatorAnswer) (old n
 
 -- ---- a rehearsal
 
-may_come : (positions : ℕ) (site : MemorySite) (new : SiteView) (why : RehearsalError) → IsNewSite site → IsSound new → FailsToRehearse positions (view_of site) new why → MayComeOfNew why
-may_come positions site new error.TooLong is sound fails = tt
-may_come positions site new (error.Broken told) is sound fails = tt
-may_come positions site new (error.Closed how) is sound fails = tt
-may_come positions site new (error.Refused why) is sound fails =
-    refuses_nothing_old fails.given run_number most_records [] (view_of site) new (new_is_blank site is) sound why fails.fails
-may_come positions site new error.Disk is sound fails = tt
-may_come positions site new error.Memory is sound fails = tt
+module _ (positions : ℕ) (reads : tree (rehearsal_text positions) ≡ Some (rehearsal positions)) (site : MemorySite) (new : SiteView) (sound : IsSound new)
+    (reached : new.clock.asked ≤ site_plan.stop_clock → new.clock.asked ≤ new.clock.now) where
+  may_come : (why : RehearsalError) → IsNewSite site → FailsToRehearse positions (view_of site) new why → MayComeOfNew why
+  may_come error.TooLong is fails = tt
+  may_come (error.Broken told) is fails = tt
+  may_come (error.Closed how) is fails =
+      may_close fails.given run_number most_records [] (view_of site) new how (was_accepted AreAccepted FitsKind positions (rehearsal_text positions) fails.given reads fails.accepted) (omega arith) reached fails.fails.closed
+  may_come (error.Refused why) is fails =
+      refuses_nothing_old fails.given run_number most_records [] (view_of site) new (new_is_blank site is) sound why fails.fails
+  may_come error.Disk is fails = tt
+  may_come error.Memory is fails = tt
 
-pub comes_of_new : (positions : ℕ) (site : MemorySite) (new : SiteView) (r : Result Summary RehearsalError) → IsSound new → IfErr r (FailsToRehearse positions (view_of site) new)
-    → IsNewSite site → IfErr r MayComeOfNew
-comes_of_new positions site new (Ok summary) sound fails is = tt
-comes_of_new positions site new (Err why) sound fails is = may_come positions site new why is sound fails
+  pub comes_of_new : (r : Result Summary RehearsalError) → IfErr r (FailsToRehearse positions (view_of site) new) → IsNewSite site → IfErr r MayComeOfNew
+  comes_of_new (Ok summary) fails is = tt
+  comes_of_new (Err why) fails is = may_come why is fails

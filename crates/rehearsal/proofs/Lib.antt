@@ -1,8 +1,13 @@
+pub mod Asking
 pub mod Blank
+pub mod Closing
 pub mod CommandTexts
 pub mod Digits
 pub mod Given
 pub mod Held
+pub mod Manual
+pub mod Moments
 pub mod Plain
+pub mod Planned
 pub mod Running
 pub mod Used

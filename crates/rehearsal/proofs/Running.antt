@@ -14,9 +14,12 @@ use Rattle.flow_world.specs.Sessions.{HasClosed, HasRefused}
 use Rattle.flow_world.specs.declared.close.Close.{Close}
 use Rattle.flow_world.specs.declared.close.Close.TheVariants as close
 use Rattle.flow_world.specs.declared.error.WorldError.{WorldError}
-use Rattle.std.specs.Prelude.{IfErr, IfOk, Result, Ok, Err}
+use Rattle.std.specs.Prelude.{IfErr, IfOk, MatchResult, Result, Ok, Err}
+use Rattle.memory_site.specs.declared.site.MemorySite.{MemorySite}
 use Rattle.rehearsal.specs.Books.{rehearsal_text}
 use Rattle.rehearsal.specs.Counts.{Counts, HoldsFilters, HoldsRun, KeepsImages}
+use Rattle.rehearsal.specs.NewSites.{EndsByPlan}
+use Rattle.rehearsal.specs.Plans.{GoesByPlan}
 use Rattle.rehearsal.specs.Rehearsals.{Closes, ClosesOtherwise, FailsToCount, FailsToRehearse, FailsToRun, Refuses, Rehearsed, RunsWell, ended_well, is_well, most_records, run_number}
 use Rattle.rehearsal.specs.Settings.{IsAccepted, RefusesText}
 use Rattle.rehearsal.specs.declared.error.RehearsalError.{RehearsalError}
@@ -86,8 +89,8 @@ module _ (given : Given) (how : Close) (answers : List OperatorAnswer) (old afte
   pub all_held : HoldsFilters after
   all_held = holds_filters given run_number most_records [] old after closes
 
-  pub fails_to_count : (new : SiteView) → Rose after.disk.faults new.disk.faults → FailsToCount given old new
-  fails_to_count new rose = record { after = after; closed = closes; rose = rose }
+  pub fails_to_count : (new : SiteView) → KeepsImages after.disk new.disk → Rose after.disk.faults new.disk.faults → FailsToCount given old new
+  fails_to_count new keeps rose = record { after = after; closed = closes; keeps = keeps; rose = rose }
 
   pub runs_well : (new : SiteView) (summary : Summary) → KeepsImages after.disk new.disk → Counts after summary → RunsWell given old new summary
   runs_well new summary keeps counts = record {
@@ -126,3 +129,13 @@ not_read positions text site (error.Closed how) same short told = absurd told
 not_read positions text site (error.Refused cause) same short told = absurd told
 not_read positions text site error.Disk same short told = absurd told
 not_read positions text site error.Memory same short told = tt
+
+-- where its site went by its plan, so it did whatever came
+pub goes_by_plan : (r : Result Summary RehearsalError) (site : MemorySite) → GoesByPlan site → MatchResult r (λ summary. GoesByPlan site) (EndsByPlan site)
+goes_by_plan (Ok summary) site goes = goes
+goes_by_plan (Err error.TooLong) site goes = tt
+goes_by_plan (Err (error.Broken told)) site goes = tt
+goes_by_plan (Err (error.Closed how)) site goes = goes
+goes_by_plan (Err (error.Refused why)) site goes = goes
+goes_by_plan (Err error.Disk) site goes = goes
+goes_by_plan (Err error.Memory) site goes = tt

@@ -1,6 +1,7 @@
 -- The playbook of a rehearsal. Its positions have numbers from 1 on; one in three denies a net, the next allows two addresses in
 -- parallel, and the one behind it deletes a rule.
-use Rattle.std.specs.Prelude.{ℕ, zero, suc, ◌+◌, ◌-◌, ◌*◌, ◌/◌, ◌%◌, ◌==◌, false, List, [], ◌∷◌, ◌++◌, length, map, fold, replicate, codes, decimal, if◌then◌else◌}
+use Rattle.std.specs.Prelude.{ℕ, zero, suc, ◌+◌, ◌-◌, ◌*◌, ◌/◌, ◌%◌, ◌==◌, false, if◌then◌else◌}
+use Rattle.std.specs.Prelude.{List, [], ◌∷◌, ◌++◌, length, map, fold, replicate, codes, decimal}
 use Rattle.std.specs.Fmt.{digits}
 use Rattle.serde_json.specs.Data.{Data, string, array, object, Members, no_members, put}
 use Rattle.cacao_json.specs.Tree.{items_of}
@@ -77,12 +78,16 @@ deletes = command (codes "delete") (codes "slpf:rule_number") (codes "__rule__:v
 
 -- ---- steps
 
+-- a command that sends this content to a filter
+abbrev pub http_command : List ℕ → Data
+http_command content = object_of ((codes "type", string (codes "openc2-http")) ∷ (codes "content", string content) ∷ [])
+
 -- what an action has that sends one command and goes on to a step
 abbrev pub sends : List ℕ → List ℕ → List (List ℕ × Data)
 sends content next =
     (codes "type", string (codes "action"))
     ∷ (codes "agent", string agent)
-    ∷ (codes "commands", array (items_of (object_of ((codes "type", string (codes "openc2-http")) ∷ (codes "content", string content) ∷ []) ∷ [])))
+    ∷ (codes "commands", array (items_of (http_command content ∷ [])))
     ∷ (codes "on_completion", string next)
     ∷ []
 

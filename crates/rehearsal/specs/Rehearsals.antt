@@ -58,6 +58,7 @@ pub record ClosesOtherwise (given : Given) (how : Close) (old new : SiteView) : 
 pub record FailsToCount (given : Given) (old new : SiteView) : Type 0 where
   pub after : SiteView
   pub closed : Closes given ended_well old after
+  pub keeps : KeepsImages after.disk new.disk
   pub rose : Rose after.disk.faults new.disk.faults
 
 abbrev pub FailsToRun : Given → SiteView → SiteView → RehearsalError → Type 0

@@ -4,20 +4,16 @@ use Rattle.cacao_site.specs.Clock.{clock_at}
 use Rattle.memory_site.specs.MemorySite.{plan_of, view_of}
 use Rattle.memory_site.specs.MemoryView.{memory_view, no_link}
 use Rattle.memory_site.specs.declared.site.MemorySite.{MemorySite}
-use Rattle.memory_site.specs.declared.plan.SitePlan.{SitePlan}
 use Rattle.cacao_check.specs.Fits.{FitsKind}
 use Rattle.flow_rules.specs.Accepted.{Accepted}
 use Rattle.flow_rules.specs.Givens.{Given}
 use Rattle.flow_core.specs.SetupReading.{BreaksRule}
 use Rattle.flow_core.specs.Setups.{AreAccepted}
+use Rattle.rehearsal.specs.Plans.{site_plan}
 use Rattle.rehearsal.specs.declared.error.RehearsalError.{RehearsalError}
 use Rattle.rehearsal.specs.declared.error.RehearsalError.TheVariants as error
 
 -- ---- the site
-
--- much room, no device call that fails, no mishap, and a clock that goes on by itself
-abbrev pub site_plan : SitePlan
-site_plan = record { room = 67108864; calls = 131072; start = 0; stop_clock = 9000000000000000; failing = []; weather = [] }
 
 -- blank files, no parcel, no line
 pub record IsNewSite (site : MemorySite) : Type 0 where

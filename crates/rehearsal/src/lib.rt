@@ -8,6 +8,7 @@ mod error;
 mod names;
 mod rehearsing;
 mod setting;
+mod site;
 mod steps;
 mod summary;
 
@@ -15,6 +16,7 @@ pub use book::rehearsal_text;
 pub use error::RehearsalError;
 pub use rehearsing::rehearse;
 pub use setting::new_site;
+pub use site::RehearsalSite;
 pub use summary::Summary;
 
 #[cfg(test)]

@@ -1,18 +1,20 @@
 // One rehearsal.
-ghost use Rattle.std.specs.Prelude.{◌≡◌, IfOk, IfErr};
+ghost use Rattle.std.specs.Prelude.{◌≡◌, IfOk, IfErr, MatchResult};
 ghost use Rattle.memory_site.specs.MemorySite.{view_of};
-ghost use Rattle.rehearsal.specs.NewSites.{MayComeOfNew};
+ghost use Rattle.rehearsal.specs.NewSites.{EndsByPlan, MayComeOfNew};
+ghost use Rattle.rehearsal.specs.Plans.{GoesByPlan};
 ghost use Rattle.rehearsal.specs.Settings.{IsNewSite};
 ghost use Rattle.rehearsal.specs.Rehearsals.{FailsToRehearse, FailsToRun, Rehearsed, RunsWell, is_well};
+ghost use Rattle.rehearsal.specs.Sites.{inside};
 
 use crate::book::rehearsal_text;
 use crate::counting::{CountError, count};
 use crate::error::RehearsalError;
 use crate::setting::{no_answers, read_setup};
+use crate::site::RehearsalSite;
 use crate::summary::Summary;
 use flow_core::Setup;
 use flow_world::{Close, session};
-use memory_site::MemorySite;
 use std::alloc::Global;
 
 /// The number of the run.
@@ -38,9 +40,9 @@ fn is_well(close: Close) -> bool
 }
 
 /// Runs what is given on a site in memory, and counts.
-fn run(alloc: Global, site: &mut MemorySite, setup: Setup) -> Result<Summary, RehearsalError>
-    ensures ok { IfOk result (RunsWell setup (view_of site.old) (view_of site.new)) }
-    ensures err { IfErr result (FailsToRun setup (view_of site.old) (view_of site.new)) }
+fn run(alloc: Global, site: &mut RehearsalSite, setup: Setup) -> Result<Summary, RehearsalError>
+    ensures ok { IfOk result (RunsWell setup (view_of (inside site.old)) (view_of (inside site.new))) }
+    ensures err { IfErr result (FailsToRun setup (view_of (inside site.old)) (view_of (inside site.new))) }
 {
     let answers = no_answers(alloc)?;
     let close = match session(alloc, site, setup, &answers, RUN, MOST_RECORDS) {
@@ -58,16 +60,20 @@ fn run(alloc: Global, site: &mut MemorySite, setup: Setup) -> Result<Summary, Re
 }
 
 /// Makes the playbook with so many positions, and holds one session of it on a site in memory, as `new_site` makes one: run 1, with
-/// at most 1,000,000,000 records. Then the records, the acts and the rules are counted. On a new site no file is damaged, of another
-/// run, or of a filter that acted for the run.
+/// at most 1,000,000,000 records. Then the records, the acts and the rules are counted.
+///
+/// On a new site no file is damaged, of another run, or of a filter that acted for the run; and the session neither waits for a
+/// moment or for an operator nor comes to the end of its budget. Where the disk fails, the site is used up. (A line or a parcel of
+/// more than 1,048,576 bytes, which no session hands to a site, would be answered as want of memory.)
 pub fn rehearse(
     alloc: Global,
-    site: &mut MemorySite,
+    site: &mut RehearsalSite,
     positions: u32,
 ) -> Result<Summary, RehearsalError>
-    ensures ok { IfOk result (Rehearsed positions (view_of site.old) (view_of site.new)) }
-    ensures err { IfErr result (FailsToRehearse positions (view_of site.old) (view_of site.new)) }
-    ensures new_site { IsNewSite site.old → IfErr result MayComeOfNew }
+    ensures ok { IfOk result (Rehearsed positions (view_of (inside site.old)) (view_of (inside site.new))) }
+    ensures err { IfErr result (FailsToRehearse positions (view_of (inside site.old)) (view_of (inside site.new))) }
+    ensures new_site { IsNewSite (inside site.old) → IfErr result MayComeOfNew }
+    ensures by_plan { MatchResult result (λ summary. GoesByPlan (inside site.new)) (EndsByPlan (inside site.new)) }
 {
     let text = rehearsal_text(alloc, positions)?;
     if text.len() > MOST_BYTES {
@@ -77,5 +83,10 @@ pub fn rehearse(
         Ok(setup) => setup,
         Err(error) => return Err(error),
     };
-    run(alloc, site, setup)
+    let ran = run(alloc, site, setup);
+    if site.is_short() {
+        ran
+    } else {
+        Err(RehearsalError::Memory)
+    }
 }

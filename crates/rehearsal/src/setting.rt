@@ -3,8 +3,10 @@ ghost use Rattle.std.specs.Prelude.{◌≡◌, [], IsSome, IfOk, IfErr};
 ghost use Rattle.cacao_json.specs.Reading.{tree};
 ghost use Rattle.flow_core.specs.Setups.{IsReadable};
 ghost use Rattle.rehearsal.specs.Settings.{IsAccepted, IsNewSite, RefusesText};
+ghost use Rattle.rehearsal.specs.Sites.{inside};
 
 use crate::error::RehearsalError;
+use crate::site::RehearsalSite;
 use cacao_site::Bytes;
 use flow_core::{Setup, SetupError};
 use memory_site::{CallList, MemorySite, SitePlan, WeatherList};
@@ -49,8 +51,8 @@ pub(crate) fn no_answers(alloc: Global) -> Result<Answers, AllocError>
 
 /// A new site in memory, with room for 67,108,864 bytes and 131,072 device calls, none of which fails, and with a clock that starts
 /// at 0 and goes on by itself to 9,000,000,000,000,000 milliseconds.
-pub fn new_site(alloc: Global) -> Result<MemorySite, AllocError>
-    ensures { IfOk result IsNewSite }
+pub fn new_site(alloc: Global) -> Result<RehearsalSite, AllocError>
+    ensures { IfOk result (λ own. IsNewSite (inside own)) }
 {
     let plan = SitePlan {
         room: 67_108_864,
@@ -61,5 +63,5 @@ pub fn new_site(alloc: Global) -> Result<MemorySite, AllocError>
         weather: WeatherList::from_vec(Vec::new(alloc)),
     };
     let site = MemorySite::new(alloc, plan)?;
-    Ok(site)
+    Ok(RehearsalSite { site, longest: 0 })
 }

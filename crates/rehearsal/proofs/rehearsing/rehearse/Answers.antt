@@ -1,24 +1,33 @@
-use Rattle.std.proofs.Common.{arith}
+use Rattle.std.proofs.Common.{◌≡◌, ℕ, List, Some, arith, subst}
 use Rattle.std.specs.Prelude.{Err}
+use Rattle.cacao_json.specs.Reading.{tree}
 use Rattle.memory_site.specs.MemorySite.{view_of}
 use Rattle.memory_site.specs.MemorySound.{site-sound}
+use Rattle.rehearsal.specs.Books.{rehearsal}
 use Rattle.rehearsal.proofs.Blank.{comes_of_new}
-use Rattle.rehearsal.proofs.Running.{fails_then, not_read, runs_then}
+use Rattle.rehearsal.proofs.Running.{fails_then, goes_by_plan, not_read, runs_then}
 use Rattle.rehearsal.proofs.rehearsing.rehearse.Goals as goal
 
 pub returns-in-Err-clause-err : goal.returns-in-Err-clause-err
-returns-in-Err-clause-err c = not_read c.args.positions c.in_ok-text.text (view_of c.args.site.now) c.in-Err.error c.in_ok-text.ensures.text (omega (arith, c.len.ensures, c.if-len-gt-MOST_BYTES.false)) c.in-Err.ensures.err
+returns-in-Err-clause-err c = not_read c.args.positions c.in_ok-text.text (view_of c.args.site.now.site) c.in-Err.error c.in_ok-text.ensures.text (omega (arith, c.len.ensures, c.if-len-gt-MOST_BYTES.false)) c.in-Err.ensures.err
 
-pub returns-clause-ok : goal.returns-clause-ok
-returns-clause-ok c =
-    runs_then c.args.positions c.in_ok-text.text c.in-Ok.setup (view_of c.args.site.now) (view_of c.run.new.site) c.run.result c.in_ok-text.ensures.text c.in-Ok.ensures.ok c.run.ensures.ok
+pub returns-then-is_short-clause-ok : goal.returns-then-is_short-clause-ok
+returns-then-is_short-clause-ok c =
+    runs_then c.args.positions c.in_ok-text.text c.in-Ok.setup (view_of c.args.site.now.site) (view_of c.run-ran.new.site.site) c.run-ran.result c.in_ok-text.ensures.text c.in-Ok.ensures.ok c.run-ran.ensures.ok
 
-pub returns-clause-err : goal.returns-clause-err
-returns-clause-err c =
-    fails_then c.args.positions c.in_ok-text.text c.in-Ok.setup (view_of c.args.site.now) (view_of c.run.new.site) c.run.result c.in_ok-text.ensures.text c.in-Ok.ensures.ok c.run.ensures.err
+pub returns-then-is_short-clause-err : goal.returns-then-is_short-clause-err
+returns-then-is_short-clause-err c =
+    fails_then c.args.positions c.in_ok-text.text c.in-Ok.setup (view_of c.args.site.now.site) (view_of c.run-ran.new.site.site) c.run-ran.result c.in_ok-text.ensures.text c.in-Ok.ensures.ok c.run-ran.ensures.err
 
 pub returns-in-Err-clause-new_site : goal.returns-in-Err-clause-new_site
-returns-in-Err-clause-new_site c = comes_of_new c.args.positions c.args.site.now (view_of c.args.site.now) (Err c.in-Err.error) (site-sound c.args.site.now) (returns-in-Err-clause-err c)
+returns-in-Err-clause-new_site c =
+    comes_of_new c.args.positions (subst (λ (t : List ℕ). tree t ≡ Some (rehearsal c.args.positions)) c.in_ok-text.ensures.text c.in_ok-text.ensures.reads) c.args.site.now.site (view_of c.args.site.now.site) (site-sound c.args.site.now.site)
+    c.args.site.now.goes_on.reached (Err c.in-Err.error) (returns-in-Err-clause-err c)
 
-pub returns-clause-new_site : goal.returns-clause-new_site
-returns-clause-new_site c = comes_of_new c.args.positions c.args.site.now (view_of c.run.new.site) c.run.result (site-sound c.run.new.site) (returns-clause-err c)
+pub returns-then-is_short-clause-new_site : goal.returns-then-is_short-clause-new_site
+returns-then-is_short-clause-new_site c =
+    comes_of_new c.args.positions (subst (λ (t : List ℕ). tree t ≡ Some (rehearsal c.args.positions)) c.in_ok-text.ensures.text c.in_ok-text.ensures.reads) c.args.site.now.site (view_of c.run-ran.new.site.site) (site-sound c.run-ran.new.site.site)
+    c.run-ran.new.site.goes_on.reached c.run-ran.result (returns-then-is_short-clause-err c)
+
+pub returns-then-is_short-clause-by_plan : goal.returns-then-is_short-clause-by_plan
+returns-then-is_short-clause-by_plan c = goes_by_plan c.run-ran.result c.run-ran.new.site.site (c.is_short.ensures c.if-is_short.true)
