@@ -17,7 +17,7 @@ use Rattle.cacao_cli.specs.Ends.{rehearsed, damaged, disk_failed, unsaid, no_mem
 use Rattle.cacao_cli.specs.Exact.{IsOneOf, session_statuses}
 use Rattle.cacao_cli.specs.Files.{Files, NamedText, Reads, ShelfCall, files_of, has_too_many}
 use Rattle.cacao_cli.specs.Leaves.{CountsDisk}
-use Rattle.cacao_cli.specs.Rehearsing.{ComesOfBlank, TellsRehearsal}
+use Rattle.cacao_cli.specs.Rehearsing.{MayEndSo, TellsRehearsal}
 use Rattle.cacao_cli.specs.Statuses.{MayAnswer, rehearsal_statuses, statuses_of}
 use Rattle.cacao_cli.specs.Work.{Work, ends, judges, opens_filter, opens_run, compares, rehearsals, starts, at_decisions, canon_line, or_end, packets_or_end, start_of, trees_of, trees_wanted, work, work_on}
 use Rattle.cacao_cli.specs.declared.limit.Limit.TheVariants.{BookCount}
@@ -32,47 +32,51 @@ use Rattle.cacao_cli.proofs.StatusLists.{are_among, not-among, widen}
 
 -- ---- a rehearsal
 
-not-before : (last : End) → ComesOfBlank last → (status_of last ≡ 12 → ⊥) × (status_of last ≡ 13 → ⊥)
-not-before done h = (λ e. omega (arith, e), λ e. omega (arith, e))
-not-before accepted h = (λ e. omega (arith, e), λ e. omega (arith, e))
-not-before (agrees records acts) h = (λ e. omega (arith, e), λ e. omega (arith, e))
-not-before (disagrees file place) h = (λ e. omega (arith, e), λ e. omega (arith, e))
-not-before (refused broken) h = (λ e. omega (arith, e), λ e. omega (arith, e))
-not-before (bind_refused rule) h = (λ e. omega (arith, e), λ e. omega (arith, e))
-not-before ended_ok h = (λ e. omega (arith, e), λ e. omega (arith, e))
-not-before ended_failed h = (λ e. omega (arith, e), λ e. omega (arith, e))
-not-before paused h = (λ e. omega (arith, e), λ e. omega (arith, e))
-not-before (waiting moment) h = (λ e. omega (arith, e), λ e. omega (arith, e))
-not-before flooded h = (λ e. omega (arith, e), λ e. omega (arith, e))
-not-before (asked_for issue) h = (λ e. omega (arith, e), λ e. omega (arith, e))
-not-before (other_run held asked) h = absurd h
-not-before (other_book index) h = absurd h
-not-before (run_used agent) h = absurd h
-not-before not_understood h = (λ e. omega (arith, e), λ e. omega (arith, e))
-not-before (past limit) h = (λ e. omega (arith, e), λ e. omega (arith, e))
-not-before (shelf_failed name) h = (λ e. omega (arith, e), λ e. omega (arith, e))
-not-before (no_such_file name) h = (λ e. omega (arith, e), λ e. omega (arith, e))
-not-before (not_readable name reason) h = (λ e. omega (arith, e), λ e. omega (arith, e))
-not-before (rehearsed positions records acts rules) h = (λ e. omega (arith, e), λ e. omega (arith, e))
-not-before (damaged file place) h = absurd h
-not-before disk_failed h = (λ e. omega (arith, e), λ e. omega (arith, e))
-not-before unsaid h = (λ e. omega (arith, e), λ e. omega (arith, e))
-not-before no_memory h = (λ e. omega (arith, e), λ e. omega (arith, e))
+-- the statuses of a session that no rehearsal answers
+abbrev left-out : List ℕ
+left-out = 7 ∷ 12 ∷ 13 ∷ 14 ∷ 16 ∷ []
 
--- the statuses of a session that are left
-left-over : (n : ℕ) → IsOneOf n session_statuses → (n ≡ 12 → ⊥) × (n ≡ 13 → ⊥) → IsOneOf n rehearsal_statuses
+may-status : (last : End) → MayEndSo last → list_any (nat_eq (status_of last)) left-out ≡ false
+may-status done h = refl
+may-status accepted h = refl
+may-status (agrees records acts) h = refl
+may-status (disagrees file place) h = refl
+may-status (refused broken) h = refl
+may-status (bind_refused rule) h = refl
+may-status ended_ok h = refl
+may-status ended_failed h = refl
+may-status paused h = absurd h
+may-status (waiting moment) h = absurd h
+may-status flooded h = refl
+may-status (asked_for issue) h = absurd h
+may-status (other_run held asked) h = absurd h
+may-status (other_book index) h = absurd h
+may-status (run_used agent) h = absurd h
+may-status not_understood h = refl
+may-status (past limit) h = refl
+may-status (shelf_failed name) h = refl
+may-status (no_such_file name) h = refl
+may-status (not_readable name reason) h = refl
+may-status (rehearsed positions records acts rules) h = refl
+may-status (damaged file place) h = absurd h
+may-status disk_failed h = refl
+may-status unsaid h = refl
+may-status no_memory h = refl
+
+-- and those that are left
+left-over : (n : ℕ) → IsOneOf n session_statuses → (IsOneOf n left-out → ⊥) → IsOneOf n rehearsal_statuses
 left-over n (inl e) others = inl e
 left-over n (inr (inl e)) others = inr (inr (inl e))
-left-over n (inr (inr (inl e))) others = inr (inr (inr (inl e)))
-left-over n (inr (inr (inr (inl e)))) others = inr (inr (inr (inr (inl e))))
-left-over n (inr (inr (inr (inr (inl e))))) others = inr (inr (inr (inr (inr (inl e)))))
-left-over n (inr (inr (inr (inr (inr (inl e)))))) others = inr (inr (inr (inr (inr (inr (inl e))))))
-left-over n (inr (inr (inr (inr (inr (inr (inl e))))))) others = inr (inr (inr (inr (inr (inr (inr (inl e)))))))
-left-over n (inr (inr (inr (inr (inr (inr (inr (inl e)))))))) others = absurd (others.0 e)
-left-over n (inr (inr (inr (inr (inr (inr (inr (inr (inl e))))))))) others = absurd (others.1 e)
-left-over n (inr (inr (inr (inr (inr (inr (inr (inr (inr (inl e)))))))))) others = inr (inr (inr (inr (inr (inr (inr (inr (inl e))))))))
-left-over n (inr (inr (inr (inr (inr (inr (inr (inr (inr (inr (inl e))))))))))) others = inr (inr (inr (inr (inr (inr (inr (inr (inr (inl e)))))))))
-left-over n (inr (inr (inr (inr (inr (inr (inr (inr (inr (inr (inr (inl e)))))))))))) others = inr (inr (inr (inr (inr (inr (inr (inr (inr (inr (inl e))))))))))
+left-over n (inr (inr (inl e))) others = absurd (others (inl e))
+left-over n (inr (inr (inr (inl e)))) others = inr (inr (inr (inl e)))
+left-over n (inr (inr (inr (inr (inl e))))) others = inr (inr (inr (inr (inl e))))
+left-over n (inr (inr (inr (inr (inr (inl e)))))) others = inr (inr (inr (inr (inr (inl e)))))
+left-over n (inr (inr (inr (inr (inr (inr (inl e))))))) others = inr (inr (inr (inr (inr (inr (inl e))))))
+left-over n (inr (inr (inr (inr (inr (inr (inr (inl e)))))))) others = absurd (others (inr (inl e)))
+left-over n (inr (inr (inr (inr (inr (inr (inr (inr (inl e))))))))) others = absurd (others (inr (inr (inl e))))
+left-over n (inr (inr (inr (inr (inr (inr (inr (inr (inr (inl e)))))))))) others = absurd (others (inr (inr (inr (inl e)))))
+left-over n (inr (inr (inr (inr (inr (inr (inr (inr (inr (inr (inl e))))))))))) others = inr (inr (inr (inr (inr (inr (inr (inl e)))))))
+left-over n (inr (inr (inr (inr (inr (inr (inr (inr (inr (inr (inr (inl e)))))))))))) others = absurd (others (inr (inr (inr (inr (inl e))))))
 left-over n (inr (inr (inr (inr (inr (inr (inr (inr (inr (inr (inr (inr none)))))))))))) others = absurd none
 
 -- ---- the statuses of the work
@@ -100,10 +104,10 @@ comes-listed opens_run old new n (inr (inr (inr is))) = inr (inr (inr (inl is)))
 comes-listed (compares files) old new n (inl h) = inl h.1
 comes-listed (compares files) old new n (inr (inl h)) = inr (inl h.1)
 comes-listed (compares files) old new n (inr (inr h)) = inr (inr (inl h.1))
-comes-listed (rehearsals positions) old new n (inl h) = inr (inr (inr (inr (inr (inr (inr (inl h.1)))))))
+comes-listed (rehearsals positions) old new n (inl h) = inr (inr (inr (inr (inr (inr (inl h.1))))))
 comes-listed (rehearsals positions) old new n (inr (inl h)) = inr (inl h.1)
 comes-listed (rehearsals positions) old new n (inr (inr h)) = subst (λ (m : ℕ). IsOneOf m rehearsal_statuses) (sym h.is)
-    (left-over (status_of h.last) (run-listed positions h.came.given (view_of h.came.site) h.came.after h.last h.came.runs) (not-before h.last h.came.of_blank))
+    (left-over (status_of h.last) (run-listed positions h.came.given (view_of h.came.site) (view_of h.came.left) h.last h.came.runs) (not-among (status_of h.last) left-out (may-status h.last h.came.may)))
 comes-listed (starts start) old new n (inl h) = inl h.1
 comes-listed (starts start) old new n (inr (inl h)) = inr (inl h.1)
 comes-listed (starts start) old new n (inr (inr h)) = inr (inr (settled-listed start h))

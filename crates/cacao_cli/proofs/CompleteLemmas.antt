@@ -18,13 +18,11 @@ use Rattle.flow_rules.specs.Accepted.{Accepted}
 use Rattle.flow_rules.specs.Givens.{Given}
 use Rattle.operator_answers.specs.declared.answers.OperatorAnswer.{OperatorAnswer}
 use Rattle.flow_laws.specs.Good.{IsGood}
-use Rattle.flow_world.specs.Sessions.{HasClosed, HasRefused, IsStart, KeepsAgreement, Went}
-use Rattle.flow_steps.specs.Unbroken.{IsJournalSure}
+use Rattle.flow_world.specs.Sessions.{HasClosed, HasRefused, IsStart, KeepsAgreement}
 use Rattle.flow_world.specs.declared.close.Close.{Close}
 use Rattle.flow_world.specs.declared.close.Close.TheVariants as close
 use Rattle.flow_world.specs.declared.error.WorldError.{WorldError}
 use Rattle.flow_world.specs.declared.error.WorldError.TheVariants as error
-use Rattle.session_laws.proofs.Opening.{opens_refused}
 use Rattle.session_laws.specs.Complete.{Completes as SessionCompletes, EndsSo, IsForThisRun, IsUndisturbed, NoneFindsAnother, StopsSo, TellsOfAnother}
 use Rattle.session_laws.specs.Undamaged.{GoodIsUndamaged, IsAccepted, IsUndamaged, NoneFindsDamage}
 use Rattle.cacao_words.specs.Requests.{RunRequest}
@@ -43,13 +41,13 @@ use Rattle.cacao_cli.specs.declared.limit.Limit.TheVariants.{BookCount}
 use Rattle.cacao_cli.proofs.AnswerLemmas.{never}
 use Rattle.cacao_cli.proofs.CauseLemmas.{TreesCase, all_trees, one_treeless, trees_case}
 use Rattle.cacao_cli.proofs.CountLemmas.{read-status, unsaid-ended}
-use Rattle.cacao_cli.proofs.DoneLemmas.{done-there, ended-done, none-there, opened-none, same-opens, went-none}
+use Rattle.cacao_cli.proofs.DoneLemmas.{done-there, ended-done}
 use Rattle.cacao_cli.proofs.EndLemmas.{no_cons}
+use Rattle.cacao_cli.proofs.ExpireLemmas.{opened-same, refused-adds, same-opens, went-none}
 use Rattle.cacao_cli.proofs.ExactLemmas.{failed-status, if-told, performs-comes, seen-read}
 use Rattle.cacao_cli.proofs.JudgedLemmas.{bad-answers, lacks-tree, refused-accepted}
 use Rattle.cacao_cli.proofs.LineLemmas.{IsCutOff, says-status, tells-status}
 use Rattle.cacao_cli.proofs.ReadLemmas.{Fails, Read, by_memory, by_shelf}
-use Rattle.cacao_cli.proofs.ReturnedRuns.{closes-sure, refuses-sure}
 use Rattle.cacao_cli.proofs.StartLemmas.{tells-line}
 use Rattle.cacao_cli.proofs.StatusRuns.{RunCase, long-texts, missing-texts, no-texts, run_case, run_long, run_many, run_missing, run_starts, run_treeless, same-texts}
 use Rattle.cacao_cli.proofs.UnsaidLemmas.{last-said}
@@ -308,7 +306,7 @@ undisturbed-before old mid new behind said u = record {
 not-unsaid : (before after : ℕ) → Rose before after → DidNotRise before after → ⊥
 not-unsaid before after rose same = omega (arith, rose, same.0, same.1)
 
-module _ (no_other : NoneFindsAnother) (completes : SessionCompletes) (start : Start) (old mid new : SiteView) (last : End) (answer : ℕ) (sound : IsSound mid) (is : IsStart old start.run)
+module _ (no_other : NoneFindsAnother) (completes : SessionCompletes) (start : Start) (old mid new : SiteView) (last : End) (answer : ℕ) (sound_old : IsSound old) (sound : IsSound mid) (is : IsStart old start.run)
     (unsaid : answer ≡ 9 → Rose old.clock.unsaid new.clock.unsaid) (tells : Tells last mid new answer) where
   said-all : IsUndisturbed old new → new.clock.unsaid ≡ mid.clock.unsaid
   said-all u = last-said last (text_of last) mid new answer tells (λ e. not-unsaid old.clock.unsaid new.clock.unsaid (unsaid e) u.unsaid)
@@ -363,9 +361,16 @@ module _ (no_other : NoneFindsAnother) (completes : SessionCompletes) (start : S
       go (inl same) = ap (λ (s : SiteView). s.clock.mishaps) same
       go (inr says) = says.time.mishaps
 
+  faults-there : new.disk.faults ≡ mid.disk.faults
+  faults-there = go (tells-line last mid new answer tells)
+    where
+      go : SaysAtMostALine mid new → new.disk.faults ≡ mid.disk.faults
+      go (inl same) = ap (λ (s : SiteView). s.disk.faults) same
+      go (inr says) = says.disk.faults
+
   -- nothing was done
   nothing-added : mid ≡ old → AddsNoExpire old new
-  nothing-added same = none-there old mid new bytes-there (opened-none old mid start.run sound is (same-opens old mid same))
+  nothing-added same = opened-same old mid new start.run sound_old sound is (bytes-there 0) faults-there (same-opens old mid same) (ap (λ (s : SiteView). s.disk.reads 0) same)
 
   own-file : (given : Given) (o : HasOwnFile start old) → Accepted AreAccepted FitsKind start.books start.bind given → IsForThisRun given start.run old
   own-file given o a = subst (λ (g : Given). IsForThisRun g start.run old) (accepted-one start.books start.bind o.given given o.accepted a) o.for_this
@@ -377,19 +382,19 @@ module _ (no_other : NoneFindsAnother) (completes : SessionCompletes) (start : S
   started-completes (inl h) = record {
     no_other = λ o. absurd (bad-answers start (h.text, h.is, h.number, h.bad) o.answers);
     to_end = λ o u. absurd (bad-answers start (h.text, h.is, h.number, h.bad) o.answers);
-    none_expires = λ o u m. absurd (bad-answers start (h.text, h.is, h.number, h.bad) o.answers);
+    none_expires = λ m. nothing-added h.same;
     sends_done = λ m none e. absurd (undone _ h.ends (λ f. omega (arith, f)) (λ f. omega (arith, f)) e);
   }
   started-completes (inr (inl h)) = record {
     no_other = λ o. absurd (refused-none o ((h.answers, h.are), inl (h.broken, h.breaks)));
     to_end = λ o u. absurd (refused-none o ((h.answers, h.are), inl (h.broken, h.breaks)));
-    none_expires = λ o u m. absurd (refused-none o ((h.answers, h.are), inl (h.broken, h.breaks)));
+    none_expires = λ m. nothing-added h.same;
     sends_done = λ m none e. absurd (undone _ h.ends (λ f. omega (arith, f)) (λ f. omega (arith, f)) e);
   }
   started-completes (inr (inr (inl h))) = record {
     no_other = λ o. absurd (refused-none o ((h.answers, h.are), inr (h.rule, h.breaks)));
     to_end = λ o u. absurd (refused-none o ((h.answers, h.are), inr (h.rule, h.breaks)));
-    none_expires = λ o u m. absurd (refused-none o ((h.answers, h.are), inr (h.rule, h.breaks)));
+    none_expires = λ m. nothing-added h.same;
     sends_done = λ m none e. absurd (undone _ h.ends (λ f. omega (arith, f)) (λ f. omega (arith, f)) e);
   }
   started-completes (inr (inr (inr (inl h)))) = go h.holds.held
@@ -403,10 +408,6 @@ module _ (no_other : NoneFindsAnother) (completes : SessionCompletes) (start : S
       comes : (o : HasOwnFile start old) (u : IsUndisturbed old new) → ((how : Close) → HasClosed how h.given start.run start.most h.answers old mid → EndsSo how) × ((why : WorldError) → HasRefused why h.given start.run start.most h.answers old mid → StopsSo why)
       comes o u = completes h.given start.run start.most h.answers old mid accepted_is is (own-file h.given o h.accepted) sound (before u)
 
-      -- no Expire of a session
-      added-none : (went : Went h.given start.run start.most h.answers old mid) → IsJournalSure went.to → DidNotRise old.clock.mishaps new.clock.mishaps → AddsNoExpire old new
-      added-none went sure still_ = none-there old mid new bytes-there (went-none old mid start.run sound is h.given start.most h.answers agreed.told went sure (still-before still_))
-
       done-by : (how : Close) → last ≡ close_end how → HasClosed how h.given start.run start.most h.answers old mid → DidNotRise old.clock.mishaps new.clock.mishaps → HasNoRecord old
           → (answer ≡ 0) ⊎ (answer ≡ 6) → EachSendIsDone start.run new
       done-by (close.Ended well) e c still_ none either =
@@ -416,36 +417,28 @@ module _ (no_other : NoneFindsAnother) (completes : SessionCompletes) (start : S
       done-by close.Flooded e c still_ none either = absurd (undone (close_end close.Flooded) e (λ f. omega (arith, f)) (λ f. omega (arith, f)) either)
       done-by (close.Asked issue) e c still_ none either = absurd (undone (close_end (close.Asked issue)) e (λ f. omega (arith, f)) (λ f. omega (arith, f)) either)
 
-      -- where it refused, and nothing disturbed it
-      refused-none-added : (why : WorldError) → HasRefused why h.given start.run start.most h.answers old mid → StopsSo why → DidNotRise old.clock.mishaps new.clock.mishaps → AddsNoExpire old new
-      refused-none-added why (inl opening) stops still_ = none-there old mid new bytes-there (opened-none old mid start.run sound is (opens_refused why h.given start.run old mid opening))
-      refused-none-added why (inr later) stops still_ = elim (refuses-sure h.given start.run start.most h.answers old mid sound agreed.told later.went why later.refuses) [
-        | inl sure ↦ added-none later.went sure still_
-        | inr e ↦ absurd (subst StopsSo e stops)
-      ]
-
       go : ClosesSo h.given start.run start.most h.answers old mid last ⊎ RefusesSo h.given start.run start.most h.answers old mid last → CompletesSo start old new answer
       go (inl c) = record {
         no_other = λ o. other-end (close_end c.close) c.ends (close-other c.close);
         to_end = λ o u. listed (close_end c.close) c.ends (close-listed c.close ((comes o u).0 c.close c.closed)) u;
-        none_expires = λ o u m. added-none c.closed.went (closes-sure h.given start.run start.most h.answers old mid sound agreed.told c.closed.went c.close c.closed.closes) m;
+        none_expires = λ m. went-none old mid new start.run sound_old sound is (bytes-there 0) faults-there h.given start.most h.answers agreed.told c.closed.went (still-before m);
         sends_done = λ m none e. done-by c.close c.ends c.closed m none e;
       }
       go (inr r) = record {
         no_other = λ o. other-end (error_end r.error) r.ends (refusal-other r.error
             (λ t. no_other r.error h.given start.run start.most h.answers old mid t is.told is.fresh (own-file h.given o h.accepted) sound r.why));
         to_end = λ o u. listed (error_end r.error) r.ends (refusal-listed r.error ((comes o u).1 r.error r.why)) u;
-        none_expires = λ o u m. refused-none-added r.error r.why ((comes o u).1 r.error r.why) m;
+        none_expires = λ m. refused-adds old mid new start.run sound_old sound is (bytes-there 0) faults-there r.error h.given start.most h.answers agreed.told (still-before m) r.why;
         sends_done = λ m none e. absurd (undone (error_end r.error) r.ends (refusal-not r.error).0 (refusal-not r.error).1 e);
       }
   started-completes (inr (inr (inr (inr h)))) = record {
     no_other = λ o. other-end no_memory h.ends (λ e. omega (arith, e));
     to_end = λ o u. listed no_memory h.ends (inr (inr (inr (inr (inr (inr (inl refl))))))) u;
-    none_expires = λ o u m. nothing-added h.same;
+    none_expires = λ m. nothing-added h.same;
     sends_done = λ m none e. absurd (undone no_memory h.ends (λ f. omega (arith, f)) (λ f. omega (arith, f)) e);
   }
 
-module _ (no_other : NoneFindsAnother) (completes : SessionCompletes) (wanted : RunRequest) (files : Files) (old mid new : SiteView) (last : End) (answer : ℕ) (sound : IsSound mid) (is : IsStart old wanted.run)
+module _ (no_other : NoneFindsAnother) (completes : SessionCompletes) (wanted : RunRequest) (files : Files) (old mid new : SiteView) (last : End) (answer : ℕ) (sound_old : IsSound old) (sound : IsSound mid) (is : IsStart old wanted.run)
     (unsaid : answer ≡ 9 → Rose old.clock.unsaid new.clock.unsaid) (tells : Tells last mid new answer) where
   run-completes : Performs (work (Some (runs wanted)) (reading files (files_of (Some (runs wanted))))) old mid last → (texts : List NamedText) → HasTexts files wanted texts → HasTrees wanted texts
       → CompletesSo (start_of wanted texts) old new answer
@@ -461,11 +454,11 @@ module _ (no_other : NoneFindsAnother) (completes : SessionCompletes) (wanted : 
       go (run_treeless others name reason there within t e) =
           absurd (trees (subst (λ (l : List NamedText). LacksTree (trees_wanted wanted l)) (same-texts files wanted others texts there has) (lacks-tree (trees_wanted wanted others) t)))
       go (run_starts others roots there within r e) = subst (λ (l : List NamedText). CompletesSo (start_of wanted l) old new answer) (same-texts files wanted others texts there has)
-          (started-completes no_other completes (start_of wanted others) old mid new last answer sound is unsaid tells (at (starts (start_of wanted others)) e))
+          (started-completes no_other completes (start_of wanted others) old mid new last answer sound_old sound is unsaid tells (at (starts (start_of wanted others)) e))
 
   -- the last line was not said, or memory was wanted
   cut-completes : (start : Start) → AddsNoExpire old new → IsCutOff answer → CompletesSo start old new answer
-  cut-completes start nothing h = record { no_other = λ o. cut-other h; to_end = λ o u. cut-listed u h; none_expires = λ o u m. nothing; sends_done = λ m none e. absurd (cut-undone h e) }
+  cut-completes start nothing h = record { no_other = λ o. cut-other h; to_end = λ o u. cut-listed u h; none_expires = λ m. nothing; sends_done = λ m none e. absurd (cut-undone h e) }
     where
       cut-other : IsCutOff answer → answer ≡ 12 → ⊥
       cut-other (inl f) e = omega (arith, f, e)
@@ -490,7 +483,7 @@ module _ (no_other : NoneFindsAnother) (completes : SessionCompletes) (wanted : 
   unread-completes (file ∷ more) start nothing (inl f) = record {
     no_other = λ o e. omega (arith, f, e);
     to_end = λ o u. inr (inr (inr (inr (inr (inr (inr (inl f)))))));
-    none_expires = λ o u m. nothing;
+    none_expires = λ m. nothing;
     sends_done = λ m none e. absurd (elim e [ inl g ↦ omega (arith, f, g) | inr g ↦ omega (arith, f, g) ]);
   }
   unread-completes (file ∷ more) start nothing (inr h) = cut-completes start nothing h
@@ -512,12 +505,12 @@ unread-same asked read end old mid last is p = go (has_too_many asked) (subst (�
     go true p = says-none (past BookCount) old mid last p
     go false p = says-none end old mid last p
 
-pub completes-ended : NoneFindsAnother → SessionCompletes → (asked : Option Asked) (shelf : ShelfCall) (old mid new : SiteView) (last : End) (answer : ℕ) → IsSound mid → Performed asked shelf old mid last
+pub completes-ended : NoneFindsAnother → SessionCompletes → (asked : Option Asked) (shelf : ShelfCall) (old mid new : SiteView) (last : End) (answer : ℕ) → IsSound old → IsSound mid → Performed asked shelf old mid last
     → Tells last mid new answer → Completes asked shelf.told old new answer
-completes-ended no_other completes None shelf old mid new last answer sound p tells = tt
-completes-ended no_other completes (Some (canonises book)) shelf old mid new last answer sound p tells = tt
-completes-ended no_other completes (Some (checks books)) shelf old mid new last answer sound p tells = tt
-completes-ended no_other completes (Some (runs wanted)) shelf old mid new last answer sound p tells = λ is. if-told (files_of (Some (runs wanted))) shelf.told _ (λ files seen. λ texts has trees.
+completes-ended no_other completes None shelf old mid new last answer sound_old sound p tells = tt
+completes-ended no_other completes (Some (canonises book)) shelf old mid new last answer sound_old sound p tells = tt
+completes-ended no_other completes (Some (checks books)) shelf old mid new last answer sound_old sound p tells = tt
+completes-ended no_other completes (Some (runs wanted)) shelf old mid new last answer sound_old sound p tells = λ is. if-told (files_of (Some (runs wanted))) shelf.told _ (λ files seen. λ texts has trees.
     go is files texts has trees (seen-read shelf.told (files_of (Some (runs wanted))) files p.reads.count p.read seen p.reads.reads))
   where
     unsaid : answer ≡ 9 → Rose old.clock.unsaid new.clock.unsaid
@@ -525,16 +518,16 @@ completes-ended no_other completes (Some (runs wanted)) shelf old mid new last a
 
     go : IsStart old wanted.run → (files : Files) (texts : List NamedText) → HasTexts files wanted texts → HasTrees wanted texts
         → (p.read ≡ reading files (files_of (Some (runs wanted)))) ⊎ Fails (files_of (Some (runs wanted))) p.read → CompletesSo (start_of wanted texts) old new answer
-    go is files texts has trees (inl e) = run-completes no_other completes wanted files old mid new last answer sound is unsaid tells
+    go is files texts has trees (inl e) = run-completes no_other completes wanted files old mid new last answer sound_old sound is unsaid tells
         (subst (λ (r : Result (List NamedText) End). Performs (work (Some (runs wanted)) r) old mid last) e p.performs) texts has trees
     go is files texts has trees (inr fails) =
         let end = fails-end (files_of (Some (runs wanted))) p.read fails in
-        unread-completes no_other completes wanted files old mid new last answer sound is unsaid tells (files_of (Some (runs wanted))) (start_of wanted texts)
-        (nothing-added no_other completes (start_of wanted texts) old mid new last answer sound is unsaid tells (unread-same (runs wanted) p.read end.0 old mid last end.1 p.performs))
+        unread-completes no_other completes wanted files old mid new last answer sound_old sound is unsaid tells (files_of (Some (runs wanted))) (start_of wanted texts)
+        (nothing-added no_other completes (start_of wanted texts) old mid new last answer sound_old sound is unsaid tells (unread-same (runs wanted) p.read end.0 old mid last end.1 p.performs))
         (failed-status (runs wanted) p.read (has_too_many (runs wanted)) old mid new last answer fails p.performs tells)
-completes-ended no_other completes (Some shows) shelf old mid new last answer sound p tells = tt
-completes-ended no_other completes (Some (lists_rules agent)) shelf old mid new last answer sound p tells = tt
-completes-ended no_other completes (Some (decides agent packets)) shelf old mid new last answer sound p tells = tt
-completes-ended no_other completes (Some (shadows agent)) shelf old mid new last answer sound p tells = tt
-completes-ended no_other completes (Some (rehearses positions)) shelf old mid new last answer sound p tells = tt
-completes-ended no_other completes (Some (audits engine filters)) shelf old mid new last answer sound p tells = tt
+completes-ended no_other completes (Some shows) shelf old mid new last answer sound_old sound p tells = tt
+completes-ended no_other completes (Some (lists_rules agent)) shelf old mid new last answer sound_old sound p tells = tt
+completes-ended no_other completes (Some (decides agent packets)) shelf old mid new last answer sound_old sound p tells = tt
+completes-ended no_other completes (Some (shadows agent)) shelf old mid new last answer sound_old sound p tells = tt
+completes-ended no_other completes (Some (rehearses positions)) shelf old mid new last answer sound_old sound p tells = tt
+completes-ended no_other completes (Some (audits engine filters)) shelf old mid new last answer sound_old sound p tells = tt

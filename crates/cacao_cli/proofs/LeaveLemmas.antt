@@ -166,7 +166,7 @@ decide-leaves agent packets old mid new last answer (Ok (text ∷ texts)) p tell
 -- ---- `run`
 
 -- no line was said before the last
-silent-same : (end : End) (old mid : SiteView) (last : End) → SaysWork [] end old mid last → mid ≡ old
+pub silent-same : (end : End) (old mid : SiteView) (last : End) → SaysWork [] end old mid last → mid ≡ old
 silent-same end old mid last (inl h) = h.says
 silent-same end old mid last (inr (inl h)) = absurd (no_cons h.front h.behind h.line h.line h.is)
 silent-same end old mid last (inr (inr h)) = h.same

@@ -14,7 +14,8 @@ use Rattle.flow_world.specs.declared.close.Close.TheVariants as close
 use Rattle.flow_world.specs.declared.error.WorldError.{WorldError}
 use Rattle.flow_world.specs.declared.error.WorldError.TheVariants as refusal
 use Rattle.rehearsal.specs.Books.{rehearsal_text}
-use Rattle.rehearsal.specs.NewSites.{MayComeOfNew, TellsOfBefore}
+use Rattle.rehearsal.specs.NewSites.{EndsByPlan, MayClose, MayComeOfNew, TellsOfBefore}
+use Rattle.rehearsal.specs.Plans.{GoesByPlan}
 use Rattle.rehearsal.specs.Rehearsals.{FailsToRehearse, Refuses, Rehearsed, is_well, most_records, run_number}
 use Rattle.rehearsal.specs.Settings.{IsAccepted, IsNewSite}
 use Rattle.rehearsal.specs.declared.error.RehearsalError.{RehearsalError}
@@ -26,7 +27,7 @@ use Rattle.cacao_cli.specs.Exact.{HasRehearsed, IsOneOf, IsRehearsed, session_st
 use Rattle.cacao_cli.specs.Holding.{close_end, error_end}
 use Rattle.cacao_cli.specs.Lines.{Tells}
 use Rattle.cacao_cli.specs.OwnSites.{CountsOwn}
-use Rattle.cacao_cli.specs.Rehearsing.{ComesOfBlank, EndsRun, IsBrokenRehearsal, IsLongRehearsal, RehearsalTo, Rehearses, TellsRehearsal, failed_end}
+use Rattle.cacao_cli.specs.Rehearsing.{MayEndSo, EndsRun, IsBrokenRehearsal, IsLongRehearsal, RehearsalTo, Rehearses, TellsRehearsal, failed_end}
 use Rattle.cacao_cli.proofs.EndCases.{eight-is, nine-or-not}
 use Rattle.cacao_cli.proofs.StatusLists.{not-among}
 use Rattle.cacao_cli.proofs.HoldLemmas.{close-eight, close-nine, close-status, error-done, error-eight, error-nine, error-status, refuses-failed, refuses-unsaid, rose-later, went-faults}
@@ -35,67 +36,71 @@ use Rattle.cacao_cli.proofs.UnsaidLemmas.{last-said, last-unsaid}
 
 -- ---- what came of it
 
-pub has-summary : (positions : ℕ) (site : MemorySite) (after : SiteView) (summary : Summary) → IsNewSite site → Rehearsed positions (view_of site) after summary
+pub has-summary : (positions : ℕ) (site left : MemorySite) (summary : Summary) → IsNewSite site → GoesByPlan left → Rehearsed positions (view_of site) (view_of left) summary
     → TellsRehearsal positions (rehearsed positions summary.records summary.acts summary.rules)
-has-summary positions site after summary new h = inr (inr (inl (record {
+has-summary positions site left summary new goes h = inr (inr (inl (record {
   site = site;
   is_new = new;
-  after = after;
+  left = left;
+  by_plan = goes;
   given = h.given;
   accepted = h.accepted;
   runs = inl (record { summary = summary; well = h.runs; ends = refl });
-  of_blank = tt;
+  may = tt;
 })))
 
-close-blank : (how : Close) → ComesOfBlank (close_end how)
-close-blank (close.Ended true) = tt
-close-blank (close.Ended false) = tt
-close-blank close.Paused = tt
-close-blank (close.Waiting moment) = tt
-close-blank close.Flooded = tt
-close-blank (close.Asked issue) = tt
+close-may : (how : Close) → MayClose how → MayEndSo (close_end how)
+close-may (close.Ended true) may = tt
+close-may (close.Ended false) may = tt
+close-may close.Paused may = may
+close-may (close.Waiting moment) may = may
+close-may close.Flooded may = tt
+close-may (close.Asked issue) may = may
 
-error-blank : (why : WorldError) → (TellsOfBefore why → ⊥) → ComesOfBlank (error_end why)
-error-blank refusal.Disk new = tt
-error-blank refusal.Say new = tt
-error-blank refusal.Memory new = tt
-error-blank (refusal.Limit what) new = tt
-error-blank (refusal.OtherRun held asked) new = new tt
-error-blank (refusal.OtherBook index) new = new tt
-error-blank (refusal.RunUsed agent) new = new tt
-error-blank (refusal.Damaged file place) new = new tt
+error-may : (why : WorldError) → (TellsOfBefore why → ⊥) → MayEndSo (error_end why)
+error-may refusal.Disk new = tt
+error-may refusal.Say new = tt
+error-may refusal.Memory new = tt
+error-may (refusal.Limit what) new = tt
+error-may (refusal.OtherRun held asked) new = new tt
+error-may (refusal.OtherBook index) new = new tt
+error-may (refusal.RunUsed agent) new = new tt
+error-may (refusal.Damaged file place) new = new tt
 
-pub has-failed : (positions : ℕ) (site : MemorySite) (after : SiteView) (why : RehearsalError) → IsNewSite site → MayComeOfNew why → FailsToRehearse positions (view_of site) after why → TellsRehearsal positions (failed_end why)
-has-failed positions site after rehearsal_error.TooLong new may h = inl (h.long, refl)
-has-failed positions site after (rehearsal_error.Broken broken) new may h = inr (inl (broken, (h.short, h.breaks), refl))
-has-failed positions site after (rehearsal_error.Closed how) new may h = inr (inr (inl (record {
+pub has-failed : (positions : ℕ) (site left : MemorySite) (why : RehearsalError) → IsNewSite site → MayComeOfNew why → EndsByPlan left why → FailsToRehearse positions (view_of site) (view_of left) why → TellsRehearsal positions (failed_end why)
+has-failed positions site left rehearsal_error.TooLong new may goes h = inl (h.long, refl)
+has-failed positions site left (rehearsal_error.Broken broken) new may goes h = inr (inl (broken, (h.short, h.breaks), refl))
+has-failed positions site left (rehearsal_error.Closed how) new may goes h = inr (inr (inl (record {
   site = site;
   is_new = new;
-  after = after;
+  left = left;
+  by_plan = goes;
   given = h.given;
   accepted = h.accepted;
   runs = inr (inl (record { how = how; closes = h.fails; ends = refl }));
-  of_blank = close-blank how;
+  may = close-may how may;
 })))
-has-failed positions site after (rehearsal_error.Refused why) new may h = inr (inr (inl (record {
+has-failed positions site left (rehearsal_error.Refused why) new may goes h = inr (inr (inl (record {
   site = site;
   is_new = new;
-  after = after;
+  left = left;
+  by_plan = goes;
   given = h.given;
   accepted = h.accepted;
   runs = inr (inr (inl (record { why = why; refuses = h.fails; ends = refl })));
-  of_blank = error-blank why may;
+  may = error-may why may;
 })))
-has-failed positions site after rehearsal_error.Disk new may h = inr (inr (inl (record {
+has-failed positions site left rehearsal_error.Disk new may goes h = inr (inr (inl (record {
   site = site;
   is_new = new;
-  after = after;
+  left = left;
+  by_plan = goes;
   given = h.given;
   accepted = h.accepted;
   runs = inr (inr (inr (record { fails = h.fails; ends = refl })));
-  of_blank = tt;
+  may = tt;
 })))
-has-failed positions site after rehearsal_error.Memory new may h = inr (inr (inr refl))
+has-failed positions site left rehearsal_error.Memory new may goes h = inr (inr (inr refl))
 
 -- ---- which status comes
 
@@ -120,7 +125,7 @@ run-listed positions given old new last (inr (inr (inl h))) = subst (λ (e : End
 run-listed positions given old new last (inr (inr (inr h))) = subst (λ (e : End). IsOneOf (status_of e) session_statuses) (sym h.ends) (inr (inr (inr (inl refl))))
 
 pub rehearsed-listed : (positions : ℕ) (n : ℕ) → IsRehearsed positions n → IsOneOf n session_statuses
-rehearsed-listed positions n h = subst (λ (m : ℕ). IsOneOf m session_statuses) (sym h.is) (run-listed positions h.came.given (view_of h.came.site) h.came.after h.last h.came.runs)
+rehearsed-listed positions n h = subst (λ (m : ℕ). IsOneOf m session_statuses) (sym h.is) (run-listed positions h.came.given (view_of h.came.site) (view_of h.came.left) h.last h.came.runs)
 
 pub rehearsed-other : (positions n m : ℕ) → HasRehearsed positions n → n ≡ m → (11 ≡ m → ⊥) → (1 ≡ m → ⊥) → list_any (nat_eq m) session_statuses ≡ false → ⊥
 rehearsed-other positions n m (inl h) e a b none = a (sym h.1 ∙ e)
@@ -142,7 +147,7 @@ Counted positions = (records : ℕ) × (acts : ℕ) × (rules : ℕ) × Rehearsa
 pub came-counted : (positions : ℕ) (last : End) → RehearsalTo positions last → status_of last ≡ 0 → Counted positions
 came-counted positions last h zero = go h.runs
   where
-    go : EndsRun positions h.given (view_of h.site) h.after last → Counted positions
+    go : EndsRun positions h.given (view_of h.site) (view_of h.left) last → Counted positions
     go (inl r) = (r.summary.records, r.summary.acts, r.summary.rules, subst (RehearsalTo positions) r.ends h)
     go (inr (inl r)) = absurd (not-done r.how r.closes.other (sym (ap status_of r.ends) ∙ zero))
     go (inr (inr (inl r))) = absurd (error-done r.why (sym (ap status_of r.ends) ∙ zero))
@@ -204,32 +209,36 @@ ran positions last (inr (inr (inr is))) a b c = absurd (c (ap status_of is))
 rose-next : (n m : ℕ) → m ≡ next_count n → Rose n m
 rose-next n m e = omega (arith, e)
 
+-- what rose is not 0
+no-rise : (n m : ℕ) → Rose n m → m ≡ 0 → ⊥
+no-rise n m rose none = omega arith
+
 -- the count of its own site that rose
 module _ (positions : ℕ) (h : RehearsalTo positions disk_failed) where
-  fault-rose : EndsRun positions h.given (view_of h.site) h.after disk_failed → Rose (view_of h.site).disk.faults h.after.disk.faults
+  fault-rose : EndsRun positions h.given (view_of h.site) (view_of h.left) disk_failed → Rose (view_of h.site).disk.faults (view_of h.left).disk.faults
   fault-rose (inl r) = let e = r.ends in absurd (cc)
   fault-rose (inr (inl r)) = absurd (close-eight r.how (sym r.ends))
   fault-rose (inr (inr (inl r))) =
-      refuses-failed h.given run_number most_records [] (view_of h.site) h.after
-      (subst (λ (w : WorldError). Refuses h.given w (view_of h.site) h.after) (error-eight r.why (sym r.ends)) r.refuses)
+      refuses-failed h.given run_number most_records [] (view_of h.site) (view_of h.left)
+      (subst (λ (w : WorldError). Refuses h.given w (view_of h.site) (view_of h.left)) (error-eight r.why (sym r.ends)) r.refuses)
   fault-rose (inr (inr (inr r))) =
-      rose-later (view_of h.site).disk.faults r.fails.after.disk.faults h.after.disk.faults
+      rose-later (view_of h.site).disk.faults r.fails.after.disk.faults (view_of h.left).disk.faults
       (went-faults h.given run_number most_records [] (view_of h.site) r.fails.after r.fails.closed.went) r.fails.rose
 
   counts-fault : CountsOwn positions disk_failed (λ (s : SiteView). s.disk.faults)
-  counts-fault = record { came = h; rose = fault-rose h.runs }
+  counts-fault = let rose = fault-rose h.runs in record { came = h; rose = rose; used_up = λ within. no-rise (view_of h.site).disk.faults (view_of h.left).disk.faults rose (h.by_plan.steady within) }
 
 module _ (positions : ℕ) (h : RehearsalTo positions unsaid) where
-  unsaid-rose : EndsRun positions h.given (view_of h.site) h.after unsaid → Rose (view_of h.site).clock.unsaid h.after.clock.unsaid
+  unsaid-rose : EndsRun positions h.given (view_of h.site) (view_of h.left) unsaid → Rose (view_of h.site).clock.unsaid (view_of h.left).clock.unsaid
   unsaid-rose (inl r) = let e = r.ends in absurd (cc)
   unsaid-rose (inr (inl r)) = absurd (close-nine r.how (sym r.ends))
   unsaid-rose (inr (inr (inl r))) =
-      refuses-unsaid h.given run_number most_records [] (view_of h.site) h.after
-      (subst (λ (w : WorldError). Refuses h.given w (view_of h.site) h.after) (error-nine r.why (sym r.ends)) r.refuses)
+      refuses-unsaid h.given run_number most_records [] (view_of h.site) (view_of h.left)
+      (subst (λ (w : WorldError). Refuses h.given w (view_of h.site) (view_of h.left)) (error-nine r.why (sym r.ends)) r.refuses)
   unsaid-rose (inr (inr (inr r))) = let e = r.ends in absurd (cc)
 
   counts-unsaid : CountsOwn positions unsaid (λ (s : SiteView). s.clock.unsaid)
-  counts-unsaid = record { came = h; rose = unsaid-rose h.runs }
+  counts-unsaid = let rose = unsaid-rose h.runs in record { came = h; rose = rose; used_up = λ within. no-rise (view_of h.site).clock.unsaid (view_of h.left).clock.unsaid rose (h.by_plan.heard within) }
 
 pub rehearses-unsaid : (positions : ℕ) (old mid new : SiteView) (last : End) (answer : ℕ) → Rehearses positions old mid last → Tells last mid new answer → answer ≡ 9
     → Rose old.clock.unsaid new.clock.unsaid ⊎ CountsOwn positions unsaid (λ (s : SiteView). s.clock.unsaid)

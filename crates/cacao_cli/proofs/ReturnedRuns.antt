@@ -1,7 +1,7 @@
 -- What the engine's file holds where a session ended.
 use Rattle.std.proofs.Common.{◌≡◌, ◌≢◌, ◌⊎◌, inl, inr, ◌∙◌, refl, sym, ap, ap₂, subst, arith, ℕ, zero, suc, ◌+◌, ◌-◌, ◌<◌, ◌≤◌, Bool, false, List, [], ◌∷◌, ◌++◌, length, length-append, Option, Some, None}
 use Rattle.std.specs.Prelude.{Any, IsTrue, slice_get}
-use Rattle.cacao_site.specs.DiskCalls.{EachBeat, GoesOn, IsDurable, IsLeft}
+use Rattle.cacao_site.specs.DiskCalls.{AllLeft, GoesOn}
 use Rattle.cacao_site.specs.Sound.{IsSound}
 use Rattle.cacao_site.specs.View.{SiteView}
 use Rattle.cacao_site.specs.declared.parcel.Parcel.{Parcel}
@@ -33,12 +33,13 @@ use Rattle.slpf_actuator.specs.Damage.{IsDamaged}
 use Rattle.slpf_actuator.specs.declared.error.ActError.{ActError}
 use Rattle.slpf_actuator.specs.declared.error.ActError.TheVariants as act_error
 use Rattle.flow_steps.specs.Causes.{IsFirstWithRun, Shows}
-use Rattle.flow_steps.specs.Sides.{IsFilter, IsWhole}
+use Rattle.flow_steps.specs.Sides.{IsFilter}
 use Rattle.flow_steps.specs.Steps.{HasRun, IsActCause}
 use Rattle.flow_steps.specs.Unbroken.{AreFiltersSure, EndedByFilter, IsJournalSure}
 use Rattle.flow_steps.specs.Unsure.{UnsureByStep}
 use Rattle.flow_steps.specs.Worlds.{Cause, Phase, World, disk_failed, holds, not_said, past, refused, run_used, wants_memory}
 use Rattle.flow_world.specs.Closes.{IsClose, IsRefusal, refusal_of}
+use Rattle.flow_world.specs.Openings.{RefusesOpening}
 use Rattle.flow_world.specs.Sessions.{Went}
 use Rattle.flow_world.specs.declared.close.Close.{Close}
 use Rattle.flow_world.specs.declared.close.Close.TheVariants as close
@@ -50,7 +51,8 @@ use Rattle.session_laws.specs.Returned.{ReadsAsRun}
 use Rattle.session_laws.proofs.Carried.{steps_keep_disk_on}
 use Rattle.session_laws.proofs.Shown.{steps_in_turn}
 use Rattle.session_laws.proofs.WholeActs.{acts_undamaged}
-use Rattle.cacao_cli.specs.Returning.{BeginsAnother, GainsRecords}
+use Rattle.cacao_cli.specs.Returning.{BeginsAnother, GainsRecords, KeepsWithin}
+use Rattle.cacao_cli.specs.Work.{Start}
 use Rattle.cacao_cli.proofs.SpentLemmas.{CouldMore, past-could}
 use Rattle.cacao_cli.proofs.UnusedLemmas.{IsEarly, steps-not-used}
 
@@ -108,16 +110,21 @@ reads-run given run site h = record {
   of_run = h.run_is;
 }
 
--- where a call only opened it, a file that was durable gained no record
-pub opened-none : (many : ℕ) (old mid : SiteView) → IsSound mid → IsTrue mid.disk.told → IsTrue old.disk.told → EachBeat 0 old.disk mid.disk (IsLeft old.disk 0 old.disk.beat)
-    → IsDurable 0 old.disk → GainsRecords many old mid → many ≡ 0
-opened-none many old mid sound told before each durable g =
-    let left : IsLeft old.disk 0 old.disk.beat (mid.disk.reads 0) = each.each before mid.disk.beat (mid.disk.reads 0) each.goes_on.later (omega arith) (sound.reads 0 told) in
-    let same : g.image ≡ mid.disk.reads 0 = durable g.image g.left ∙ sym (durable (mid.disk.reads 0) left) in
-    let records : g.before ++ g.added ≡ g.before = same_records (mid.disk.reads 0) (g.before ++ g.added) g.before g.has (subst (λ (i : List ℕ). IsRecords i g.before) same g.had) in
+-- where its file reads as before, no record was added
+pub opened-none : (many : ℕ) (old mid : SiteView) → mid.disk.reads 0 ≡ old.disk.reads 0 → GainsRecords many old mid → many ≡ 0
+opened-none many old mid same g =
+    let had : IsRecords (mid.disk.reads 0) g.before = subst (λ (i : List ℕ). IsRecords i g.before) (sym same) g.had in
+    let records : g.before ++ g.added ≡ g.before = same_records (mid.disk.reads 0) (g.before ++ g.added) g.before g.has had in
     let long : length (g.before ++ g.added) ≡ length g.before = ap (λ (l : List Record). length l) records in
     let as_many : length g.added ≡ many = g.as_many in
     omega (arith, long, as_many, length-append g.before g.added)
+
+-- an opening that was refused left the engine's file as it read, unless the disk failed
+pub refused-reads : (why : WorldError) (given : Given) (run : ℕ) (old mid : SiteView) → RefusesOpening why given run old mid → why ≢ error.Disk → mid.disk.reads 0 ≡ old.disk.reads 0
+refused-reads why given run old mid (inl first) other = first.reads other
+refused-reads why given run old mid (inr second) other =
+    let last = second.refuses in
+    (last.refuses.opens.only.others 0 (λ e. omega (arith, e))).reads ∙ (last.before.others 0 (inl refl)).reads ∙ second.journal.reads
 
 module _ (given : Given) (run most : ℕ) (answers : List OperatorAnswer) (old mid : SiteView) (sound : IsSound mid) (told : IsTrue mid.disk.told) (went : Went given run most answers old mid) where
   pub sound-there : IsSound went.to.site
@@ -154,7 +161,7 @@ module _ (given : Given) (run most : ℕ) (answers : List OperatorAnswer) (old m
       go (inl sure) = sure
       go (inr h) = absurd (closes_are_no_refusals went.to how error.Disk closes (record { cause = disk_failed; lacks = false; phase = h.1.phase; is = refl }))
 
-  same-cause : (a b : Cause) (x y : Bool) → refused a x ≡ refused b y → a ≡ b
+  pub same-cause : (a b : Cause) (x y : Bool) → refused a x ≡ refused b y → a ≡ b
   same-cause a b x y e = cc
 
   -- and where it refused, but for a failed disk
@@ -167,37 +174,25 @@ module _ (given : Given) (run most : ℕ) (answers : List OperatorAnswer) (old m
 
   -- ---- how many records
 
-  goes-later : GoesOn went.start.site.disk mid.disk
+  pub goes-later : GoesOn went.start.site.disk mid.disk
   goes-later = subst (λ (s : SiteView). GoesOn went.start.site.disk s.disk) went.to_is (steps_keep_disk_on went.start went.to went.steps)
 
-  told-start : IsTrue went.start.site.disk.told
+  pub told-start : IsTrue went.start.site.disk.told
   told-start = subst (λ (b : Bool). IsTrue b) goes-later.told told
 
-  told-middle : IsTrue went.files.middle.disk.told
+  pub told-middle : IsTrue went.files.middle.disk.told
   told-middle = subst (λ (b : Bool). IsTrue b) went.files.others.goes_on.told told-start
 
-  told-old : IsTrue old.disk.told
+  pub told-old : IsTrue old.disk.told
   told-old = subst (λ (b : Bool). IsTrue b) went.files.journal.opens.only.each.goes_on.told told-middle
 
-  -- an image of the start with the records that the journal had
-  pub record HadRecords : Type 0 where
-    pub image : List ℕ
-    pub left : IsLeft old.disk 0 old.disk.beat image
-    pub had : IsRecords image went.start.engine.history.records
-
-  pub had-records : HadRecords
+  -- the file had the records that the journal was opened with
+  pub had-records : IsRecords (old.disk.reads 0) went.start.engine.history.records
   had-records =
-      let middle = went.files.middle in
-      let each = went.files.journal.opens.only.each in
-      let found = sound.images 0 middle.disk.beat told (omega (arith, went.files.others.goes_on.later, goes-later.later)) in
-      let at_start : IsLeft went.start.site.disk 0 middle.disk.beat found.0 = subst (λ (b : Bool). IsTrue b) (goes-later.past 0 middle.disk.beat found.0 went.files.others.goes_on.later) found.1 in
-      let at_middle : IsLeft middle.disk 0 middle.disk.beat found.0 = subst (λ (b : Bool). IsTrue b) (went.files.others.goes_on.past 0 middle.disk.beat found.0 (omega arith)) at_start in
-      let whole : IsWhole went.start.engine middle = went.files.journal.whole in
-      record {
-        image = found.0;
-        left = each.each told-old middle.disk.beat found.0 each.goes_on.later (omega arith) at_middle;
-        had = records_of_layout found.0 went.start.engine.history.records whole.engine.history.ranges (whole.engine.ready whole.whole told-middle found.0 at_middle).0;
-      }
+      let records = went.start.engine.history.records in
+      let image = went.files.middle.disk.reads 0 in
+      subst (λ (i : List ℕ). IsRecords i records) went.files.journal.reads
+      (records_of_layout image records went.files.journal.whole.engine.history.ranges (went.files.journal.stands told-old))
 
   pub grown : IsJournalSure went.to → IsRecords (mid.disk.reads 0) (went.start.engine.history.records ++ went.sums.adds.added)
   grown sure = subst (IsRecords (mid.disk.reads 0)) went.sums.adds.is (sure-records sure)
@@ -205,14 +200,35 @@ module _ (given : Given) (run most : ℕ) (answers : List OperatorAnswer) (old m
   -- so many were appended
   abbrev pub gains-added : IsJournalSure went.to → GainsRecords (length went.sums.adds.added) old mid
   gains-added sure = record {
-    image = had-records.image;
-    left = had-records.left;
     before = went.start.engine.history.records;
-    had = had-records.had;
+    had = had-records;
     added = went.sums.adds.added;
     has = grown sure;
     as_many = refl;
   }
+
+  -- each image that a crash may leave holds the records
+  crash-holds : IsJournalSure went.to → AllLeft 0 mid.disk (λ image. IsRecords image went.to.engine.history.records)
+  crash-holds sure = subst (λ (s : SiteView). AllLeft 0 s.disk (λ image. IsRecords image went.to.engine.history.records)) went.to_is (λ told image left.
+      records_of_layout image went.to.engine.history.records sure.whole.engine.history.ranges (sure.whole.engine.ready sure.whole.whole told image left).0)
+
+  -- not more than may be
+  pub kept-within : (start : Start) → start.most ≡ most → IsJournalSure went.to → KeepsWithin start old mid
+  kept-within start same sure = record {
+    many = length went.sums.adds.added;
+    gains = gains-added sure;
+    within = let budget = went.sums.budget in omega (arith, budget, same);
+    crash = λ told image left records are. subst (IsRecords image)
+        (same_records (mid.disk.reads 0) went.to.engine.history.records records (sure-records sure) are) (crash-holds sure told image left);
+  }
+
+  -- the journal has the records that it was opened with: none was appended
+  pub none-added : IsJournalSure went.to → went.to.engine.history.records ≡ went.start.engine.history.records → GainsRecords 0 old mid
+  none-added sure same =
+      let records = went.start.engine.history.records in
+      let added = went.sums.adds.added in
+      let long : length (records ++ added) ≡ length records = ap (λ (l : List Record). length l) (sym went.sums.adds.is ∙ same) in
+      subst (λ (n : ℕ). GainsRecords n old mid) (omega (arith, long, length-append records added)) (gains-added sure)
 
   -- none more may be appended: as many were as may be
   pub gains : IsJournalSure went.to → went.to.notes.left ≡ 0 → GainsRecords most old mid
@@ -222,26 +238,31 @@ module _ (given : Given) (run most : ℕ) (answers : List OperatorAnswer) (old m
   pub fewer-added : 1 ≤ went.to.notes.left → length went.sums.adds.added < most
   fewer-added some = let budget = went.sums.budget in omega (arith, budget, some)
 
-  -- and as many were appended only where none more may be
-  pub spent : IsJournalSure went.to → IsDurable 0 old.disk → GainsRecords most old mid → went.to.notes.left ≡ 0
-  spent sure durable g =
+  -- so many and no others
+  pub gained-many : IsJournalSure went.to → (many : ℕ) → GainsRecords many old mid → many ≡ length went.sums.adds.added
+  gained-many sure many g =
       let records = went.start.engine.history.records in
       let added = went.sums.adds.added in
-      let image : g.image ≡ had-records.image = durable g.image g.left ∙ sym (durable had-records.image had-records.left) in
-      let before : g.before ≡ records = same_records had-records.image g.before records (subst (λ (i : List ℕ). IsRecords i g.before) image g.had) had-records.had in
+      let before : g.before ≡ records = same_records (old.disk.reads 0) g.before records g.had had-records in
       let all : g.before ++ g.added ≡ records ++ added = same_records (mid.disk.reads 0) (g.before ++ g.added) (records ++ added) g.has (grown sure) in
       let long : length (g.before ++ g.added) ≡ length (records ++ added) = ap (λ (l : List Record). length l) all in
       let first : length g.before ≡ length records = ap (λ (l : List Record). length l) before in
-      let many : length g.added ≡ most = g.as_many in
-      let budget : length added + went.to.notes.left ≡ most = went.sums.budget in
-      omega (arith, long, first, many, budget, length-append g.before g.added, length-append records added)
+      let as_many : length g.added ≡ many = g.as_many in
+      omega (arith, long, first, as_many, length-append g.before g.added, length-append records added)
+
+  -- and as many were appended only where none more may be
+  pub spent : IsJournalSure went.to → GainsRecords most old mid → went.to.notes.left ≡ 0
+  spent sure g =
+      let many : most ≡ length went.sums.adds.added = gained-many sure most g in
+      let budget : length went.sums.adds.added + went.to.notes.left ≡ most = went.sums.budget in
+      omega (arith, many, budget)
 
   -- a session that appended none, or could have appended more, did not append as many as may be
-  pub not-spent : 1 ≤ most → IsJournalSure went.to → CouldMore went.start went.to → IsDurable 0 old.disk → GainsRecords most old mid → ⊥
-  not-spent some sure could durable g = go could
+  pub not-spent : 1 ≤ most → IsJournalSure went.to → CouldMore went.start went.to → GainsRecords most old mid → ⊥
+  not-spent some sure could g = go could
     where
       none_left : went.to.notes.left ≡ 0
-      none_left = spent sure durable g
+      none_left = spent sure g
 
       go : CouldMore went.start went.to → ⊥
       go (inl more) = omega (arith, more, none_left)
@@ -253,7 +274,7 @@ module _ (given : Given) (run most : ℕ) (answers : List OperatorAnswer) (old m
           let budget : length added + went.to.notes.left ≡ most = went.sums.budget in
           omega (arith, long, budget, none_left, some, length-append records added)
 
-  cause-past : (what : LimitKind) (cause : Cause) → error.Limit what ≡ refusal_of cause → cause ≡ past what
+  pub cause-past : (what : LimitKind) (cause : Cause) → error.Limit what ≡ refusal_of cause → cause ≡ past what
   cause-past what disk_failed e = absurd (cc)
   cause-past what not_said e = absurd (cc)
   cause-past what (run_used agent) e = absurd (cc)
@@ -313,7 +334,7 @@ module _ (given : Given) (run most : ℕ) (answers : List OperatorAnswer) (old m
       go (inr h) = absurd (closes_are_no_refusals went.to how (refusal_of h.cause) closes (refused-so h))
 
   -- and where it found the number used
-  used-filters : (agent : ℕ) → IsRefusal (error.RunUsed agent) went.to → AreFiltersSure went.to
+  pub used-filters : (agent : ℕ) → IsRefusal (error.RunUsed agent) went.to → AreFiltersSure went.to
   used-filters agent is = go went.sums.unbroken.filters
     where
       go : AreFiltersSure went.to ⊎ EndedByFilter went.start went.to → AreFiltersSure went.to
@@ -328,7 +349,7 @@ module _ (given : Given) (run most : ℕ) (answers : List OperatorAnswer) (old m
     pub history : IsHistory v.acts
     pub holds : HoldsActs v.acts (mid.disk.reads agent)
 
-  there-at : {T : Type 0} (xs : List T) (k : ℕ) → k < length xs → (x : T) × (slice_get xs k ≡ Some x)
+  pub there-at : {T : Type 0} (xs : List T) (k : ℕ) → k < length xs → (x : T) × (slice_get xs k ≡ Some x)
   there-at [] k lt = absurd (omega (arith, lt))
   there-at (x ∷ xs) zero lt = (x, refl)
   there-at (x ∷ xs) (suc k) lt = there-at xs k (omega (arith, lt))
@@ -363,7 +384,6 @@ module _ (given : Given) (run most : ℕ) (answers : List OperatorAnswer) (old m
   -- the file of its filter has an act of the run
   pub record HasUsed (agent : ℕ) : Type 0 where
     pub acts : List Act
-    pub holds : HoldsActs acts (mid.disk.reads agent)
     pub are : IsActs (mid.disk.reads agent) acts
     pub has : Any (λ (act : Act). act.run ≡ run) acts
 
@@ -373,7 +393,6 @@ module _ (given : Given) (run most : ℕ) (answers : List OperatorAnswer) (old m
       let h = holds-there (used-filters agent is) agent first.low first.has.v first.has.there in
       record {
         acts = h.v.acts;
-        holds = h.holds;
         are = acts_of_layout (mid.disk.reads agent) h.v.acts h.history.ranges h.holds;
         has = subst (λ (n : ℕ). Any (λ (act : Act). act.run ≡ n) h.v.acts) (went.sums.given.run ∙ went.begins.of_run) first.has.has;
       }

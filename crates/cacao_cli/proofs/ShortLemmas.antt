@@ -2,7 +2,6 @@
 use Rattle.std.proofs.Common.{◌≡◌, ◌⊎◌, inl, inr, ◌∙◌, refl, sym, ap, subst, arith, ℕ, ◌<◌, Bool, true, false, List, [], ◌∷◌, Option, Some, None, Result, Ok, Err}
 use Rattle.std.specs.Prelude.{if◌then◌else◌}
 use Rattle.serde_json.specs.Data.{Data}
-use Rattle.memory_site.specs.MemorySite.{view_of}
 use Rattle.cacao_site.specs.View.{SiteView}
 use Rattle.flow_rules.specs.Givens.{Given}
 use Rattle.operator_answers.specs.declared.answers.OperatorAnswer.{OperatorAnswer}
@@ -13,27 +12,23 @@ use Rattle.flow_world.specs.declared.close.Close.{Close}
 use Rattle.flow_world.specs.declared.close.Close.TheVariants as close
 use Rattle.flow_world.specs.declared.error.WorldError.{WorldError}
 use Rattle.flow_world.specs.declared.error.WorldError.TheVariants as error
-use Rattle.rehearsal.specs.Rehearsals.{most_records, run_number}
 use Rattle.cacao_words.specs.Requests.{RunRequest}
 use Rattle.cacao_cli.specs.Asked.{Asked, canonises, checks, runs, shows, lists_rules, decides, shadows, rehearses, audits}
 use Rattle.cacao_cli.specs.Ended.{Ended}
-use Rattle.cacao_cli.specs.Ends.{End, status_of, disk_failed, past, rehearsed, waiting}
+use Rattle.cacao_cli.specs.Ends.{End, status_of, past}
 use Rattle.cacao_cli.specs.Exact.{HasStatus, IsOneOf, IsSettled}
 use Rattle.cacao_cli.specs.Files.{Files, NamedText, Reads, ShelfCall, files_of, has_too_many}
 use Rattle.cacao_cli.specs.Holding.{ClosesSo, RefusesSo, close_end, error_end}
 use Rattle.cacao_cli.specs.Lines.{SaysAtMostALine}
 use Rattle.cacao_cli.specs.OwnSites.{StandsShort}
-use Rattle.cacao_cli.specs.Rehearsing.{EndsRun, RehearsalTo, TellsRehearsal}
 use Rattle.cacao_cli.specs.Work.{Start, Work, ends, starts, or_end, start_of, trees_of, trees_wanted, work, work_on}
 use Rattle.cacao_cli.specs.declared.limit.Limit.TheVariants.{BookCount}
 use Rattle.cacao_cli.proofs.AnswerLemmas.{never}
 use Rattle.cacao_cli.proofs.CauseLemmas.{TreesCase, all_trees, one_treeless, trees_case}
 use Rattle.cacao_cli.proofs.CountLemmas.{read-status}
-use Rattle.cacao_cli.proofs.EndCases.{session-end}
 use Rattle.cacao_cli.proofs.ExactLemmas.{Comes, performs-comes}
 use Rattle.cacao_cli.proofs.JudgedLemmas.{start-settled}
-use Rattle.cacao_cli.proofs.LeaveLemmas.{rehearse-performed}
-use Rattle.cacao_cli.proofs.LineLemmas.{IsCutOff, tells-status}
+use Rattle.cacao_cli.proofs.LineLemmas.{IsCutOff}
 use Rattle.cacao_cli.proofs.ReadLemmas.{Read}
 
 -- ---- a session
@@ -104,32 +99,6 @@ module _ (wanted : RunRequest) (old new : SiteView) (n : ℕ) (e : n ≡ 14) whe
       go false (Err end) each h = absurd (apart n (status_of end) (each end refl) h e)
       go false (Ok texts) each h = texts-short texts h
 
--- ---- a rehearsal
-
-waits-own : (positions : ℕ) (moment : ℕ) (h : RehearsalTo positions (waiting moment)) → h.after.clock.now < h.after.clock.asked
-waits-own positions moment h = go h.runs
-  where
-    go : EndsRun positions h.given (view_of h.site) h.after (waiting moment) → h.after.clock.now < h.after.clock.asked
-    go (inl r) = absurd (let e : 14 ≡ 0 = ap status_of r.ends in omega (arith, e))
-    go (inr (inl r)) = how-short r.how h.given run_number most_records [] (view_of h.site) h.after (sym (ap status_of r.ends)) r.closes.closed
-    go (inr (inr (inl r))) = absurd (no-refusal r.why (sym (ap status_of r.ends)))
-    go (inr (inr (inr r))) = absurd (let e : 14 ≡ 8 = ap status_of r.ends in omega (arith, e))
-
-abbrev WaitsOwn : ℕ → Type 0
-WaitsOwn positions = (moment : ℕ) × (came : RehearsalTo positions (waiting moment)) × (came.after.clock.now < came.after.clock.asked)
-
-own-told : (positions n : ℕ) (last : End) → TellsRehearsal positions last → (n ≡ status_of last) ⊎ IsCutOff n → n ≡ 14 → WaitsOwn positions
-own-told positions n last t (inr (inl f)) e = absurd (omega (arith, f, e))
-own-told positions n last t (inr (inr (inl f))) e = absurd (omega (arith, f, e))
-own-told positions n last t (inr (inr (inr x))) e = absurd x
-own-told positions n last (inl h) (inl is) e = absurd (let f : status_of last ≡ 11 = ap status_of h.1 in omega (arith, f, is, e))
-own-told positions n last (inr (inl h)) (inl is) e = absurd (let f : status_of last ≡ 1 = ap status_of h.2 in omega (arith, f, is, e))
-own-told positions n last (inr (inr (inr g))) (inl is) e = absurd (let f : status_of last ≡ 10 = ap status_of g in omega (arith, f, is, e))
-own-told positions n last (inr (inr (inl h))) (inl is) e =
-    let waits = (session-end last).waits (sym is ∙ e) in
-    let came : RehearsalTo positions (waiting waits.0) = subst (λ (x : End). RehearsalTo positions x) waits.1 h in
-    (waits.0, came, waits-own positions waits.0 came)
-
 pub short-ended : (asked : Option Asked) (shelf : ShelfCall) (old new : SiteView) (answer : ℕ) → Ended asked shelf old new answer → answer ≡ 14 → StandsShort asked new
 short-ended None shelf old new answer h e = never None shelf old new answer 14 refl h e
 short-ended (Some (canonises book)) shelf old new answer h e = never (Some (canonises book)) shelf old new answer 14 refl h e
@@ -146,5 +115,4 @@ short-ended (Some (runs wanted)) shelf old new answer h e = go (performs-comes (
     go (inr (inl f)) = absurd (omega (arith, f, e))
     go (inr (inr (inl f))) = absurd (omega (arith, f, e))
     go (inr (inr (inr x))) = absurd x
-short-ended (Some (rehearses positions)) shelf old new answer h e =
-    own-told positions answer h.last (rehearse-performed positions shelf old h.between h.last h.performed).tells (tells-status h.last h.between new answer h.tells) e
+short-ended (Some (rehearses positions)) shelf old new answer h e = never (Some (rehearses positions)) shelf old new answer 14 refl h e

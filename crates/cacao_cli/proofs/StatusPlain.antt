@@ -15,7 +15,7 @@ use Rattle.cacao_cli.specs.Work.{Work, ends, judges, opens_filter, at_decisions,
 use Rattle.cacao_cli.specs.Audited.{Agree, Disagree, PassTasks}
 use Rattle.cacao_cli.specs.Exact.{HasVerdict, IsOneOf, IsBroken, HasStatus, session_statuses, HasRehearsed, IsRehearsed}
 use Rattle.cacao_cli.specs.Causes.{AllWithin, FindsDisagreement, IsAuditOf, SomeTreeless, Trees, IsMissing, IsTooLong, IsUnreadable, IsPastLimit, IsRefused, BreaksRule, KeepsRules}
-use Rattle.cacao_cli.specs.Rehearsing.{ComesOfBlank, RehearsalTo}
+use Rattle.cacao_cli.specs.Rehearsing.{MayEndSo, RehearsalTo}
 use Rattle.cacao_cli.specs.Openings.{HoldsFilter, IsDamagedFilter}
 use Rattle.cacao_cli.specs.declared.limit.Limit.TheVariants.{BookCount}
 use Rattle.cacao_cli.specs.declared.reason.Reason.TheVariants.{Line}
@@ -420,7 +420,7 @@ module _ (positions : ℕ) (files : Files) (old new : SiteView) (n : ℕ) where
     done_is = λ c. inr (rehearsal-listed positions n h (rehearsed positions c.0 c.1 c.2) c.3);
     is_past = rehearse-past h;
     past_is = λ p. inr (past-listed h p);
-    is_damaged = λ e. let t = ran-at 13 h e (λ f. omega (arith, f)) (λ f. omega (arith, f)) in let d = (session-end t.last).damage (sym t.is ∙ e) in subst ComesOfBlank d.2 t.came.of_blank;
+    is_damaged = λ e. let t = ran-at 13 h e (λ f. omega (arith, f)) (λ f. omega (arith, f)) in let d = (session-end t.last).damage (sym t.is ∙ e) in subst MayEndSo d.2 t.came.may;
     damaged_is = λ d. absurd d;
   }
 

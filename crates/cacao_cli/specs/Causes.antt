@@ -110,14 +110,14 @@ EndsAs (Some (rehearses positions)) files last old new = RehearsalTo positions l
 EndsAs (Some (audits engine filters)) files last old new = ⊥
 
 -- It found the engine's file taken by another run, or by one of other texts, or the number used. (No rehearsal does: see
--- `ComesOfBlank`.)
+-- `MayEndSo`.)
 abbrev pub EndsAsAnother : Option Asked → Files → SiteView → SiteView → Type 0
 EndsAsAnother asked files old new =
     ((held : ℕ) × (number : ℕ) × EndsAs asked files (other_run held number) old new)
     ⊎ (((index : ℕ) × EndsAs asked files (other_book index) old new)
     ⊎ ((agent : ℕ) × EndsAs asked files (run_used agent) old new))
 
--- it waits for a moment, or for an operator's answer
+-- It waits for a moment, or for an operator's answer. (No rehearsal does.)
 abbrev pub EndsAsWaiting : Option Asked → Files → SiteView → SiteView → Type 0
 EndsAsWaiting asked files old new = (moment : ℕ) × EndsAs asked files (waiting moment) old new
 

@@ -36,20 +36,21 @@ pub record HasOwnFile (start : Start) (site : SiteView) : Type 0 where
 
 -- ---- what was answered
 
--- The records of file 0 are those of an image that a crash could have left when the call began, and others, of which none is an
--- Expire.
+-- The records of file 0 are those that it had when the call began, and others, of which none is an Expire. Those that it had are
+-- of what it read as then, and only where a call of the disk failed perhaps of another image that a crash might have left.
 pub record AddsNoExpire (old new : SiteView) : Type 0 where
   pub image : List ℕ
   pub left : IsLeft old.disk 0 old.disk.beat image
+  pub same : DidNotRise old.disk.faults new.disk.faults → image ≡ old.disk.reads 0
   pub before : List Record
   pub had : IsRecords image before
   pub added : List Record
   pub has : IsRecords (new.disk.reads 0) (before ++ added)
   pub none : (front back : List Record) (r : Record) → added ≡ front ++ r ∷ back → IsNoExpire r
 
--- each image that a crash may leave of file 0 is empty
+-- file 0 has no record
 abbrev pub HasNoRecord : SiteView → Type 0
-HasNoRecord site = (image : List ℕ) → IsLeft site.disk 0 site.disk.beat image → Stands image []
+HasNoRecord site = Stands (site.disk.reads 0) []
 
 -- a Reply of the issue is among the records, and the file of the agent has the act of the run and issue on this command, whose
 -- reply reads as the Reply says
@@ -76,14 +77,13 @@ EachSendIsDone run site =
 -- From there, no run is told as another's. Where besides no call of the disk failed, each line was said, and the clock came to
 -- each moment that it was asked for: the run has ended well (0) or failed (6), as many records were appended as may be (7), an
 -- operator is asked (16), 1,000,000 parcels changed nothing (15), a limit would be passed (11), memory was wanted (10), or a
--- named file could not be read (3). And where no parcel was lost, doubled or held back, no Expire was appended. Where file 0 had
--- no record and the run has ended, each Send has its act and its Reply.
+-- named file could not be read (3). Where no parcel was lost, doubled or held back, no Expire was appended, whatever the status;
+-- and where besides file 0 had no record and the run has ended, each Send has its act and its Reply.
 pub record CompletesSo (start : Start) (old new : SiteView) (answer : ℕ) : Type 0 where
   pub no_other : HasOwnFile start old → answer ≢ 12
   pub to_end : HasOwnFile start old → IsUndisturbed old new
       → IsOneOf answer (0 ∷ 6 ∷ 7 ∷ 16 ∷ 15 ∷ 11 ∷ 10 ∷ 3 ∷ [])
-  pub none_expires : HasOwnFile start old → IsUndisturbed old new → DidNotRise old.clock.mishaps new.clock.mishaps
-      → AddsNoExpire old new
+  pub none_expires : DidNotRise old.clock.mishaps new.clock.mishaps → AddsNoExpire old new
   pub sends_done : DidNotRise old.clock.mishaps new.clock.mishaps → HasNoRecord old → (answer ≡ 0) ⊎ (answer ≡ 6)
       → EachSendIsDone start.run new
 

@@ -76,7 +76,8 @@ pub record NoFault (faults_before faults_after : ℕ) (old new : SiteView) : Typ
   pub disk : new.disk.faults ≡ old.disk.faults
   pub say : new.clock.unsaid ≡ old.clock.unsaid
 
--- A fault of the disk was counted, of a command that opens a file of it; for `rehearse` it is one of the site of its own.
+-- A fault of the disk was counted, of a command that opens a file of it; for `rehearse` it is one of the site of its own, which
+-- is used up.
 abbrev pub CountsDisk : Option Asked → SiteView → SiteView → Type 0
 CountsDisk None old new = ⊥
 CountsDisk (Some (canonises book)) old new = ⊥

@@ -1,19 +1,22 @@
--- The site of its own on which a rehearsal runs: which of its counts rose, and how its clock stands.
+-- The site of its own on which a rehearsal runs: which of its counts rose. And whose clock stands where a command waits.
 use Rattle.std.specs.Prelude.{ℕ, ◌<◌, Option, Some, None}
 use Rattle.cacao_site.specs.Counts.{Rose}
 use Rattle.memory_site.specs.MemorySite.{view_of}
 use Rattle.cacao_site.specs.View.{SiteView}
+use Rattle.rehearsal.specs.Plans.{IsWithinPlan}
 use Rattle.cacao_cli.specs.Asked.{Asked, canonises, checks, runs, shows, lists_rules, decides, shadows, rehearses, audits}
-use Rattle.cacao_cli.specs.Ends.{End, waiting}
+use Rattle.cacao_cli.specs.Ends.{End}
 use Rattle.cacao_cli.specs.Rehearsing.{RehearsalTo}
 
--- a rehearsal came to this end, and this count of its site rose
+-- A rehearsal came to this end, and this count of its site rose: more device calls were made, or more bytes handed to the site,
+-- than its plan has room for.
 pub record CountsOwn (positions : ℕ) (last : End) (count : SiteView → ℕ) : Type 0 where
   pub came : RehearsalTo positions last
-  pub rose : Rose (count (view_of came.site)) (count came.after)
+  pub rose : Rose (count (view_of came.site)) (count (view_of came.left))
+  pub used_up : ¬ IsWithinPlan (view_of came.left)
 
--- The clock stands before the moment that it was asked for last; for `rehearse` it is that of the site of its own. No other
--- command waits.
+-- The clock stands before the moment that it was asked for last. No other command waits: the clock of a rehearsal reaches each
+-- moment.
 abbrev pub StandsShort : Option Asked → SiteView → Type 0
 StandsShort None new = ⊥
 StandsShort (Some (canonises book)) new = ⊥
@@ -23,6 +26,5 @@ StandsShort (Some shows) new = ⊥
 StandsShort (Some (lists_rules agent)) new = ⊥
 StandsShort (Some (decides agent packets)) new = ⊥
 StandsShort (Some (shadows agent)) new = ⊥
-StandsShort (Some (rehearses positions)) new =
-    (moment : ℕ) × (came : RehearsalTo positions (waiting moment)) × (came.after.clock.now < came.after.clock.asked)
+StandsShort (Some (rehearses positions)) new = ⊥
 StandsShort (Some (audits engine filters)) new = ⊥

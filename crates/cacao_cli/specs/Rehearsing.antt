@@ -9,12 +9,14 @@ use Rattle.flow_rules.specs.Givens.{Given}
 use Rattle.flow_world.specs.declared.close.Close.{Close}
 use Rattle.flow_world.specs.declared.error.WorldError.{WorldError}
 use Rattle.rehearsal.specs.Books.{rehearsal_text}
+use Rattle.rehearsal.specs.Plans.{GoesByPlan}
 use Rattle.rehearsal.specs.Rehearsals.{ClosesOtherwise, FailsToCount, Refuses, RunsWell}
 use Rattle.rehearsal.specs.Settings.{IsAccepted, IsNewSite}
 use Rattle.rehearsal.specs.declared.error.RehearsalError.{RehearsalError}
 use Rattle.rehearsal.specs.declared.error.RehearsalError.TheVariants as rehearsal_error
 use Rattle.rehearsal.specs.declared.summary.Summary.{Summary}
-use Rattle.cacao_cli.specs.Ends.{End, damaged, disk_failed, no_memory, other_book, other_run, past, refused, rehearsed, run_used}
+use Rattle.cacao_cli.specs.Ends.{End, asked_for, damaged, disk_failed, no_memory, other_book, other_run, past, paused, refused}
+use Rattle.cacao_cli.specs.Ends.{rehearsed, run_used, waiting}
 use Rattle.cacao_cli.specs.Holding.{close_end, error_end}
 use Rattle.cacao_cli.specs.declared.limit.Limit.TheVariants.{FileBytes}
 
@@ -60,23 +62,29 @@ EndsRun positions given old new last =
     EndsWell positions given old new last
     ⊎ (EndsOtherwise given old new last ⊎ (EndsRefused given old new last ⊎ EndsUncounted given old new last))
 
--- an end that comes of blank files: none is of another run, no filter acted for this one, and none is damaged
-abbrev pub ComesOfBlank : End → Type 0
-ComesOfBlank (other_run held asked) = ⊥
-ComesOfBlank (other_book index) = ⊥
-ComesOfBlank (run_used agent) = ⊥
-ComesOfBlank (damaged file place) = ⊥
-ComesOfBlank other = ⊤
+-- An end that a rehearsal may come to. Its files are blank, so none is of another run, no filter acted for this one, and none is
+-- damaged. Its session neither comes to the end of its budget nor waits, for a moment or for an operator.
+abbrev pub MayEndSo : End → Type 0
+MayEndSo (other_run held asked) = ⊥
+MayEndSo (other_book index) = ⊥
+MayEndSo (run_used agent) = ⊥
+MayEndSo (damaged file place) = ⊥
+MayEndSo paused = ⊥
+MayEndSo (waiting moment) = ⊥
+MayEndSo (asked_for issue) = ⊥
+MayEndSo other = ⊤
 
--- The playbook with so many positions is accepted, and its run on a new site of its own came to this end.
+-- The playbook with so many positions is accepted, and its run on a new site of its own came to this end. The site as it was left
+-- went by its plan.
 pub record RehearsalTo (positions : ℕ) (last : End) : Type 0 where
   pub site : MemorySite
   pub is_new : IsNewSite site
-  pub after : SiteView
+  pub left : MemorySite
+  pub by_plan : GoesByPlan left
   pub given : Given
   pub accepted : IsAccepted (rehearsal_text positions) given
-  pub runs : EndsRun positions given (view_of site) after last
-  pub of_blank : ComesOfBlank last
+  pub runs : EndsRun positions given (view_of site) (view_of left) last
+  pub may : MayEndSo last
 
 -- the end that says why there is no summary
 abbrev pub failed_end : RehearsalError → End

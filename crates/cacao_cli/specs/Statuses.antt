@@ -7,9 +7,11 @@ use Rattle.cacao_cli.specs.Exact.{IsOneOf}
 abbrev pub filter_statuses : List ℕ
 filter_statuses = 0 ∷ 8 ∷ 9 ∷ 10 ∷ 13 ∷ []
 
--- The files of the site on which a rehearsal runs are blank: there is no other run, no number that was used, and no damage.
+-- The files of the site on which a rehearsal runs are blank: there is no other run, no number that was used, and no damage. They
+-- have no room for as many records as its budget, its clock reaches each moment, and no command of its playbook is for operators:
+-- it neither pauses nor waits.
 abbrev pub rehearsal_statuses : List ℕ
-rehearsal_statuses = 0 ∷ 1 ∷ 6 ∷ 7 ∷ 8 ∷ 9 ∷ 10 ∷ 11 ∷ 14 ∷ 15 ∷ 16 ∷ []
+rehearsal_statuses = 0 ∷ 1 ∷ 6 ∷ 8 ∷ 9 ∷ 10 ∷ 11 ∷ 15 ∷ []
 
 -- all that it may answer, for each command
 abbrev pub statuses_of : Option Asked → List ℕ

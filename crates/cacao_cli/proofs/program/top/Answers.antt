@@ -8,6 +8,7 @@ use Rattle.cacao_cli.specs.Ends.{End}
 use Rattle.cacao_cli.specs.Files.{ShelfCall}
 use Rattle.cacao_cli.specs.Lines.{Tells}
 use Rattle.cacao_cli.proofs.AgreedLemmas.{agrees-ended}
+use Rattle.cacao_cli.proofs.BudgetLemmas.{asked-budget}
 use Rattle.cacao_cli.proofs.AnswerLemmas.{answers-ended, disk-ended}
 use Rattle.cacao_cli.proofs.CompleteLemmas.{completes-ended, undamaged-ended}
 use Rattle.cacao_cli.proofs.CountLemmas.{failed-ended, steady-ended, unsaid-ended, said-ended, memory-ended}
@@ -110,7 +111,7 @@ returns-clause-agreement g c =
 pub returns-clause-on_return : goal.returns-clause-on_return
 returns-clause-on_return g c =
     returns-ended (asked (map string_bytes c.args.words.now)) _ (g.S.Disk.view c.args.site.now) (g.S.Disk.view c.perform-end.new.site) (g.S.Disk.view c.finish.new.site) (end_of c.perform-end.result) c.finish.result
-    (g.met.S.Disk.sound c.perform-end.new.site) c.perform-end.ensures.performed c.finish.ensures
+    (asked-budget (map string_bytes c.args.words.now)) (g.met.S.Disk.sound c.perform-end.new.site) c.perform-end.ensures.performed c.finish.ensures
 
 pub returns-clause-undamaged : goal.returns-clause-undamaged
 returns-clause-undamaged g c told good =
@@ -120,7 +121,8 @@ returns-clause-undamaged g c told good =
 pub returns-clause-completes : goal.returns-clause-completes
 returns-clause-completes g c =
     completes-ended c.complete_laws.ensures.no_other_run c.complete_laws.ensures.completes (asked (map string_bytes c.args.words.now)) _ (g.S.Disk.view c.args.site.now)
-    (g.S.Disk.view c.perform-end.new.site) (g.S.Disk.view c.finish.new.site) (end_of c.perform-end.result) c.finish.result (g.met.S.Disk.sound c.perform-end.new.site) c.perform-end.ensures.performed c.finish.ensures
+    (g.S.Disk.view c.perform-end.new.site) (g.S.Disk.view c.finish.new.site) (end_of c.perform-end.result) c.finish.result (g.met.S.Disk.sound c.args.site.now) (g.met.S.Disk.sound c.perform-end.new.site)
+    c.perform-end.ensures.performed c.finish.ensures
 
 pub returns-clause-answers : goal.returns-clause-answers
 returns-clause-answers g c = answers-ended _ _ _ _ _ (came c.perform-end.ensures.performed c.finish.ensures)

@@ -1,14 +1,15 @@
 -- The rehearsal has a summary, or the end says why it has none.
 use Rattle.std.proofs.Common.{sym, subst}
-use Rattle.memory_site.specs.MemorySite.{view_of}
+use Rattle.rehearsal.specs.Sites.{inside}
 use Rattle.cacao_cli.specs.Ends.{End}
 use Rattle.cacao_cli.specs.Rehearsing.{TellsRehearsal}
 use Rattle.cacao_cli.proofs.RehearseLemmas.{has-failed, has-summary}
 use Rattle.cacao_cli.proofs.rehearse.on_new_site.Goals as goal
 
 pub returns-in-Ok-rehearse : goal.returns-in-Ok-rehearse
-returns-in-Ok-rehearse c = has-summary c.args.positions c.in-Ok.site (view_of c.rehearse.new.site) c.in-Ok-rehearse.summary c.in-Ok.ensures c.in-Ok-rehearse.ensures.ok
+returns-in-Ok-rehearse c =
+    has-summary c.args.positions (inside c.in-Ok.site) (inside c.rehearse.new.site) c.in-Ok-rehearse.summary c.in-Ok.ensures c.in-Ok-rehearse.ensures.by_plan c.in-Ok-rehearse.ensures.ok
 
 pub returns : goal.returns
 returns c = subst (λ (e : End). TellsRehearsal c.args.positions e) (sym c.failed_end.ensures)
-    (has-failed c.args.positions c.in-Ok.site (view_of c.rehearse.new.site) c.in-Err-rehearse.error c.in-Ok.ensures (c.in-Err-rehearse.ensures.new_site c.in-Ok.ensures) c.in-Err-rehearse.ensures.err)
+    (has-failed c.args.positions (inside c.in-Ok.site) (inside c.rehearse.new.site) c.in-Err-rehearse.error c.in-Ok.ensures (c.in-Err-rehearse.ensures.new_site c.in-Ok.ensures) c.in-Err-rehearse.ensures.by_plan c.in-Err-rehearse.ensures.err)

@@ -1,0 +1,439 @@
+-- What a status tells of the files and the files of the status where it comes whatever they hold, and where other files read alike.
+use Rattle.std.proofs.Common.{◌≡◌, ◌≢◌, ◌⊎◌, inl, inr, ◌∙◌, refl, sym, ap, subst, arith, ℕ, ◌+◌, ◌<◌, ◌≤◌, List, [], ◌∷◌, ◌++◌, length, Bool, true, false, Option, Some, None}
+use Rattle.std.specs.Prelude.{IfSome, IsTrue, nat_eq}
+use Rattle.std.specs.List.{list_any}
+use Rattle.cacao_check.specs.Fits.{FitsKind}
+use Rattle.cacao_site.specs.View.{SiteView}
+use Rattle.cacao_site.specs.declared.parcel.Parcel.{Parcel}
+use Rattle.run_records.specs.declared.act.Act.{Act}
+use Rattle.flow_core.specs.Setups.{AreAccepted}
+use Rattle.flow_core.specs.declared.flow_errors.LimitKind.TheVariants as limit
+use Rattle.flow_rules.specs.Accepted.{Accepted}
+use Rattle.flow_rules.specs.Givens.{Given}
+use Rattle.flow_rules.specs.Moves.{enabled_move}
+use Rattle.flow_rules.specs.State.{Shown}
+use Rattle.engine_history.specs.Openings.{RefusesImage}
+use Rattle.engine_history.specs.declared.error.EngineError.TheVariants as refusal
+use Rattle.flow_laws.specs.Images.{IsActs, IsRecords}
+use Rattle.flow_steps.specs.Grown.{acts_of}
+use Rattle.flow_steps.specs.Handled.{one_reply}
+use Rattle.flow_steps.specs.Sums.{total}
+use Rattle.slpf_actuator.specs.ActLists.{length_with}
+use Rattle.slpf_actuator.specs.ActuatorView.{act_for}
+use Rattle.slpf_actuator.specs.Damage.{IsDamaged}
+use Rattle.session_laws.specs.Undamaged.{IsDamagedFor}
+use Rattle.cacao_cli.specs.Exact.{IsOneOf, file_faults}
+use Rattle.cacao_cli.specs.Files.{File}
+use Rattle.cacao_cli.specs.Lines.{SaysAtMostALine}
+use Rattle.cacao_cli.specs.Returning.{ActPasses, AsksSo, BeginsAnother, FindsUsed, FloodsSo, GainsActs, GainsRecords, HasDamagedFilter, IsIdleNow, IsLateSo, IsResend, KeepsWithin, CanGoOn, PausesSo, ReadsAsAnother, ReadsAsDamaged, ReadsSo, ReadsTooLarge, ReturnsSo, StatusTells}
+use Rattle.cacao_cli.specs.Returning.{NextPasses, TurnTells, WaitsFirst, WaitsInTurn, WaitsSo, WouldPass, or_any}
+use Rattle.cacao_cli.specs.Work.{Start}
+use Rattle.cacao_cli.proofs.StatusLists.{not-among}
+use Rattle.cacao_cli.proofs.LineLemmas.{IsCutOff}
+
+-- ---- statuses in lists
+
+-- what comes whatever the file holds
+abbrev pub faults : List ℕ
+faults = or_any []
+
+pub among-faults : (n : ℕ) (ms : List ℕ) → IsOneOf n faults → IsOneOf n (or_any ms)
+among-faults n ms (inl e) = inl e
+among-faults n ms (inr (inl e)) = inr (inl e)
+among-faults n ms (inr (inr (inl e))) = inr (inr (inl e))
+among-faults n ms (inr (inr (inr (inl e)))) = inr (inr (inr (inl e)))
+among-faults n ms (inr (inr (inr (inr (inl e))))) = inr (inr (inr (inr (inl e))))
+among-faults n ms (inr (inr (inr (inr (inr h))))) = absurd h
+
+pub behind-faults : (n : ℕ) (ms : List ℕ) → IsOneOf n ms → IsOneOf n (or_any ms)
+behind-faults n ms h = inr (inr (inr (inr (inr h))))
+
+-- what the session alone finds besides
+abbrev pub besides : List ℕ
+besides = 11 ∷ 13 ∷ 14 ∷ []
+
+-- ---- statuses that tell nothing
+
+abbrev pub telling : List ℕ
+telling = 0 ∷ 6 ∷ 7 ∷ 12 ∷ 13 ∷ 14 ∷ 15 ∷ 16 ∷ 11 ∷ []
+
+-- those of a session that closed
+abbrev pub closing : List ℕ
+closing = 0 ∷ 6 ∷ 7 ∷ 14 ∷ 15 ∷ 16 ∷ []
+
+closing-telling : (n : ℕ) → IsOneOf n closing → IsOneOf n telling
+closing-telling n (inl e) = inl e
+closing-telling n (inr (inl e)) = inr (inl e)
+closing-telling n (inr (inr (inl e))) = inr (inr (inl e))
+closing-telling n (inr (inr (inr (inl e)))) = inr (inr (inr (inr (inr (inl e)))))
+closing-telling n (inr (inr (inr (inr (inl e))))) = inr (inr (inr (inr (inr (inr (inl e))))))
+closing-telling n (inr (inr (inr (inr (inr (inl e)))))) = inr (inr (inr (inr (inr (inr (inr (inl e)))))))
+closing-telling n (inr (inr (inr (inr (inr (inr h)))))) = absurd h
+
+pub not-closing : (answer m : ℕ) → list_any (nat_eq m) closing ≡ false → answer ≡ m → IsOneOf answer closing → ⊥
+not-closing answer m none is one = not-among m closing none (subst (λ (n : ℕ). IsOneOf n closing) is one)
+
+pub tells-nothing : (start : Start) (old new : SiteView) (answer m : ℕ) → list_any (nat_eq m) telling ≡ false → answer ≡ m → StatusTells start old new answer
+tells-nothing start old new answer m none is = record {
+  well = λ e. absurd (other (inl (sym is ∙ e)));
+  failed = λ e. absurd (other (inr (inl (sym is ∙ e))));
+  pauses = λ e. absurd (other (inr (inr (inl (sym is ∙ e)))));
+  another = λ e. absurd (other (inr (inr (inr (inl (sym is ∙ e))))));
+  damaged = λ e. absurd (other (inr (inr (inr (inr (inl (sym is ∙ e)))))));
+  waits = λ e. absurd (other (inr (inr (inr (inr (inr (inl (sym is ∙ e))))))));
+  floods = λ e. absurd (other (inr (inr (inr (inr (inr (inr (inl (sym is ∙ e)))))))));
+  asks = λ e. absurd (other (inr (inr (inr (inr (inr (inr (inr (inl (sym is ∙ e))))))))));
+  past = λ e. absurd (other (inr (inr (inr (inr (inr (inr (inr (inr (inl (sym is ∙ e)))))))))));
+  kept = λ one. absurd (other (closing-telling m (subst (λ (n : ℕ). IsOneOf n closing) is one)));
+}
+  where
+    other : IsOneOf m telling → ⊥
+    other h = not-among m telling none h
+
+-- 11 tells that something would pass a limit
+pub tells-past : (start : Start) (old new : SiteView) (answer : ℕ) → answer ≡ 11 → ReadsTooLarge start new ⊎ WouldPass start old new → StatusTells start old new answer
+tells-past start old new answer is past = record {
+  well = λ e. absurd (omega (arith, e, is));
+  failed = λ e. absurd (omega (arith, e, is));
+  pauses = λ e. absurd (omega (arith, e, is));
+  floods = λ e. absurd (omega (arith, e, is));
+  asks = λ e. absurd (omega (arith, e, is));
+  waits = λ e. absurd (omega (arith, e, is));
+  another = λ e. absurd (omega (arith, e, is));
+  damaged = λ e. absurd (omega (arith, e, is));
+  past = λ e. past;
+  kept = λ one. absurd (not-closing answer 11 refl is one);
+}
+
+pub fault-tells : (start : Start) (old new : SiteView) (answer : ℕ) → IsOneOf answer faults → StatusTells start old new answer
+fault-tells start old new answer (inl e) = tells-nothing start old new answer 3 refl e
+fault-tells start old new answer (inr (inl e)) = tells-nothing start old new answer 5 refl e
+fault-tells start old new answer (inr (inr (inl e))) = tells-nothing start old new answer 8 refl e
+fault-tells start old new answer (inr (inr (inr (inl e)))) = tells-nothing start old new answer 9 refl e
+fault-tells start old new answer (inr (inr (inr (inr (inl e))))) = tells-nothing start old new answer 10 refl e
+fault-tells start old new answer (inr (inr (inr (inr (inr h))))) = absurd h
+
+fault-turns : (start : Start) (old new : SiteView) (answer : ℕ) → IsOneOf answer faults → TurnTells start old new answer
+fault-turns start old new answer h = record {
+  may = λ m. inr (inr (among-faults answer (11 ∷ 13 ∷ 14 ∷ []) h));
+  asks = λ a le. inr (inr (among-faults answer (11 ∷ 13 ∷ []) h));
+  moves = λ m some. inr (inr (among-faults answer (13 ∷ []) h));
+  late = λ a lt. inr (among-faults answer (12 ∷ 13 ∷ []) h);
+  floods = λ f some durable. inr (among-faults answer (11 ∷ []) h);
+}
+
+pub fault-returns : (start : Start) (old new : SiteView) (answer : ℕ) → IsOneOf answer faults → ReturnsSo start old new answer
+fault-returns start old new answer h = record {
+  of_status = fault-tells start old new answer h;
+  of_file = record {
+    well = λ r. inr (among-faults answer besides h);
+    failed = λ r. inr (among-faults answer besides h);
+    goes_on = λ r. inr (inr (inr (inr (among-faults answer besides h))));
+    pauses = λ p. inr h;
+    another = λ a. inr h;
+    damaged = λ d. inr h;
+    too_large = λ l. inr h;
+    filter_damaged = λ d. inl (inr h);
+    used = λ u. inr (among-faults answer (13 ∷ []) h);
+  };
+  of_turn = fault-turns start old new answer h;
+}
+
+pub cut : (start : Start) (old new : SiteView) (answer : ℕ) → IsCutOff answer → ReturnsSo start old new answer
+cut start old new answer (inl e) = fault-returns start old new answer (inr (inr (inr (inl e))))
+cut start old new answer (inr (inl e)) = fault-returns start old new answer (inr (inr (inr (inr (inl e)))))
+cut start old new answer (inr (inr h)) = absurd h
+
+pub faulty : (start : Start) (old new : SiteView) (answer : ℕ) (list : List File) → IsOneOf answer (file_faults list) → ReturnsSo start old new answer
+faulty start old new answer [] h = cut start old new answer h
+faulty start old new answer (file ∷ more) (inl e) = fault-returns start old new answer (inl e)
+faulty start old new answer (file ∷ more) (inr h) = cut start old new answer h
+
+-- texts that are not accepted give no run to read
+pub none-accepted : (start : Start) (old new : SiteView) (answer m : ℕ) → list_any (nat_eq m) telling ≡ false → answer ≡ m
+    → ((given : Given) → Accepted AreAccepted FitsKind start.books start.bind given → ⊥) → ReturnsSo start old new answer
+none-accepted start old new answer m none is refused = record {
+  of_status = tells-nothing start old new answer m none is;
+  of_file = record {
+    well = λ r. absurd (refused r.given r.accepted);
+    failed = λ r. absurd (refused r.given r.accepted);
+    goes_on = λ r. absurd (refused r.given r.accepted);
+    pauses = λ p. absurd (refused p.0.given p.0.accepted);
+    another = λ a. absurd (refused a.given a.accepted);
+    damaged = λ d. absurd (refused d.given d.accepted);
+    too_large = λ l. absurd (refused l.given l.accepted);
+    filter_damaged = λ d. absurd (refused d.given d.accepted);
+    used = λ u. absurd (refused u.given u.accepted);
+  };
+  of_turn = record {
+    may = λ m. absurd (refused m.goes_on.given m.goes_on.accepted);
+    asks = λ a le. absurd (refused a.may.goes_on.given a.may.goes_on.accepted);
+    moves = λ m some. absurd (refused m.goes_on.given m.goes_on.accepted);
+    late = λ a lt. absurd (refused a.1.0 a.1.1);
+    floods = λ f some durable. absurd (refused f.may.goes_on.given f.may.goes_on.accepted);
+  };
+}
+
+-- ---- files that read alike
+
+-- the last line leaves the files, what a crash leaves of the engine's, the parcels taken and the clock
+pub record Alike (a b : SiteView) : Type 0 where
+  pub bytes : (file : ℕ) → b.disk.reads file ≡ a.disk.reads file
+  pub told : b.disk.told ≡ a.disk.told
+  pub left : (image : List ℕ) → b.disk.left 0 b.disk.beat image ≡ a.disk.left 0 a.disk.beat image
+  pub taken : b.link.taken ≡ a.link.taken
+  pub now : b.clock.now ≡ a.clock.now
+  pub asked : b.clock.asked ≡ a.clock.asked
+
+pub alike-behind : (a b : SiteView) → SaysAtMostALine a b → Alike a b
+alike-behind a b (inl is) = record {
+  bytes = λ file. ap (λ (s : SiteView). s.disk.reads file) is;
+  told = ap (λ (s : SiteView). s.disk.told) is;
+  left = λ image. ap (λ (s : SiteView). s.disk.left 0 s.disk.beat image) is;
+  taken = ap (λ (s : SiteView). s.link.taken) is;
+  now = ap (λ (s : SiteView). s.clock.now) is;
+  asked = ap (λ (s : SiteView). s.clock.asked) is;
+}
+alike-behind a b (inr says) = record {
+  bytes = λ file. (says.disk.stays file).reads;
+  told = says.disk.goes_on.told;
+  left = λ image. (says.disk.stays 0).images b.disk.beat image says.disk.goes_on.later (omega arith);
+  taken = says.taken;
+  now = says.time.now;
+  asked = says.time.asked;
+}
+
+pub alike-back : (a b : SiteView) → Alike a b → Alike b a
+alike-back a b same = record {
+  bytes = λ file. sym (same.bytes file);
+  told = sym same.told;
+  left = λ image. sym (same.left image);
+  taken = sym same.taken;
+  now = sym same.now;
+  asked = sym same.asked;
+}
+
+-- the status of files of which an agent's is damaged
+abbrev DamagedFilterSo : Start → SiteView → ℕ → Type 0
+DamagedFilterSo start site answer =
+    IsOneOf answer (13 ∷ or_any []) ⊎ (((answer ≡ 11) × ReadsTooLarge start site) ⊎ ((answer ≡ 12) × ReadsAsAnother start site))
+
+module _ (start : Start) (a b : SiteView) (same : Alike a b) where
+  abbrev reads-there : (how : Option Bool) → ReadsSo start how a → ReadsSo start how b
+  reads-there how r = record {
+    given = r.given;
+    accepted = r.accepted;
+    seen = r.seen;
+    reads = record {
+      records = r.reads.records;
+      reads = subst (λ (image : List ℕ). IsRecords image r.reads.records) (sym (same.bytes 0)) r.reads.reads;
+      so_far = r.reads.so_far;
+      given_is = r.reads.given_is;
+      of_run = r.reads.of_run;
+    };
+    outcome_is = r.outcome_is;
+  }
+
+  abbrev gains-there : (many : ℕ) (old : SiteView) → GainsRecords many old a → GainsRecords many old b
+  gains-there many old g = record {
+    before = g.before;
+    had = g.had;
+    added = g.added;
+    has = subst (λ (image : List ℕ). IsRecords image (g.before ++ g.added)) (sym (same.bytes 0)) g.has;
+    as_many = g.as_many;
+  }
+
+  kept-there : (old : SiteView) → KeepsWithin start old a → KeepsWithin start old b
+  kept-there old k = record {
+    many = k.many;
+    gains = gains-there k.many old k.gains;
+    within = k.within;
+    crash = λ told image left records are. k.crash (subst (λ (t : Bool). IsTrue t) same.told told) image (subst (λ (l : Bool). IsTrue l) (same.left image) left) records
+        (subst (λ (i : List ℕ). IsRecords i records) (same.bytes 0) are);
+  }
+
+  pauses-there : (old : SiteView) → PausesSo start old a → PausesSo start old b
+  pauses-there old p = (reads-there None p.0, gains-there start.most old p.1)
+
+  abbrev may-there : (old : SiteView) → CanGoOn start old a → CanGoOn start old b
+  may-there old m = record { goes_on = reads-there None m.goes_on; begun = m.begun; many = m.many; gains = gains-there m.many old m.gains; fewer = m.fewer }
+
+  acts-there : (agent : ℕ) (acts : List Act) (old : SiteView) → GainsActs agent acts old a → GainsActs agent acts old b
+  acts-there agent acts old g = record {
+    image = g.image;
+    left = g.left;
+    before = g.before;
+    had = g.had;
+    has = subst (λ (image : List ℕ). IsActs image (g.before ++ acts)) (sym (same.bytes agent)) g.has;
+  }
+
+  abbrev floods-there : (old : SiteView) → FloodsSo start old a → FloodsSo start old b
+  floods-there old f = record {
+    may = may-there old f.may;
+    acted = f.acted;
+    of_agents = f.of_agents;
+    gained = λ agent is. acts-there agent (acts_of agent f.acted) old (f.gained agent is);
+    taken = subst (λ (t : Option (List (ℕ × Parcel))). IfSome old.link.taken (λ before. IfSome t (λ after.
+        length after ≡ length before + (1_000_000 + total one_reply f.may.gains.added + length f.acted)))) (sym same.taken) f.taken;
+  }
+
+  idle-there : (seen : Shown) → IsIdleNow start seen a.clock.now → IsIdleNow start seen b.clock.now
+  idle-there seen h = subst (IsIdleNow start seen) (sym same.now) h
+
+  abbrev asks-there : (old : SiteView) → AsksSo start old a → AsksSo start old b
+  asks-there old h = record {
+    may = may-there old h.may;
+    idle = idle-there h.may.goes_on.seen h.idle;
+    nothing_due = h.nothing_due;
+    issue = h.issue;
+    least = h.least;
+  }
+
+  resend-there : (seen : Shown) → IsResend seen a.clock → IsResend seen b.clock
+  resend-there seen r = record {
+    issue = r.issue;
+    it = r.it;
+    waiting = r.waiting;
+    near = subst (λ (n : ℕ). n ≤ b.clock.now + 5_000) (sym same.asked) (subst (λ (n : ℕ). a.clock.asked ≤ n + 5_000) (sym same.now) r.near);
+    at = r.at;
+    due_is = r.due_is;
+    early = subst (λ (n : ℕ). n < r.at) (sym same.asked) r.early;
+  }
+
+  waits-there : (old : SiteView) → WaitsSo start old a → WaitsSo start old b
+  waits-there old (short, why) = (short-there, go why)
+    where
+      short-there : b.clock.now < b.clock.asked
+      short-there = subst (λ (n : ℕ). n < b.clock.asked) (sym same.now) (subst (λ (n : ℕ). a.clock.now < n) (sym same.asked) short)
+
+      go : WaitsFirst start old a ⊎ WaitsInTurn start old a → WaitsFirst start old b ⊎ WaitsInTurn start old b
+      go (inl f) = inl (record { none = gains-there 0 old f.none; how = f.how; reads = reads-there f.how f.reads; last = same.asked ∙ f.last })
+      go (inr t) = inr (record {
+        may = may-there old t.may;
+        idle = idle-there t.may.goes_on.seen t.idle;
+        what = elim t.what [
+          | inl is ↦ inl (is ∙ ap Some (sym same.asked))
+          | inr r ↦ inr (resend-there t.may.goes_on.seen r)
+        ];
+      })
+
+  another-there : ReadsAsAnother start a → ReadsAsAnother start b
+  another-there h = record { given = h.given; accepted = h.accepted; begins = subst (BeginsAnother h.given start.run) (sym (same.bytes 0)) h.begins }
+
+  damaged-there : ReadsAsDamaged start a → ReadsAsDamaged start b
+  damaged-there h = record {
+    given = h.given;
+    accepted = h.accepted;
+    place = h.place;
+    damaged = subst (λ (image : List ℕ). IsDamagedFor h.given start.run image h.place) (sym (same.bytes 0)) h.damaged;
+  }
+
+  large-there : ReadsTooLarge start a → ReadsTooLarge start b
+  large-there h = record {
+    given = h.given;
+    accepted = h.accepted;
+    large = subst (λ (image : List ℕ). RefusesImage h.given start.run image (refusal.Limit limit.Tasks)) (sym (same.bytes 0)) h.large;
+  }
+
+  filter-there : HasDamagedFilter start a → HasDamagedFilter start b
+  filter-there h = record {
+    given = h.given;
+    accepted = h.accepted;
+    agent = h.agent;
+    of_agent = h.of_agent;
+    place = h.place;
+    damaged = subst (λ (image : List ℕ). IsDamaged image h.place) (sym (same.bytes h.agent)) h.damaged;
+  }
+
+  used-there : FindsUsed start a → FindsUsed start b
+  used-there h = record {
+    given = h.given;
+    accepted = h.accepted;
+    blank = subst (λ (image : List ℕ). IsRecords image []) (sym (same.bytes 0)) h.blank;
+    agent = h.agent;
+    of_agent = h.of_agent;
+    acts = h.acts;
+    are = subst (λ (image : List ℕ). IsActs image h.acts) (sym (same.bytes h.agent)) h.are;
+    has = h.has;
+  }
+
+  damaged-filter-there : (answer : ℕ) → DamagedFilterSo start a answer → DamagedFilterSo start b answer
+  damaged-filter-there answer (inl h) = inl h
+  damaged-filter-there answer (inr (inl h)) = inr (inl (h.0, large-there h.1))
+  damaged-filter-there answer (inr (inr h)) = inr (inr (h.0, another-there h.1))
+
+  late-there : IsLateSo start a → IsLateSo start b
+  late-there l = record {
+    how = l.how;
+    reads = reads-there l.how l.reads;
+    late = elim l.late [ inl lt ↦ inl (subst (λ (n : ℕ). 9_000_000_000_000_000 < n) (sym same.now) lt) | inr due_ ↦ inr due_ ];
+  }
+
+  next-there : (old : SiteView) → NextPasses start old a → NextPasses start old b
+  next-there old n = record {
+    goes_on = reads-there None n.goes_on;
+    many = n.many;
+    gains = gains-there n.many old n.gains;
+    fewer = n.fewer;
+    next = n.next;
+    edits = n.edits;
+    now = n.now ∙ sym same.now;
+    takes = n.takes;
+    passes = n.passes;
+  }
+
+  act-there : ActPasses a → ActPasses b
+  act-there p = record {
+    parcel = p.parcel;
+    of_agent = p.of_agent;
+    acts = p.acts;
+    are = subst (λ (image : List ℕ). IsActs image p.acts) (sym (same.bytes p.parcel.agent)) p.are;
+    is_new = p.is_new;
+    past = subst (λ (n : ℕ). 67_108_864 < length_with p.acts (act_for p.acts p.parcel n)) (sym same.now) p.past;
+  }
+
+  past-there : (old : SiteView) → ReadsTooLarge start a ⊎ WouldPass start old a → ReadsTooLarge start b ⊎ WouldPass start old b
+  past-there old (inl l) = inl (large-there l)
+  past-there old (inr (inl l)) = inr (inl (late-there l))
+  past-there old (inr (inr (inl n))) = inr (inr (inl (next-there old n)))
+  past-there old (inr (inr (inr p))) = inr (inr (inr (act-there p)))
+
+  status-there : (old : SiteView) (answer : ℕ) → (HasDamagedFilter start b → HasDamagedFilter start a) → StatusTells start old a answer → StatusTells start old b answer
+  status-there old answer whole-back t = record {
+    well = λ e. reads-there (Some true) (t.well e);
+    failed = λ e. reads-there (Some false) (t.failed e);
+    pauses = λ e. pauses-there old (t.pauses e);
+    floods = λ e. floods-there old (t.floods e);
+    asks = λ e. asks-there old (t.asks e);
+    waits = λ e. waits-there old (t.waits e);
+    past = λ e. past-there old (t.past e);
+    kept = λ one. kept-there old (t.kept one);
+    another = λ e. elim (t.another e) [ inl h ↦ inl (another-there h) | inr h ↦ inr (used-there h.0, λ d. h.1 (whole-back d)) ];
+    damaged = λ e. elim (t.damaged e) [ inl h ↦ inl (damaged-there h) | inr h ↦ inr (filter-there h) ];
+  }
+
+pub returns-there : (start : Start) (old a b : SiteView) (answer : ℕ) → Alike a b → ReturnsSo start old a answer → ReturnsSo start old b answer
+returns-there start old a b answer same is = record {
+  of_status = status-there start a b same old answer (filter-there start b a back) is.of_status;
+  of_file = record {
+    well = λ r. is.of_file.well (reads-there start b a back (Some true) r);
+    failed = λ r. is.of_file.failed (reads-there start b a back (Some false) r);
+    goes_on = λ r. is.of_file.goes_on (reads-there start b a back None r);
+    pauses = λ p. is.of_file.pauses (pauses-there start b a back old p);
+    another = λ h. is.of_file.another (another-there start b a back h);
+    damaged = λ h. is.of_file.damaged (damaged-there start b a back h);
+    too_large = λ h. is.of_file.too_large (large-there start b a back h);
+    filter_damaged = λ h. damaged-filter-there start a b same answer (is.of_file.filter_damaged (filter-there start b a back h));
+    used = λ h. is.of_file.used (used-there start b a back h);
+  };
+  of_turn = record {
+    may = λ m. is.of_turn.may (may-there start b a back old m);
+    asks = λ h le. is.of_turn.asks (asks-there start b a back old h) (subst (λ (n : ℕ). h.may.goes_on.seen.moment ≤ n) same.now le);
+    moves = λ m some. is.of_turn.moves (may-there start b a back old m) (subst (λ (n : ℕ). enabled_move m.goes_on.seen n ≢ None) same.now some);
+    floods = λ f some durable. is.of_turn.floods (floods-there start b a back old f) some durable;
+    late = λ accepted lt. is.of_turn.late accepted (subst (λ (n : ℕ). 9_000_000_000_000_000 < n) same.now lt);
+  };
+}
+  where
+    back : Alike b a
+    back = alike-back a b same
