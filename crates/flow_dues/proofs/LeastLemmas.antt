@@ -176,25 +176,35 @@ pub AreLeast-again : (ms ls l : List (Option ℕ)) (n : ℕ) (new o : Option ℕ
 AreLeast-again ms ls l n new o all lt e block =
     AreLeast-put ms ls n new o all lt (subst (λ (m : List (Option ℕ)). IsLeast m (32 * (n / 32)) (32 * (n / 32) + 32) o) e block)
 
--- where no number has a moment, no block has one
-IsLeast-quiet : (ms : List (Option ℕ)) (from to : ℕ) → ((k : ℕ) → get_or ms k None ≡ None) → IsLeast ms from to None
-IsLeast-quiet ms from to quiet = record {
-  bound = λ t k a b h. absurd (both (is_by t (get_or ms k None)) (ap (λ v. is_by t v) (quiet k)) h);
-  reached = λ t h none. false≢true h;
-}
-
-quiet_least : (ms : List (Option ℕ)) (from to : ℕ) (o : Option ℕ) → ((k : ℕ) → get_or ms k None ≡ None) → IsLeast ms from to o → o ≡ None
+-- where no number of a range has a moment, there is no least one
+quiet_least : (ms : List (Option ℕ)) (from to : ℕ) (o : Option ℕ) → ((k : ℕ) → from ≤ k → k < to → get_or ms k None ≡ None) → IsLeast ms from to o → o ≡ None
 quiet_least ms from to None quiet l = refl
-quiet_least ms from to (Some m) quiet l = absurd (l.reached m (itself m) (λ k a b. ap (λ v. is_by m v) (quiet k)))
+quiet_least ms from to (Some m) quiet l = absurd (l.reached m (itself m) (λ k a b. ap (λ v. is_by m v) (quiet k a b)))
 
-quiet_above : (ms ls : List (Option ℕ)) → AreLeast ms ls → ((k : ℕ) → get_or ms k None ≡ None) → (b : ℕ) → get_or ls b None ≡ None
-quiet_above ms ls all quiet b = elim (cases_lt b (length ls)) [
-  | inl inside ↦ quiet_least ms (32 * b) (32 * b + 32) (get_or ls b None) quiet (all.blocks b inside)
+-- no other number has a moment
+abbrev IsAlone : List (Option ℕ) → ℕ → Type 0
+IsAlone ms n = (k : ℕ) → (k ≡ n → ⊥) → get_or ms k None ≡ None
+
+alone_above : (ms ls : List (Option ℕ)) (n : ℕ) → AreLeast ms ls → IsAlone ms n → IsAlone ls (n / 32)
+alone_above ms ls n all alone b other = elim (cases_lt b (length ls)) [
+  | inl inside ↦ quiet_least ms (32 * b) (32 * b + 32) (get_or ls b None) (λ k a z. alone k (λ e. other (omega arith))) (all.blocks b inside)
   | inr past ↦ get_or_past ls b None past
 ]
 
-AreLeast-quiet : (ms ls : List (Option ℕ)) (n : ℕ) → AreLeast ms ls → n < length ms → ((k : ℕ) → get_or (set ms n None) k None ≡ None) → AreLeast (set ms n None) (set ls (n / 32) None)
-AreLeast-quiet ms ls n all lt quiet = AreLeast-put ms ls n None None all lt (IsLeast-quiet (set ms n None) (32 * (n / 32)) (32 * (n / 32) + 32) quiet)
+IsLeast-alone : (ms : List (Option ℕ)) (from to n : ℕ) (new : Option ℕ) → from ≤ n → n < to → n < length ms → IsAlone ms n → IsLeast (set ms n new) from to new
+IsLeast-alone ms from to n new ge lt in_list alone =
+    let here : get_or (set ms n new) n None ≡ new = get_or-set_same ms n new None in_list in
+    record {
+      bound = λ t k a b h. elim (cases_eq k n) [
+        | inl same ↦ ap (λ v. is_by t v) (sym here) ∙ ap (λ j. is_by t (get_or (set ms n new) j None)) (sym same) ∙ h
+        | inr other ↦ absurd (both (is_by t (get_or (set ms n new) k None)) (ap (λ v. is_by t v) (get_or-set_other ms n k new None other ∙ alone k other)) h)
+      ];
+      reached = λ t h none. both (is_by t new) (ap (λ v. is_by t v) (sym here) ∙ none n ge lt) h;
+    }
+
+AreLeast-alone : (ms ls : List (Option ℕ)) (n : ℕ) (new : Option ℕ) → AreLeast ms ls → n < length ms → IsAlone ms n → AreLeast (set ms n new) (set ls (n / 32) new)
+AreLeast-alone ms ls n new all lt alone =
+    AreLeast-put ms ls n new new all lt (IsLeast-alone ms (32 * (n / 32)) (32 * (n / 32) + 32) n new (omega arith) (omega arith) lt alone)
 
 -- a block more, of numbers past the end
 pub AreLeast-block : (ms ls : List (Option ℕ)) → AreLeast ms ls → length ms ≡ 32 * length ls → AreLeast ms (ls ++ None ∷ [])
@@ -238,39 +248,33 @@ kept_more ms low middle high new_low new_middle new_high new ms_seen low_seen mi
   few_high = high_few;
 }
 
--- where the count becomes 0 no number has a moment, so this one lost it
-empty_put : (ms : List (Option ℕ)) (count n r : ℕ) (before due : Option ℕ) → count ≡ count_by is_some ms → n < length ms → before ≡ get_or ms n before
-    → r + cond (is_some before) 1 0 ≡ count + cond (is_some due) 1 0 → r ≡ 0 → count_by is_some (set ms n due) ≡ 0
-empty_put ms count n r before due counted lt was sum zero = let put = count_put ms n before due lt (get_or_read ms n before lt was None) in omega (arith, counted, sum, zero, put)
+-- where as many numbers have a moment as this one makes by itself, no other one has
+alone_counted : (ms : List (Option ℕ)) (count n r : ℕ) (before due : Option ℕ) → count ≡ count_by is_some ms → n < length ms → before ≡ get_or ms n None
+    → r + cond (is_some before) 1 0 ≡ count + cond (is_some due) 1 0 → r ≡ cond (is_some due) 1 0 → IsAlone ms n
+alone_counted ms count n r before due counted lt was sum one k other =
+    let put = count_put ms n before None lt was in
+    let empty : count_by is_some (set ms n None) ≡ 0 = omega (arith, counted, sum, one, put) in
+    sym (get_or-set_other ms n k None None other) ∙ none_counted (set ms n None) k empty
 
-pub lost : (ms : List (Option ℕ)) (count n r : ℕ) (before due : Option ℕ) → count ≡ count_by is_some ms → n < length ms → before ≡ get_or ms n before
-    → r + cond (is_some before) 1 0 ≡ count + cond (is_some due) 1 0 → r ≡ 0 → due ≡ None
-lost ms count n r before due counted lt was sum zero =
-    sym (get_or-set_same ms n due None lt) ∙ none_counted (set ms n due) n (empty_put ms count n r before due counted lt was sum zero)
-
--- the last number with a moment lost it
-pub kept_lost : (ms low middle high : List (Option ℕ)) (count n r : ℕ) (before due : Option ℕ) → IsKept ms low middle high count → n < length ms → before ≡ get_or ms n before
-    → r + cond (is_some before) 1 0 ≡ count + cond (is_some due) 1 0 → r ≡ 0
-    → IsKept (set ms n None) (set low (n / 32) None) (set middle (n / 32 / 32) None) (set high (n / 32 / 32 / 32) None) r
-kept_lost ms low middle high count n r before due k lt was sum zero =
-    let none : due ≡ None = lost ms count n r before due k.counted lt was sum zero in
-    let empty : count_by is_some (set ms n None) ≡ 0 =
-    subst (λ (o : Option ℕ). count_by is_some (set ms n o) ≡ 0) none (empty_put ms count n r before due k.counted lt was sum zero) in
-    let quiet : (j : ℕ) → get_or (set ms n None) j None ≡ None = λ j. none_counted (set ms n None) j empty in
-    let lows : AreLeast (set ms n None) (set low (n / 32) None) = AreLeast-quiet ms low n k.low_of lt quiet in
-    let quiet_low : (j : ℕ) → get_or (set low (n / 32) None) j None ≡ None = quiet_above (set ms n None) (set low (n / 32) None) lows quiet in
+-- a number gets a moment, or loses it, and no other one has any
+pub kept_alone : (ms low middle high : List (Option ℕ)) (count n r : ℕ) (before due : Option ℕ) → IsKept ms low middle high count → n < length ms → before ≡ get_or ms n before
+    → r + cond (is_some before) 1 0 ≡ count + cond (is_some due) 1 0 → r ≡ cond (is_some due) 1 0
+    → IsKept (set ms n due) (set low (n / 32) due) (set middle (n / 32 / 32) due) (set high (n / 32 / 32 / 32) due) r
+kept_alone ms low middle high count n r before due k lt was sum one =
+    let read : before ≡ get_or ms n None = get_or_read ms n before lt was None in
+    let alone : IsAlone ms n = alone_counted ms count n r before due k.counted lt read sum one in
+    let alone_low : IsAlone low (n / 32) = alone_above ms low n k.low_of alone in
+    let alone_middle : IsAlone middle (n / 32 / 32) = alone_above low middle (n / 32) k.middle_of alone_low in
     let in_low : n / 32 < length low = block_there ms low n k.low_of lt in
-    let middles : AreLeast (set low (n / 32) None) (set middle (n / 32 / 32) None) = AreLeast-quiet low middle (n / 32) k.middle_of in_low quiet_low in
-    let quiet_middle : (j : ℕ) → get_or (set middle (n / 32 / 32) None) j None ≡ None = quiet_above (set low (n / 32) None) (set middle (n / 32 / 32) None) middles quiet_low in
     record {
-      low_of = lows;
-      middle_of = middles;
-      high_of = AreLeast-quiet middle high (n / 32 / 32) k.high_of (block_there low middle (n / 32) k.middle_of in_low) quiet_middle;
-      counted = zero ∙ sym empty;
-      small = let small = k.small in omega (arith, length-set ms n None);
-      few_low = let few = k.few_low in omega (arith, length-set low (n / 32) None);
-      few_middle = let few = k.few_middle in omega (arith, length-set middle (n / 32 / 32) None);
-      few_high = let few = k.few_high in omega (arith, length-set high (n / 32 / 32 / 32) None);
+      low_of = AreLeast-alone ms low n due k.low_of lt alone;
+      middle_of = AreLeast-alone low middle (n / 32) due k.middle_of in_low alone_low;
+      high_of = AreLeast-alone middle high (n / 32 / 32) due k.high_of (block_there low middle (n / 32) k.middle_of in_low) alone_middle;
+      counted = let counted = k.counted in let put = count_put ms n before due lt read in omega (arith, counted, sum, put);
+      small = let small = k.small in omega (arith, length-set ms n due);
+      few_low = let few = k.few_low in omega (arith, length-set low (n / 32) due);
+      few_middle = let few = k.few_middle in omega (arith, length-set middle (n / 32 / 32) due);
+      few_high = let few = k.few_high in omega (arith, length-set high (n / 32 / 32 / 32) due);
     }
 
 pub AreLeast-nil : AreLeast [] []
@@ -327,6 +331,21 @@ in_list t ms (Some n) h = elim (cases_lt n (length ms)) [
 pub first_at : (t : ℕ) (ms : List (Option ℕ)) (o : Option ℕ) → IsFirstBy t (λ k. get_or ms k None) o → IsFirstBy t (at (listed ms)) o
 first_at t ms None h = λ k. ap (λ v. is_by t v) (at-listed ms k) ∙ h k
 first_at t ms (Some n) h = (ap (λ v. is_by t v) (at-listed ms n) ∙ h.0, λ k lt. ap (λ v. is_by t v) (at-listed ms k) ∙ h.1 k lt)
+
+-- the one number that has a moment
+pub only_first : (t : ℕ) (ms : List (Option ℕ)) (count n due : ℕ) → count ≡ count_by is_some ms → count ≡ 1 → Some due ≡ get_or ms n None
+    → IsFirstBy t (λ k. get_or ms k None) (cond (nat_le due t) (Some n) None)
+only_first t ms count n due counted one has = elim (cases_lt n (length ms)) [
+  | inl inside ↦ by (alone_counted ms count n count (Some due) (Some due) counted inside has refl one) (nat_le due t) refl
+  | inr past ↦ absurd (none-some due (sym (get_or_past ms n None past) ∙ sym has))
+]
+  where
+    by : IsAlone ms n → (b : Bool) → nat_le due t ≡ b → IsFirstBy t (λ k. get_or ms k None) (cond b (Some n) None)
+    by alone true early = (ap (λ v. is_by t v) (sym has) ∙ early, λ k lt. ap (λ v. is_by t v) (alone k (omega arith)))
+    by alone false late = λ k. elim (cases_eq k n) [
+      | inl same ↦ ap (λ j. is_by t (get_or ms j None)) same ∙ ap (λ v. is_by t v) (sym has) ∙ late
+      | inr other ↦ ap (λ v. is_by t v) (alone k other)
+    ]
 
 -- ---- the least pair
 

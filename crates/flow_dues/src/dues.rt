@@ -2,7 +2,9 @@
 ghost use Rattle.std.specs.Prelude.{◌≡◌, ℕ, ◌+◌, ◌<◌, ◌≤◌, ◌==◌, [], length, OnOk, Some, None, slice_get, if◌then◌else◌};
 ghost use Rattle.flow_dues.specs.Pairs.{at, with_due, without, least_by, IsFirstBy, IsQueue};
 
-use crate::least::{add_block, first_below, first_of_all, least_of_all, moment_of, put, recount};
+use crate::least::{
+    add_block, first_below, first_of_all, is_alone, least_of_all, moment_of, only_by, put, recount,
+};
 use std::alloc::{AllocError, Global};
 use std::marker::Model;
 
@@ -17,6 +19,8 @@ pub struct Dues {
     middle: Vec<Option<u64>>,
     high: Vec<Option<u64>>,
     count: usize,
+    // The number that last was the only one to have a moment.
+    only: u32,
 }
 
 impl Model for Dues {
@@ -43,6 +47,7 @@ impl Dues {
             middle: Vec::new(alloc),
             high: Vec::new(alloc),
             count: 0,
+            only: 0,
         }
     }
 
@@ -81,25 +86,27 @@ impl Dues {
         let _ = &self.moments;
     }
 
-    // Gives a number another moment, or none. Where no number has a moment any more no level is looked through.
-    fn give(&mut self, number: usize, due: Option<u64>)
+    // Gives a number another moment, or none. Where no other number has one no level is looked through.
+    fn give(&mut self, number: u32, due: Option<u64>)
         requires { number < self.old.room }
         ensures each { (n : ℕ) → at self.new.pairs n ≡ (if n == number then due else at self.old.pairs n) }
         ensures queue { IsQueue self.new.pairs }
         ensures was { IsQueue self.old.pairs }
         ensures room { self.new.room ≡ self.old.room }
     {
-        self.count = recount(self.count, self.moments[number], due);
-        let block = number / 32;
+        let place = number as usize;
+        self.count = recount(self.count, self.moments[place], due);
+        let block = place / 32;
         let group = block / 32;
-        if self.count == 0 {
-            self.moments[number] = None;
-            self.low[block] = None;
-            self.middle[group] = None;
-            self.high[group / 32] = None;
+        if is_alone(self.count, due) {
+            self.moments[place] = due;
+            self.low[block] = due;
+            self.middle[group] = due;
+            self.high[group / 32] = due;
+            self.only = number;
             return;
         }
-        let low = put(&mut self.moments, &self.low, number, due);
+        let low = put(&mut self.moments, &self.low, place, due);
         let middle = put(&mut self.low, &self.middle, block, low);
         let high = put(&mut self.middle, &self.high, group, middle);
         self.high[group / 32] = high;
@@ -112,7 +119,7 @@ impl Dues {
         ensures each { (n : ℕ) → at self.new.pairs n ≡ (if n == number then Some moment else at self.old.pairs n) }
         ensures room { self.new.room ≡ self.old.room }
     {
-        self.give(number as usize, Some(moment));
+        self.give(number, Some(moment));
     }
 
     /// Takes a number out, where it is in the set. It takes no memory.
@@ -124,7 +131,7 @@ impl Dues {
         if number as usize >= self.moments.len() {
             return;
         }
-        self.give(number as usize, None);
+        self.give(number, None);
     }
 
     /// The moment of a number, where it is in the set.
@@ -143,11 +150,16 @@ impl Dues {
         Some((moment, number))
     }
 
-    /// The least number whose moment is at most this one.
+    /// The least number whose moment is at most this one. Where one number alone has a moment no level is looked through.
     pub fn least_by(&self, moment: u64) -> Option<u32>
         ensures number { result ≡ least_by self.now.pairs moment }
         ensures each { IsFirstBy moment (at self.now.pairs) result }
     {
+        if self.count == 1 {
+            if let Some(due) = moment_of(&self.moments, self.only as usize) {
+                return only_by(self.only, due, moment);
+            }
+        }
         let group = first_of_all(&self.high, moment);
         let block = first_below(&self.middle, &self.high, moment, group);
         let low = first_below(&self.low, &self.middle, moment, block);

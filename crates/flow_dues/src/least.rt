@@ -1,5 +1,5 @@
 // The least moments of blocks of numbers.
-ghost use Rattle.std.specs.Prelude.{◌≡◌, ℕ, ◌+◌, ◌*◌, ◌/◌, ◌<◌, ◌≤◌, List, length, Option, slice_index_or, slice_set, Some, None, false, is_some, IfSome, OnOk, if◌then◌else◌};
+ghost use Rattle.std.specs.Prelude.{◌≡◌, ℕ, ◌+◌, ◌*◌, ◌/◌, ◌<◌, ◌≤◌, nat_le, List, length, Option, slice_index_or, slice_set, Some, None, false, is_some, IfSome, OnOk, if◌then◌else◌};
 ghost use Rattle.std.specs.Bool.{OnTrue};
 ghost use Rattle.flow_dues.specs.Pairs.{is_by, IsFirstBy};
 ghost use Rattle.flow_dues.specs.Least.{sooner, IsLeast, AreLeast, IsFirstWithin};
@@ -179,4 +179,21 @@ pub(crate) fn recount(count: usize, before: Option<u64>, after: Option<u64>) -> 
         (None, Some(_)) => count + 1,
         _ => count,
     }
+}
+
+// Whether no other number has a moment, where one got this moment, or lost its own, and so many have one then.
+pub(crate) fn is_alone(count: usize, due: Option<u64>) -> bool
+    ensures { OnTrue result (count ≡ (if is_some due then 1 else 0)) }
+{
+    match due {
+        Some(_) => count == 1,
+        None => count == 0,
+    }
+}
+
+// The one number that has a moment, where that is at most this one.
+pub(crate) fn only_by(number: u32, due: u64, moment: u64) -> Option<u32>
+    ensures { result ≡ (if nat_le due moment then Some number else None) }
+{
+    if due <= moment { Some(number) } else { None }
 }

@@ -1,8 +1,8 @@
-use Rattle.std.proofs.Common.{◌≡◌, ℕ, ◌<◌, List, Option, None, cond, length, set, sym, subst, ap, ◌∙◌}
+use Rattle.std.proofs.Common.{◌≡◌, ℕ, ◌<◌, List, Option, cond, length, set, refl, sym, subst, ap, ◌∙◌}
 use Rattle.std.specs.Prelude.{◌==◌}
 use Rattle.flow_dues.specs.Pairs.{Queue, at, IsQueue, listed}
 use Rattle.flow_dues.proofs.ListedLemmas.{IsQueue-listed, at_put}
-use Rattle.flow_dues.proofs.LeastLemmas.{lost, kept_lost}
+use Rattle.flow_dues.proofs.LeastLemmas.{kept_alone}
 use Rattle.flow_dues.proofs.dues.Dues.give.Goals as goal
 
 -- one number has another moment
@@ -18,21 +18,18 @@ inside_of ms q n v lt = subst (λ (q : Queue). n < q.room) (sym v) lt
 
 pub invariant_of-self : goal.invariant_of-self
 invariant_of-self c =
-    kept_lost c.self.inside.moments.items c.self.inside.low.items c.self.inside.middle.items c.self.inside.high.items c.self.inside.count c.args.number c.recount-self-inside.result c.index.result.now c.args.due
-    c.self.invariant (inside_of c.self.inside.moments.items c.args.self.now c.args.number c.self.view_is c.requires) c.index.ensures c.recount-self-inside.ensures c.if-self-eq0.true
+    kept_alone c.self.inside.moments.items c.self.inside.low.items c.self.inside.middle.items c.self.inside.high.items c.self.inside.count c.args.number c.recount-self-inside.result c.index.result.now c.args.due
+    c.self.invariant (inside_of c.self.inside.moments.items c.args.self.now c.args.number c.self.view_is c.requires) c.index.ensures c.recount-self-inside.ensures c.if-is_alone.ensures
 
-pub returns-then-self-eq0-clause-each : goal.returns-then-self-eq0-clause-each
-returns-then-self-eq0-clause-each c =
-    let none : c.args.due ≡ None = lost c.self.inside.moments.items c.self.inside.count c.args.number c.recount-self-inside.result c.index.result.now c.args.due
-    c.self.invariant.counted (inside_of c.self.inside.moments.items c.args.self.now c.args.number c.self.view_is c.requires) c.index.ensures c.recount-self-inside.ensures c.if-self-eq0.true in
-    each_of c.self.inside.moments.items (set c.self.inside.moments.items c.args.number None) c.args.self.now c.args.number c.args.due
-    (ap (λ (o : Option ℕ). set c.self.inside.moments.items c.args.number o) (sym none)) c.self.view_is c.requires
+pub returns-then-is_alone-clause-each : goal.returns-then-is_alone-clause-each
+returns-then-is_alone-clause-each c =
+    each_of c.self.inside.moments.items (set c.self.inside.moments.items c.args.number c.args.due) c.args.self.now c.args.number c.args.due refl c.self.view_is c.requires
 
-pub returns-then-self-eq0-clause-queue : goal.returns-then-self-eq0-clause-queue
-returns-then-self-eq0-clause-queue c = IsQueue-listed (set c.self.inside.moments.items c.args.number None)
+pub returns-then-is_alone-clause-queue : goal.returns-then-is_alone-clause-queue
+returns-then-is_alone-clause-queue c = IsQueue-listed (set c.self.inside.moments.items c.args.number c.args.due)
 
-pub returns-then-self-eq0-clause-was : goal.returns-then-self-eq0-clause-was
-returns-then-self-eq0-clause-was c = subst (λ (q : Queue). IsQueue q.pairs) c.self.view_is (IsQueue-listed c.self.inside.moments.items)
+pub returns-then-is_alone-clause-was : goal.returns-then-is_alone-clause-was
+returns-then-is_alone-clause-was c = subst (λ (q : Queue). IsQueue q.pairs) c.self.view_is (IsQueue-listed c.self.inside.moments.items)
 
 pub returns-clause-each : goal.returns-clause-each
 returns-clause-each c = each_of c.self.inside.moments.items c.put-low.new.moments.items c.args.self.now c.args.number c.args.due c.put-low.ensures.moments c.self.view_is c.requires
