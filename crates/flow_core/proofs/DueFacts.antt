@@ -13,7 +13,7 @@ use Rattle.flow_rules.specs.declared.phases.Phase.TheVariants as phase
 use Rattle.flow_rules.specs.declared.moves.Move.{Move}
 use Rattle.flow_rules.specs.State.{Shown}
 use Rattle.flow_rules.specs.Moves.{move_at, first_move, ready_at, ready_from, ready_set, delay_of, delay_until, delays, deadline_of, has_deadline, deadlines, deadlines_from, least, due, is_question, first_question}
-use Rattle.flow_tables.specs.TableFacts.{delay_in}
+use Rattle.flow_plans.specs.TableFacts.{delay_in}
 
 -- ---- the least moment of pairs
 

@@ -17,7 +17,7 @@ use Rattle.flow_rules.proofs.PlacedLemmas.{Placed}
 use Rattle.flow_rules.proofs.QuietLemmas.{IsQuiet}
 use Rattle.flow_rules.proofs.WaitLemmas.{is_calm, IsCalm, is_free_of}
 use Rattle.flow_rules.proofs.TaskLemmas.{HasParent, IsOrderly, MayMake, MayMove, AreFine, fine-orderly, get_within, set_length}
-use Rattle.flow_tables.specs.Fits.{IsInTime, JoinsFor, IsNewTask, NoneWaits, IsMove, AllFit}
+use Rattle.flow_plans.specs.Fits.{IsInTime, JoinsFor, IsNewTask, NoneWaits, IsMove, AllFit}
 use Rattle.flow_core.proofs.TimelyLemmas.{IsAtTime, IsStart, Timely}
 
 clash : (b : Bool) → b ≡ true → b ≡ false → ⊥

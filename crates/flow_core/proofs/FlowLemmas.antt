@@ -23,8 +23,8 @@ use Rattle.flow_rules.proofs.QuietLemmas.{IsQuiet}
 use Rattle.flow_rules.proofs.OrderLemmas.{change_fine}
 use Rattle.flow_rules.proofs.PlacedLemmas.{Placed, change-placed}
 use Rattle.flow_rules.proofs.SaneRuns.{Sound, runs_are_sound}
-use Rattle.flow_tables.specs.Fits.{AllFit, IsNewTask}
-use Rattle.flow_tables.specs.TableFacts.{blank_lists}
+use Rattle.flow_plans.specs.Fits.{AllFit, IsNewTask}
+use Rattle.flow_plans.specs.TableFacts.{blank_lists}
 use Rattle.flow_core.specs.Views.{View, begins, taken, is_makes}
 use Rattle.flow_core.specs.Flows.{IsStateOf, IsReached}
 use Rattle.flow_core.proofs.EditFits.{Shaped, with_end, fits_shaped}

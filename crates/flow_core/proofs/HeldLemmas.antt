@@ -13,14 +13,13 @@ use Rattle.flow_rules.specs.Changes.{moment_of}
 use Rattle.flow_rules.specs.Runs.{shown_after}
 use Rattle.flow_core.specs.declared.flow.Flow.TheInside.{Inside}
 use Rattle.flow_core.specs.declared.flow.Plan.{Plan}
-use Rattle.flow_values.specs.declared.run.Run.{Run}
-use Rattle.flow_tables.specs.declared.tables.Tables.{Tables}
+use Rattle.flow_plans.specs.RunTypes.{Run}
+use Rattle.flow_plans.specs.TableTypes.{Planned, Tables}
 use Rattle.flow_core.specs.declared.flow_errors.LimitKind.TheVariants as limit
-use Rattle.flow_tables.specs.declared.planned.Planned.{Planned}
-use Rattle.flow_tables.specs.Planned.{edit_of, edits_of, AreDeclared}
-use Rattle.flow_tables.specs.Fits.{AllFit}
-use Rattle.flow_tables.specs.TableFacts.{blank_lists, lists_of, seen_with, HasTables, HasRoom, IsSmall}
-use Rattle.flow_values.specs.RunFacts.{shown_of, IsWell}
+use Rattle.flow_plans.specs.Planned.{edit_of, edits_of, AreDeclared}
+use Rattle.flow_plans.specs.Fits.{AllFit}
+use Rattle.flow_plans.specs.TableFacts.{blank_lists, lists_of, seen_with, HasTables, HasRoom, IsSmall}
+use Rattle.flow_plans.specs.RunFacts.{shown_of, IsWell}
 use Rattle.flow_core.specs.Views.{View, has_begun, taken, passed, most_tasks, is_makes, is_long_command, IsReadyFor, Takes, stepped}
 use Rattle.flow_core.specs.Flows.{plan_of, view_of, IsStateOf, IsReached, HasSizes, IsHeld, PlanIsHeld, IsSound}
 use Rattle.flow_core.proofs.FlowLemmas.{sane_now, taken_fits, taken_reaches, issues_grow, tasks_grow, count_mapped, any_mapped}

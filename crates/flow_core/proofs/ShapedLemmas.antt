@@ -28,7 +28,7 @@ use Rattle.flow_rules.proofs.QuietLemmas.{IsQuiet, quiet_walked, quiet_written}
 use Rattle.flow_rules.proofs.TaskLemmas.{get_within}
 use Rattle.flow_rules.proofs.IssueLemmas.{WasAt, get_changed}
 use Rattle.flow_rules.proofs.WaitLemmas.{Agree, AwaitedBy, IsFreeOf, is_free_of, not_awaiting, IsCalm, calm_walked, calm_written, finish_free}
-use Rattle.flow_tables.specs.Fits.{NoneWaits}
+use Rattle.flow_plans.specs.Fits.{NoneWaits}
 use Rattle.flow_core.proofs.TimelyLemmas.{Timely, timely_walked, timely_written, finish_timely, after_timely}
 use Rattle.flow_core.proofs.EditFits.{Shaped, with_end}
 

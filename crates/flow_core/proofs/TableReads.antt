@@ -11,8 +11,8 @@ use Rattle.flow_rules.specs.State.{Shown}
 use Rattle.flow_rules.specs.Changes.{is_in_time}
 use Rattle.flow_rules.specs.Sane.{IsSane}
 use Rattle.flow_rules.specs.Moves.{move_at, first_move, enabled_move, ready_at, ready_set, deadlines, deadline_of, has_deadline, due, is_question, asks}
-use Rattle.flow_tables.specs.declared.tables.Tables.{Tables}
-use Rattle.flow_tables.specs.TableFacts.{seen_with, HasTables, delay_in}
+use Rattle.flow_plans.specs.TableTypes.{Tables}
+use Rattle.flow_plans.specs.TableFacts.{seen_with, HasTables, delay_in}
 use Rattle.flow_core.proofs.DueFacts.{due_is, ready_rises, deadlines_rise, first_question_is, first_move_is}
 use Rattle.flow_core.proofs.MoveFacts.{ready_moves}
 

@@ -3,7 +3,7 @@ use Rattle.std.specs.Prelude.{◌≡◌, ℕ, Some}
 use Rattle.flow_rules.specs.declared.moves.Move.{Move}
 use Rattle.flow_rules.specs.Moves.{record_of}
 use Rattle.flow_rules.specs.State.{Shown}
-use Rattle.flow_tables.specs.Planned.{AreDeclared}
+use Rattle.flow_plans.specs.Planned.{AreDeclared}
 use Rattle.flow_core.specs.declared.coming.Coming.{Coming}
 use Rattle.flow_core.specs.Views.{AsksText}
 

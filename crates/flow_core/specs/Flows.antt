@@ -8,10 +8,10 @@ use Rattle.flow_rules.specs.Runs.{Leads}
 use Rattle.flow_rules.specs.Laws.{HasPlacedWrites}
 use Rattle.flow_core.specs.declared.flow.Flow.TheInside.{Inside}
 use Rattle.flow_core.specs.declared.flow.Plan.{Plan}
-use Rattle.flow_tables.specs.declared.tables.Tables.{Tables}
-use Rattle.flow_tables.specs.Planned.{edits_of, AreDeclared}
-use Rattle.flow_tables.specs.TableFacts.{lists_of, seen_with, HasTables, HasRoom}
-use Rattle.flow_values.specs.RunFacts.{shown_of}
+use Rattle.flow_plans.specs.TableTypes.{Tables}
+use Rattle.flow_plans.specs.Planned.{edits_of, AreDeclared}
+use Rattle.flow_plans.specs.TableFacts.{lists_of, seen_with, HasTables, HasRoom}
+use Rattle.flow_plans.specs.RunFacts.{shown_of}
 use Rattle.flow_core.specs.Views.{View, blank_shown, is_makes}
 
 abbrev pub plan_of : Plan → ℕ × List Edit

@@ -16,5 +16,6 @@ is_operators (Some (to_operator content)) = true
 -- at a place a Send, or for an operator an Ask, before which there is the Upgrade; else a Walk
 abbrev pub move_kind : Shown → ℕ → Step → Phase → Move
 move_kind s t step (phase.Sending place) =
-    if is_operators (slice_get (places step.kind) place) then (if s.lists.is_upgraded then move.Ask t else move.Upgrade) else move.Send t
+    if is_operators (slice_get (places step.kind) place) then (if s.lists.is_upgraded then move.Ask t else move.Upgrade)
+    else move.Send t
 move_kind s t step other = move.Walk t

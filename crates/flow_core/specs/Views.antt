@@ -13,7 +13,7 @@ use Rattle.flow_rules.specs.Edits.Edit.{makes, issues}
 use Rattle.flow_rules.specs.Changes.{change, moment_of}
 use Rattle.flow_rules.specs.Runs.{shown_after}
 use Rattle.flow_rules.specs.Moves.{record_of}
-use Rattle.flow_tables.specs.TableFacts.{blank_lists}
+use Rattle.flow_plans.specs.TableFacts.{blank_lists}
 pub use Rattle.flow_plans.specs.Begins.{begins}
 use Rattle.flow_core.specs.declared.flow_errors.FlowError.{FlowError}
 use Rattle.flow_core.specs.declared.flow_errors.FlowError.TheVariants as flow_error

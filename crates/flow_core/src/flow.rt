@@ -1,20 +1,18 @@
 // A run that goes on from record to record.
 ghost use Rattle.std.specs.Prelude.{◌≡◌, ◌+◌, ◌<◌, ◌≤◌, length, None, Some, IfOk, IfSome, IfErr, OnOk, OnErr, option_map, true};
+ghost use Rattle.run_records.specs.declared.record.Record.TheVariants as entry;
 ghost use Rattle.flow_rules.specs.Runs.{begin_of};
 ghost use Rattle.flow_rules.specs.Moves.{record_of};
-ghost use Rattle.flow_tables.specs.Planned.{edits_of, AreDeclared};
+ghost use Rattle.flow_plans.specs.Planned.{edits_of, AreDeclared};
 ghost use Rattle.flow_core.specs.Flows.{plan_of, HasSizes, IsReached};
-ghost use Rattle.flow_setup.specs.Setups.{IsSetup};
+ghost use Rattle.flow_plans.specs.Setups.{IsSetup};
 ghost use Rattle.flow_core.specs.Views.{blank_shown, taken, taken_by, passed, AsksText, IsReadyFor, Takes, Answers};
 
 use crate::coming::Coming;
 use crate::flow_errors::FlowError;
 use crate::limits::{MOST_EDITS, passed};
-use flow_plans::{begin, change, first_change, moment_of};
+use flow_plans::{Planned, Run, Setup, Tables, begin, change, first_change, moment_of, setup_law};
 use flow_rules::Move;
-use flow_setup::{Setup, setup_law};
-use flow_tables::{Planned, Tables};
-use flow_values::Run;
 use run_records::Record;
 use std::alloc::{AllocError, Global};
 use std::marker::Model;
@@ -143,6 +141,19 @@ impl Flow {
         }
     }
 
+    /// Makes ready for a Walk of the task with this number at a moment, as `ready` does.
+    fn ready_walk(&mut self, task: u32, moment: u64) -> Result<(), FlowError>
+        requires { self.old.count < 100_000_000 }
+        ensures ok { OnOk result (IsReadyFor self.new (entry.Walk task moment)) }
+        ensures count { self.new.count ≡ self.old.count }
+        ensures seen { self.new.seen ≡ self.old.seen }
+        ensures err { OnErr result (self.new ≡ self.old) }
+        ensures answers { Answers self.old result (taken self.old (entry.Walk task moment)) }
+    {
+        let item = Record::Walk { task, moment };
+        self.ready(&item)
+    }
+
     /// Takes the record that it was made ready for. It takes no memory.
     pub fn apply(&mut self, item: &Record)
         requires { IsReadyFor self.old item.now }
@@ -172,9 +183,8 @@ impl Flow {
         }
     }
 
-    /// The record of a move at a moment, in milliseconds, as `make` gives it or refuses it; the flow is then ready for it, as `ready`
-    /// makes it. A refusal changes nothing.
-    pub fn ready_move(&mut self, step: Move, moment: u64) -> Result<Record, FlowError>
+    /// The record of a move, and the flow ready for it, as `ready_move` tells.
+    fn ready_coming(&mut self, step: Move, moment: u64) -> Result<Record, FlowError>
         requires { self.old.count < 100_000_000 }
         ensures made { IfOk result (λ item. record_of self.old.seen moment step ≡ Some item) }
         ensures text { IfOk result AsksText }
@@ -188,5 +198,26 @@ impl Flow {
         let moment = moment_of(&item);
         self.hold(Plan { moment, edits })?;
         Ok(item)
+    }
+
+    /// The record of a move at a moment, in milliseconds, as `make` gives it or refuses it; the flow is then ready for it, as `ready`
+    /// makes it. A refusal changes nothing.
+    pub fn ready_move(&mut self, step: Move, moment: u64) -> Result<Record, FlowError>
+        requires { self.old.count < 100_000_000 }
+        ensures made { IfOk result (λ item. record_of self.old.seen moment step ≡ Some item) }
+        ensures text { IfOk result AsksText }
+        ensures ready { IfOk result (IsReadyFor self.new) }
+        ensures count { self.new.count ≡ self.old.count }
+        ensures seen { self.new.seen ≡ self.old.seen }
+        ensures err { OnErr result (self.new ≡ self.old) }
+        ensures answers { Answers self.old result (taken_by self.old moment step) }
+    {
+        match step {
+            Move::Walk { task } => {
+                self.ready_walk(task, moment)?;
+                Ok(Record::Walk { task, moment })
+            }
+            _ => self.ready_coming(step, moment),
+        }
     }
 }

@@ -13,5 +13,5 @@ mod telling;
 pub use flow::Flow;
 pub use flow_dues::Dues;
 pub use flow_errors::{FlowError, LimitKind};
+pub use flow_plans::{Setup, SetupError, accepted_again, accepted_is_runnable, setup_law};
 pub use flow_rules::Move;
-pub use flow_setup::{Setup, SetupError, accepted_again, accepted_is_runnable, setup_law};

@@ -7,15 +7,14 @@ ghost use Rattle.flow_rules.specs.Waiting.{AlwaysWaits};
 ghost use Rattle.flow_core.specs.MoveKinds.{is_operators};
 ghost use Rattle.flow_dues.specs.Pairs.{IsQueue, rising};
 ghost use Rattle.flow_dues.specs.Least.{sooner};
-ghost use Rattle.flow_values.specs.RunFacts.{shown_of};
+ghost use Rattle.flow_plans.specs.RunFacts.{shown_of};
 ghost use Rattle.flow_core.specs.Views.{has_begun};
 
 use crate::flow::Flow;
 use cacao_book::StepKind;
 use flow_dues::Dues;
+use flow_plans::{Place, Run, place_in, setup_law};
 use flow_rules::{Move, Phase};
-use flow_setup::setup_law;
-use flow_values::{Place, Run, place_in};
 
 /// The lesser of two moments, where there are any.
 fn sooner(one: Option<u64>, other: Option<u64>) -> Option<u64>

@@ -8,8 +8,8 @@ ghost use Rattle.flow_rules.specs.Moves.{deadline_of};
 
 use crate::flow::Flow;
 use cacao_vars::{Name, Word};
+use flow_plans::Setup;
 use flow_rules::IssuePhase;
-use flow_setup::Setup;
 use std::collections::BTreeMap;
 
 impl Flow {

@@ -2,9 +2,9 @@
 use Rattle.std.proofs.Common.{◌≡◌, ℕ, ◌+◌, ◌<◌, List, [], ◌∷◌, ◌++◌, length, take, get_or, map, Option, refl, sym, ◌∙◌, ap, subst, append_assoc}
 use Rattle.std.specs.List.{flat_map}
 use Rattle.std.proofs.lemmas.List.{append-nil, take_more}
-use Rattle.flow_tables.specs.declared.planned.Planned.{Planned}
+use Rattle.flow_values.specs.TableTypes.{Planned}
 use Rattle.flow_rules.specs.Edits.{Edit}
-use Rattle.flow_tables.specs.Planned.{edit_of, edits_of, IsDeclared, AreDeclared}
+use Rattle.flow_values.specs.Planned.{edit_of, edits_of, IsDeclared, AreDeclared}
 use Rattle.flow_rules.specs.Tasks.{Here}
 use Rattle.flow_plans.specs.Adding.{Adds}
 use Rattle.flow_plans.specs.Entered.{branches}

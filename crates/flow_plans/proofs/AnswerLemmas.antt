@@ -7,7 +7,7 @@ use Rattle.std.proofs.lemmas.Str.{IsUtf8-from_is_utf8, is_utf8-from_IsUtf8}
 use Rattle.std.proofs.lemmas.List.{append-nil}
 use Rattle.flow_rules.specs.Edits.{Edit}
 use Rattle.flow_rules.specs.Changes.{paired, is_final, is_answer}
-use Rattle.flow_tables.specs.declared.planned.Planned.{Planned}
+use Rattle.flow_values.specs.TableTypes.{Planned}
 use Rattle.flow_plans.specs.Adding.{Adds}
 use Rattle.flow_plans.proofs.AddingLemmas.{adds_then}
 

@@ -2,7 +2,7 @@
 use Rattle.std.proofs.Common.{◌≡◌, ℕ, suc, List, [], ◌∷◌, ◌++◌, length, None, refl, ◌∙◌, ap, subst}
 use Rattle.std.specs.List.{flat_map}
 use Rattle.cacao_book.specs.declared.books.Book.{Book}
-use Rattle.flow_tables.specs.declared.planned.Planned.{Planned}
+use Rattle.flow_values.specs.TableTypes.{Planned}
 use Rattle.flow_rules.specs.declared.phases.Phase.TheVariants as phase
 use Rattle.flow_rules.specs.Edits.{Edit, opens, moves, makes}
 use Rattle.flow_rules.specs.Tasks.{Here, in_phase, child}

@@ -11,10 +11,10 @@ use Rattle.flow_rules.specs.declared.phases.Phase.TheVariants as phase
 use Rattle.flow_rules.specs.Changes.{children, has_ended, has_failed, is_child_of}
 use Rattle.flow_values.specs.declared.run.Run.{Run}
 use Rattle.flow_values.specs.declared.run.Stand.{Stand}
-use Rattle.flow_tables.specs.declared.tables.Wait.{Wait}
+use Rattle.flow_values.specs.TableTypes.{Wait}
 use Rattle.flow_values.specs.RunFacts.{IsWell}
 use Rattle.flow_values.specs.Stands.{Stands}
-use Rattle.flow_tables.specs.TableFacts.{lists_of, goes_on, failed_child, Counts}
+use Rattle.flow_values.specs.TableFacts.{lists_of, goes_on, failed_child, Counts}
 
 ended_more : (x : Task) (ys : List Task) (n : ℕ) (b e : Bool) → has_ended x.phase ≡ e → (n == 0) ≡ list_all (λ (task : Task). has_ended task.phase) ys
     → ((cond (b && not e) 1 0 + n) == 0) ≡ list_all (λ (task : Task). has_ended task.phase) (cond b (x ∷ ys) ys)

@@ -1,8 +1,8 @@
 -- Edits that were added to a plan, and whole plans.
 use Rattle.std.specs.Prelude.{◌≡◌, List, ◌++◌}
-use Rattle.flow_tables.specs.declared.planned.Planned.{Planned}
+use Rattle.flow_values.specs.TableTypes.{Planned}
 use Rattle.flow_rules.specs.Edits.{Edit}
-use Rattle.flow_tables.specs.Planned.{edits_of, AreDeclared}
+use Rattle.flow_values.specs.Planned.{edits_of, AreDeclared}
 
 -- nothing but these edits was added, and new scopes have their declared texts
 pub record Adds (old new : List Planned) (edits : List Edit) : Type 0 where

@@ -12,6 +12,7 @@ use Rattle.flow_rules.specs.Runs.{first_edits}
 -- What the Begin of this run changes, at a moment that is not past the last one. No other record comes first.
 abbrev pub begins : Shown → Record → Option (List Edit)
 begins s (entry.Begin run moment books bind) =
-    if nat_le moment last_moment && (run == s.run) && pointwise (pointwise nat_eq) books s.given.texts && bytes_eq bind s.given.bind
+    if nat_le moment last_moment && (run == s.run) && pointwise (pointwise nat_eq) books s.given.texts
+    && bytes_eq bind s.given.bind
     then first_edits s.given moment else None
 begins s other = None

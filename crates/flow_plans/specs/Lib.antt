@@ -3,3 +3,13 @@ pub mod Begins
 pub mod Entered
 pub mod Issuings
 pub mod Joined
+pub mod RunTypes
+pub use Rattle.flow_values.specs.Fits
+pub use Rattle.flow_values.specs.Planned
+pub use Rattle.flow_values.specs.RunFacts
+pub use Rattle.flow_values.specs.SetupLaws
+pub use Rattle.flow_values.specs.SetupReading
+pub use Rattle.flow_values.specs.Setups
+pub use Rattle.flow_values.specs.Sizes
+pub use Rattle.flow_values.specs.TableFacts
+pub use Rattle.flow_values.specs.TableTypes

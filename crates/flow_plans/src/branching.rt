@@ -6,7 +6,7 @@ ghost use Rattle.flow_rules.specs.Changes.{done, opening, joining, branched, con
 ghost use Rattle.flow_plans.specs.Adding.{Adds, IsPlan};
 ghost use Rattle.flow_plans.specs.Entered.{within, taking, branches};
 ghost use Rattle.flow_values.specs.Heads.{HasOneHead};
-ghost use Rattle.flow_tables.specs.Planned.{edit_of, IsDeclared};
+ghost use Rattle.flow_values.specs.Planned.{edit_of, IsDeclared};
 ghost use Rattle.flow_values.specs.RunFacts.{IsWell, shown_of, here_of};
 ghost use Rattle.flow_values.specs.Stands.{Stands};
 
@@ -15,8 +15,7 @@ use crate::writing::add;
 use cacao_json::Text;
 use cacao_vars::{Scope, Vars};
 use flow_rules::{Phase, Task};
-use flow_tables::{Planned, Present};
-use flow_values::{Run, Sight, Stand};
+use flow_values::{Planned, Present, Run, Sight, Stand};
 use std::alloc::{AllocError, Global};
 
 /// A scope with these declarations is opened.

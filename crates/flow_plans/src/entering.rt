@@ -8,7 +8,7 @@ ghost use Rattle.flow_rules.specs.State.{value_shown};
 ghost use Rattle.flow_rules.specs.Changes.{done, valued, binding, opening, inside, joining, called, entered};
 ghost use Rattle.flow_plans.specs.Adding.{Adds, IsPlan};
 ghost use Rattle.flow_plans.specs.Entered.{acting, ending, calling};
-ghost use Rattle.flow_tables.specs.Planned.{edits_of, AreDeclared};
+ghost use Rattle.flow_values.specs.Planned.{edits_of, AreDeclared};
 ghost use Rattle.flow_values.specs.RunFacts.{IsWell, shown_of, here_of};
 ghost use Rattle.flow_values.specs.Sights.{lists_seen, scope_seen};
 ghost use Rattle.flow_values.specs.Stands.{Stands};
@@ -22,8 +22,7 @@ use cacao_book::{Book, StepKind};
 use cacao_json::Text;
 use cacao_vars::{Name, Word};
 use flow_rules::Phase;
-use flow_tables::Planned;
-use flow_values::{Run, Sight, Stand};
+use flow_values::{Planned, Run, Sight, Stand};
 use std::alloc::{AllocError, Global};
 
 /// A copy of a text, if there is one.

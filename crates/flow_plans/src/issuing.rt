@@ -4,7 +4,7 @@ ghost use Rattle.std.specs.Str.{IsUtf8, bytes_eq};
 ghost use Rattle.flow_rules.specs.declared.phases.Phase.TheVariants as phase;
 ghost use Rattle.flow_rules.specs.Changes.{command_at, question_at, issuing, next_command, next_question, send, ask};
 ghost use Rattle.cacao_steps.specs.Uses.{commands_of};
-ghost use Rattle.flow_tables.specs.Planned.{edits_of, AreDeclared};
+ghost use Rattle.flow_values.specs.Planned.{edits_of, AreDeclared};
 ghost use Rattle.flow_values.specs.PlaceViews.{place_view, IsOfCommand};
 ghost use Rattle.flow_values.specs.RunFacts.{shown_of, here_of, IsWell};
 ghost use Rattle.flow_plans.specs.Issuings.{made_of, new_issue};
@@ -12,8 +12,7 @@ ghost use Rattle.flow_values.specs.Stands.{StandsThere};
 
 use cacao_site::Bytes;
 use flow_rules::{Issue, IssuePhase, Phase, Task};
-use flow_tables::Planned;
-use flow_values::{Place, Run, Stand, place_in};
+use flow_values::{Place, Planned, Run, Stand, place_in};
 use std::alloc::{AllocError, Global};
 
 /// A new issue, and its task as it waits for the issue's end.

@@ -6,10 +6,10 @@ ghost use Rattle.flow_rules.specs.State.{value_shown};
 ghost use Rattle.flow_rules.specs.Changes.{done, valued, written, children, has_ended, has_failed, rejoined, joined, walked};
 ghost use Rattle.flow_plans.specs.Adding.{Adds, IsPlan};
 ghost use Rattle.flow_plans.specs.Joined.{wanted, turning, returning};
-ghost use Rattle.flow_tables.specs.Planned.{edits_of, AreDeclared};
+ghost use Rattle.flow_values.specs.Planned.{edits_of, AreDeclared};
 ghost use Rattle.flow_values.specs.RunFacts.{IsWell, shown_of, here_of};
 ghost use Rattle.flow_values.specs.Stands.{Stands};
-ghost use Rattle.flow_tables.specs.TableFacts.{lists_of};
+ghost use Rattle.flow_values.specs.TableFacts.{lists_of};
 ghost use Rattle.flow_values.specs.Truths.{condition_in};
 
 use crate::branching::{add_child, add_done};
@@ -18,8 +18,7 @@ use crate::writing::write;
 use cacao_book::StepKind;
 use cacao_json::Text;
 use cacao_vars::Name;
-use flow_tables::{Planned, Wait};
-use flow_values::{Run, Sight, Stand};
+use flow_values::{Planned, Run, Sight, Stand, Wait};
 use std::alloc::{AllocError, Global};
 
 // How many of the tasks that this one waits for have not ended, and whether one of them has failed.

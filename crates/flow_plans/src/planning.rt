@@ -7,7 +7,7 @@ ghost use Rattle.flow_rules.specs.Runs.{begin_of, first_task, first_edits};
 ghost use Rattle.flow_rules.specs.Changes.{moment_of, is_in_time, change};
 ghost use Rattle.flow_rules.specs.Changes.{edits_of as edits_of_record};
 ghost use Rattle.flow_rules.specs.Edits.{writes};
-ghost use Rattle.flow_tables.specs.Planned.{edits_of, AreDeclared};
+ghost use Rattle.flow_values.specs.Planned.{edits_of, AreDeclared};
 ghost use Rattle.flow_values.specs.RunFacts.{shown_of, IsWell};
 ghost use Rattle.flow_plans.specs.Begins.{begins};
 
@@ -18,8 +18,7 @@ use cacao_book::Book;
 use cacao_site::Bytes;
 use cacao_vars::{Name, Scope, Word};
 use flow_rules::{Phase, Task};
-use flow_tables::{Planned, Present};
-use flow_values::{LAST_MOMENT, Run};
+use flow_values::{LAST_MOMENT, Planned, Present, Run};
 use run_records::{BytesList, Record};
 use std::alloc::{AllocError, Global};
 

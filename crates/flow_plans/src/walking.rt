@@ -1,15 +1,14 @@
 // Walks: a task goes on from its step (CACAO 2.0, section 4.1).
 ghost use Rattle.std.specs.Prelude.{◌≡◌, ◌+◌, IfOk, IfSome, nat_le, option_map};
 ghost use Rattle.flow_rules.specs.Changes.{walk, walked};
-ghost use Rattle.flow_tables.specs.Planned.{edits_of, AreDeclared};
+ghost use Rattle.flow_values.specs.Planned.{edits_of, AreDeclared};
 ghost use Rattle.flow_values.specs.RunFacts.{IsWell, shown_of, here_of};
 ghost use Rattle.flow_values.specs.Stands.{Stands};
 
 use crate::entering::enter;
 use crate::joining::join;
 use flow_rules::Phase;
-use flow_tables::Planned;
-use flow_values::{Run, Stand};
+use flow_values::{Planned, Run, Stand};
 use std::alloc::{AllocError, Global};
 
 // Whether a delay has run out.

@@ -1,14 +1,13 @@
 // Edits that are added to a plan.
 ghost use Rattle.std.specs.Prelude.{◌≡◌, ◌<◌, ◌∷◌, [], OnOk, length};
 ghost use Rattle.flow_rules.specs.Changes.{written, binding};
-ghost use Rattle.flow_tables.specs.Planned.{edit_of, IsDeclared};
+ghost use Rattle.flow_values.specs.Planned.{edit_of, IsDeclared};
 ghost use Rattle.flow_plans.specs.Adding.{Adds};
 ghost use Rattle.flow_values.specs.RunFacts.{IsWell};
-ghost use Rattle.flow_tables.specs.TableFacts.{lists_of};
+ghost use Rattle.flow_values.specs.TableFacts.{lists_of};
 
 use cacao_vars::{Name, Word};
-use flow_tables::Planned;
-use flow_values::{Run, Sight};
+use flow_values::{Planned, Run, Sight};
 use std::alloc::AllocError;
 
 /// Adds an edit.

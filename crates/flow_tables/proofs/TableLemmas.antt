@@ -60,8 +60,8 @@ tables_of given l m t e h = subst (λ (x : Lists). HasTables (seen_with given x)
 
 pub make_tells : (given : Given) (l : Lists) (task : Task) (number : ℕ) (ws us : List Wait) (r r1 r2 d d1 dl q : List Due) → Tells given l ws r d dl q → IsNewTask l task → number ≡ length l.tasks
     → us ≡ changed_if task.parent one_more (ws ++ blank_wait ∷ [])
-    → ((n : ℕ) → at r1 n ≡ cond (n == number) (ready_alone given task task.phase) (at r n))
-    → ((n : ℕ) → at r2 n ≡ cond (is_that n task.parent) None (at r1 n))
+    → ((n : ℕ) → at r1 n ≡ cond (is_that n task.parent) None (at r n))
+    → ((n : ℕ) → at r2 n ≡ cond (n == number) (ready_alone given task task.phase) (at r1 n))
     → ((n : ℕ) → at d1 n ≡ cond (n == number) (delay_alone given task task.phase) (at d n))
     → Tells given (shown_edited (makes task) l) us r2 d1 dl q
 make_tells given l task number ws us r r1 r2 d d1 dl q h f number_is us_is e1 e2 e3 = record {

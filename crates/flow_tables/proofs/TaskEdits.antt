@@ -130,32 +130,30 @@ none_after n = ap (λ b. cond b (Some 0) None) (some_left n)
 
 pub make_ready : (given : Given) (l : Lists) (task : Task) (number : ℕ) (r one two : List Due) → IsNewTask l task → number ≡ length l.tasks
     → ((n : ℕ) → at r n ≡ ready_of (seen_with given l) n)
-    → ((n : ℕ) → at one n ≡ cond (n == number) (ready_alone given task task.phase) (at r n))
-    → ((n : ℕ) → at two n ≡ cond (is_that n task.parent) None (at one n))
+    → ((n : ℕ) → at one n ≡ cond (is_that n task.parent) None (at r n))
+    → ((n : ℕ) → at two n ≡ cond (n == number) (ready_alone given task task.phase) (at one n))
     → (n : ℕ) → at two n ≡ ready_of (seen_with given (shown_edited (makes task) l)) n
 make_ready given l task number r one two f number_is h e1 e2 n =
-    e2 n ∙ by (is_that n task.parent) refl ∙ sym (ready_is given (shown_edited (makes task) l) n)
+    e2 n ∙ ap (λ m. cond (n == m) (ready_alone given task task.phase) (at one n)) number_is ∙ by (n == length l.tasks) refl
+    ∙ sym (ready_is given (shown_edited (makes task) l) n)
   where
-    old : (b : Bool) → (n == length l.tasks) ≡ b → is_that n task.parent ≡ false
-        → cond b (ready_alone given task task.phase) (at r n) ≡ ready_plain given (l.tasks ++ task ∷ []) n
-    old true e apart =
+    front : (b : Bool) → is_that n task.parent ≡ b → (n == length l.tasks) ≡ false → cond b None (at r n) ≡ ready_plain given (l.tasks ++ task ∷ []) n
+    front false apart e =
+        h n ∙ ready_is given l n
+        ∙ sym (ready_stays given l.tasks (l.tasks ++ task ∷ []) n (get_front l.tasks task n e) (λ from. count_push_same (goes_on n) l.tasks task from (no_child (is_child_of n task) (not (has_ended task.phase)) apart)))
+    front true this e =
+        let j : JoinsFor l (length l.tasks) n = parent_of l (length l.tasks) n task.parent f.parent (is_that_some n task.parent this) in
+        sym (ready_joining given (l.tasks ++ task ∷ []) n j.by j.from (get_front l.tasks task n e ∙ j.by_is) j.joins
+        ∙ ap ready_after (count_push_more (goes_on n) l.tasks task j.from j.from_is (new_goes_on task f.since n f.phase_is this))
+        ∙ none_after (open_of l.tasks n j.from))
+
+    by : (b : Bool) → (n == length l.tasks) ≡ b → cond b (ready_alone given task task.phase) (at one n) ≡ ready_plain given (l.tasks ++ task ∷ []) n
+    by true e =
         let here : length l.tasks ≡ n = sym (same_number n (length l.tasks) e) in
         let there : slice_get (l.tasks ++ task ∷ []) n ≡ Some task = ap (slice_get (l.tasks ++ task ∷ [])) (sym here) ∙ get_last l.tasks task in
         sym (ready_at_place given (l.tasks ++ task ∷ []) n task there
         ∙ ready_is_alone given task task.phase (open_of (l.tasks ++ task ∷ []) n) (λ from joins. absurd (not_joining f.since from (sym f.phase_is ∙ joins))))
-    old false e apart =
-        h n ∙ ready_is given l n
-        ∙ sym (ready_stays given l.tasks (l.tasks ++ task ∷ []) n (get_front l.tasks task n e) (λ from. count_push_same (goes_on n) l.tasks task from (no_child (is_child_of n task) (not (has_ended task.phase)) apart)))
-
-    by : (b : Bool) → is_that n task.parent ≡ b → cond b None (at one n) ≡ ready_plain given (l.tasks ++ task ∷ []) n
-    by false apart = e1 n ∙ ap (λ m. cond (n == m) (ready_alone given task task.phase) (at r n)) number_is ∙ old (n == length l.tasks) refl apart
-    by true this =
-        let j : JoinsFor l (length l.tasks) n = parent_of l (length l.tasks) n task.parent f.parent (is_that_some n task.parent this) in
-        let less : n < length l.tasks = j.earlier in
-        let not_last : (n == length l.tasks) ≡ false = grind arith in
-        sym (ready_joining given (l.tasks ++ task ∷ []) n j.by j.from (get_front l.tasks task n not_last ∙ j.by_is) j.joins
-        ∙ ap ready_after (count_push_more (goes_on n) l.tasks task j.from j.from_is (new_goes_on task f.since n f.phase_is this))
-        ∙ none_after (open_of l.tasks n j.from))
+    by false e = e1 n ∙ front (is_that n task.parent) refl e
 
 pub make_delays : (given : Given) (l : Lists) (task : Task) (number : ℕ) (d one : List Due) → number ≡ length l.tasks
     → ((n : ℕ) → at d n ≡ delay_until_of (seen_with given l) n)

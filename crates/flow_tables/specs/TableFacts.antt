@@ -48,7 +48,8 @@ delay_until_of s t = option_and_then (λ (task : Task). delay_in s task task.pha
 -- the deadline of an issue that has one
 abbrev pub deadline_at : Shown → ℕ → Option ℕ
 deadline_at s n =
-    option_and_then (λ (issue : Issue). if has_deadline issue then Some (deadline_of s issue) else None) (slice_get s.lists.issues n)
+    option_and_then (λ (issue : Issue). if has_deadline issue then Some (deadline_of s issue) else None)
+    (slice_get s.lists.issues n)
 
 -- 0 for each issue that waits for an operator
 abbrev pub question_at : Shown → ℕ → Option ℕ

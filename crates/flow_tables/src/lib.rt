@@ -7,6 +7,7 @@ mod tables;
 mod tables_edits;
 mod tables_parts;
 
+pub use flow_setup::{Setup, SetupError, accepted_again, accepted_is_runnable, setup_law};
 pub use planned::Planned;
 pub use present::Present;
 pub use tables::{Tables, Wait};

@@ -57,8 +57,8 @@ impl Tables {
                 failed: false,
             },
         );
-        settle(&mut self.ready, &mut self.delays, setup, number, task);
         expect(&mut self.waits, &mut self.ready, task.parent);
+        settle(&mut self.ready, &mut self.delays, setup, number, task);
     }
 
     // Puts a task in the place of what it was.

@@ -1,5 +1,5 @@
 -- How long the texts of parts are.
-use Rattle.std.proofs.Common.{Bor, ◌≡◌, ℕ, zero, suc, ◌+◌, ◌-◌, ◌<◌, ◌≤◌, ◌==◌, ◌||◌, drop, get_or, Bool, true, false, cond, List, [], ◌∷◌, ◌++◌, length, map, codes, ℤ, pos, negsuc, Option, Some, None, Ordering, Less, Equal, Greater, nat_cmp, refl, sym, ap, subst, ◌∙◌, append_assoc, length-append, arith}
+use Rattle.std.proofs.Common.{Bor, ◌≡◌, ℕ, suc, ◌+◌, ◌-◌, ◌<◌, ◌≤◌, ◌==◌, ◌||◌, drop, get_or, Bool, true, false, cond, List, [], ◌∷◌, ◌++◌, length, map, codes, ℤ, pos, negsuc, Option, Some, None, Ordering, Less, Equal, Greater, nat_cmp, refl, sym, ap, subst, ◌∙◌, length-append, arith}
 use Rattle.std.specs.Prelude.{flat_map, option_map, if◌then◌else◌}
 use Rattle.std.specs.Fmt.{decimal, signed_decimal}
 use Rattle.std.specs.Option.{option_map_or}
@@ -8,16 +8,14 @@ use Rattle.std.specs.Str.{bytes_eq}
 use Rattle.std.specs.Cmp.Lexicographic.{slice_cmp}
 use Rattle.std.proofs.lemmas.List.{at_drop_more, drop_all}
 use Rattle.std.proofs.lemmas.Slice.Eq.{bytes_eq-Decides}
-use Rattle.serde_json.specs.Data.{Data, null, boolean, number, string, array, object, Items, no_items, item, Members, no_members, member}
+use Rattle.serde_json.specs.Data.{Data, string, array, object, Items, no_items, item, Members, no_members, member}
 use Rattle.serde_json.specs.Find.{get_member, of_integer}
 use Rattle.cacao_json.specs.Tree.{items_of, members_of, without}
 use Rattle.cacao_json.specs.Profile.{AreSortedMembers}
 use Rattle.cacao_text.specs.Canon.{escaped, whole_text, string_text, in_order, after_commas, joined, member_text, canon, item_texts, named_texts}
 use Rattle.cacao_text.proofs.Sorting.{total, total-in_order}
-use Rattle.cacao_vars.specs.References.{Found, references, references_from, first_reference, ReferencesGoOn}
 use Rattle.flow_rules.specs.State.{Lists}
-use Rattle.flow_rules.specs.Values.{text_at}
-use Rattle.flow_rules.specs.Filled.{replaced, filled, filled_items, filled_members, with_member, set_member, completed, command_id, addressed}
+use Rattle.flow_rules.specs.Filled.{filled, filled_items, filled_members, with_member, set_member, completed, command_id, addressed}
 use Rattle.flow_texts.specs.declared.contents.Content.{Content}
 use Rattle.flow_texts.specs.declared.contents.Entry.{Entry}
 use Rattle.flow_texts.specs.declared.phrases.Reference.{Reference}
@@ -26,7 +24,7 @@ use Rattle.flow_values.specs.declared.sizing.Setting.TheVariants as setting
 use Rattle.flow_values.specs.Completed.{completed_args}
 use Rattle.flow_texts.specs.Contents.{content_data, entry_data}
 use Rattle.flow_texts.specs.Phrases.{spelled_by}
-use Rattle.flow_values.specs.Sizes.{text_bytes, is_set, items_bytes, member_bytes, members_bytes, id_bytes}
+use Rattle.flow_values.specs.Sizes.{text_bytes, items_bytes, member_bytes, members_bytes, id_bytes}
 use Rattle.flow_texts.proofs.MemberLemmas.{Lacks, IsOnce, with_itself, with_other, get_itself, get_other, without_itself, without_other, without_lacking, other_name, once_with, get_with, without_with, once_sorted}
 
 -- ---- texts

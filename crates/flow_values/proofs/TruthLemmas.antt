@@ -8,7 +8,7 @@ use Rattle.cacao_book.specs.declared.steps.Step.{Step}
 use Rattle.flow_rules.specs.Givens.{Given, step_at}
 use Rattle.flow_rules.specs.State.{Lists}
 use Rattle.flow_rules.specs.Values.{worth_at}
-use Rattle.flow_setup.specs.Setups.{condition_at}
+use Rattle.flow_tables.specs.Setups.{condition_at}
 use Rattle.flow_values.specs.Truths.{holds_in, condition_in}
 
 pub condition_here : (given : Given) (book step : ℕ) (s : Step) (t : AnyTree) → step_at given book step ≡ Some s → Some t ≡ condition_at given book step → Some t ≡ condition_in s.kind

@@ -5,4 +5,11 @@ pub mod RunFacts
 pub mod Sights
 pub mod Sizes
 pub mod Stands
+pub mod TableTypes
 pub mod Truths
+pub use Rattle.flow_tables.specs.Fits
+pub use Rattle.flow_tables.specs.Planned
+pub use Rattle.flow_tables.specs.SetupLaws
+pub use Rattle.flow_tables.specs.SetupReading
+pub use Rattle.flow_tables.specs.Setups
+pub use Rattle.flow_tables.specs.TableFacts

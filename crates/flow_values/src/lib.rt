@@ -11,6 +11,10 @@ mod run;
 mod sizing;
 mod truths;
 
+pub use flow_tables::{
+    Planned, Present, Setup, SetupError, Tables, Wait, accepted_again, accepted_is_runnable,
+    setup_law,
+};
 pub use places::{Place, next_place, place_in};
 pub use reaching::MOST_COMMAND;
 pub use run::{LAST_MOMENT, Run, Sight, Stand};

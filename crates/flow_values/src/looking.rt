@@ -236,8 +236,14 @@ impl Run {
         requires scope { sight.scope < length self.now.tables.scopes.items }
         ensures { worth_of result ≡ worth_at (lists_seen self.now sight.entry) (scope_seen self.now sight.entry) name.now }
     {
-        match self.declaration(sight, name) {
-            Some(var) => value_of(&var.kind, self.value(sight, name).map(|word| word.text())),
+        let Some(at) = self.home(sight, name) else {
+            return Atom::Unset;
+        };
+        match self.declaration_at(sight, at, name.text().as_bytes()) {
+            Some(var) => value_of(
+                &var.kind,
+                self.text_at(sight, at, name).map(|word| word.text()),
+            ),
             None => Atom::Unset,
         }
     }

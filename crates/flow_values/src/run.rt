@@ -12,8 +12,7 @@ ghost use Rattle.flow_tables.specs.TableFacts.{lists_of};
 use cacao_book::Step;
 use cacao_vars::Vars;
 use flow_rules::{Phase, Task};
-use flow_setup::Setup;
-use flow_tables::Tables;
+use flow_tables::{Setup, Tables};
 
 /// A run: what it was given, its number, the moment of its last record in milliseconds, and its tables.
 #[derive(Drop)]

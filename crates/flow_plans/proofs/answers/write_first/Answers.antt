@@ -1,5 +1,5 @@
 use Rattle.flow_rules.specs.Changes.{written}
-use Rattle.flow_tables.specs.TableFacts.{lists_of}
+use Rattle.flow_values.specs.TableFacts.{lists_of}
 use Rattle.flow_plans.proofs.AnswerLemmas.{adds_first}
 use Rattle.flow_plans.proofs.answers.write_first.Goals as goal
 

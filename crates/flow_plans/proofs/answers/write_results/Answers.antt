@@ -1,6 +1,6 @@
 use Rattle.std.proofs.Common.{ap, Some}
 use Rattle.flow_rules.specs.Changes.{written}
-use Rattle.flow_tables.specs.TableFacts.{lists_of}
+use Rattle.flow_values.specs.TableFacts.{lists_of}
 use Rattle.flow_plans.proofs.AnswerLemmas.{adds_results}
 use Rattle.flow_plans.proofs.answers.write_results.Goals as goal
 

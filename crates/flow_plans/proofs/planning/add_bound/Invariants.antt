@@ -1,6 +1,6 @@
 use Rattle.std.proofs.Common.{◌≡◌, ◌++◌, map, take}
 use Rattle.flow_rules.specs.Edits.{writes}
-use Rattle.flow_tables.specs.Planned.{edits_of, AreDeclared}
+use Rattle.flow_values.specs.Planned.{edits_of, AreDeclared}
 use Rattle.flow_plans.proofs.planning.add_bound.Given as goal
 
 abbrev pub invariant-loop-one : goal.invariant-loop-one

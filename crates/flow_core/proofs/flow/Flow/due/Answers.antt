@@ -5,7 +5,7 @@ use Rattle.flow_rules.specs.Moves.{due}
 use Rattle.flow_rules.specs.Sane.{IsNotStuck}
 use Rattle.flow_rules.specs.Waiting.{AlwaysWaits}
 use Rattle.flow_rules.proofs.WaitingLemmas.{always_waits}
-use Rattle.flow_values.specs.RunFacts.{shown_of}
+use Rattle.flow_plans.specs.RunFacts.{shown_of}
 use Rattle.flow_core.specs.Views.{View, has_begun}
 use Rattle.flow_core.proofs.TableReads.{due_table}
 use Rattle.flow_core.proofs.FlowLemmas.{sane_now}

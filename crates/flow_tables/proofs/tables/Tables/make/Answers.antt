@@ -25,4 +25,4 @@ returns-clause-tables c =
     tables_of given _ (shown_edited (makes c.args.task) (lists_of old)) _ (ap (λ (ts : List Task). record (lists_of old) { tasks = ts }) c.add.ensures.items)
     (make_tells given (lists_of old) c.args.task c.len-number.result _ _ _ _ _ _ _ _ _ (tells_of given (lists_of old) old c.requires.tables) c.requires.fits number_is
     (c.expect.ensures.waits ∙ ap (λ (ws : List Wait). changed_if c.args.task.parent one_more ws) c.add-2.ensures.items)
-    c.settle.ensures.ready c.expect.ensures.ready c.settle.ensures.delays)
+    c.expect.ensures.ready c.settle.ensures.ready c.settle.ensures.delays)

@@ -1,7 +1,7 @@
-use Rattle.flow_tables.specs.Planned.{edits_of}
+use Rattle.flow_plans.specs.Planned.{edits_of}
 use Rattle.flow_core.proofs.ComingLemmas.{taken_made}
 use Rattle.flow_core.proofs.HeldLemmas.{ready_held}
-use Rattle.flow_core.proofs.flow.Flow.ready_move.Goals as goal
+use Rattle.flow_core.proofs.flow.Flow.ready_coming.Goals as goal
 
 pub returns-clause-ready : goal.returns-clause-ready
 returns-clause-ready c =
