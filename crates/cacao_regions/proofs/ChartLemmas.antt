@@ -3,12 +3,12 @@ use Rattle.std.proofs.Common.{◌≡◌, ◌↔◌, inl, inr, ℕ, ◌<◌, Bool
 use Rattle.std.specs.Prelude.{All}
 use Rattle.std.proofs.lemmas.Bool.{cases_lt}
 use Rattle.std.proofs.lemmas.Option.{slice_get_past}
-use Rattle.std.proofs.lemmas.List.{length-map, get_or_past}
+use Rattle.std.proofs.lemmas.List.{length-map}
 use Rattle.cacao_book.specs.declared.books.Book.{Book}
 use Rattle.reachability.specs.Closure.{Closure}
 use Rattle.reachability.specs.Closure.Closure.{first, onward}
-use Rattle.std.proofs.lemmas.List.Elements.{Contains-get_or, All-contains, All-get_or}
-use Rattle.reachability.specs.Tables.{IsMarked, IsWithin, Leads, row}
+use Rattle.std.proofs.lemmas.List.Elements.{Contains-get_or, All-contains}
+use Rattle.reachability.specs.Tables.{IsMarked, Leads, row}
 use Rattle.reachability.proofs.ClosureLemmas.{closure_map, reaches_iff_back}
 use Rattle.reachability.proofs.MarkLemmas.{Contains-nil}
 use Rattle.reachability.proofs.RowLemmas.{row_is, row_within}

@@ -5,3 +5,8 @@ pub mod EndLemmas
 pub mod SightLists
 pub mod SightLemmas
 pub mod LeadLemmas
+pub mod PlaceLemmas
+pub mod DeclarerLemmas
+pub mod SourceLemmas
+pub mod MemoryLemmas
+pub mod HiddenLemmas

@@ -30,16 +30,16 @@ sights_more items new sight = (
   λ h. elim h [ inl old ↦ Contains-append_left items (new ∷ []) sight old | inr e ↦ subst (Contains (items ++ new ∷ [])) (sym e) (Contains-push items new) ],
 )
 
-get_front : (items : List Sight) (new : Sight) (i : ℕ) → i < length items → slice_get (items ++ new ∷ []) i ≡ slice_get items i
+pub get_front : {X : Type 0} (items : List X) (new : X) (i : ℕ) → i < length items → slice_get (items ++ new ∷ []) i ≡ slice_get items i
 get_front [] new i lt = absurd (omega arith)
 get_front (x ∷ items) new zero lt = refl
 get_front (x ∷ items) new (suc i) lt = get_front items new i (omega arith)
 
-get_last : (items : List Sight) (new : Sight) → slice_get (items ++ new ∷ []) (length items) ≡ Some new
+pub get_last : {X : Type 0} (items : List X) (new : X) → slice_get (items ++ new ∷ []) (length items) ≡ Some new
 get_last [] new = refl
 get_last (x ∷ items) new = get_last items new
 
-contains_got : (items : List Sight) (x : Sight) (i : ℕ) → slice_get items i ≡ Some x → Contains items x
+pub contains_got : {X : Type 0} (items : List X) (x : X) (i : ℕ) → slice_get items i ≡ Some x → Contains items x
 contains_got items x i e = (i, slice_get_within items i x e, get_or_from_slice_get items i x x e)
 
 -- a list with one more item that it does not have
@@ -59,7 +59,7 @@ once_more items new fresh once i j below inside same = elim (cases_lt j (length 
 abbrev pub SeesBelow : Book → List ℕ → List Bool → ℕ → List Sight → Type 0
 SeesBelow book name marks n items = (sight : Sight) → Contains items sight ↔ ((control : ℕ) × control < n × ((var : Var) × (declares book name control ≡ Some var) × HasMarked (head_places book control) marks × (sight ≡ Declared var)))
 
-declares_here : (book : Book) (name : List ℕ) (i : ℕ) (s : Step) → slice_get book.steps i ≡ Some s → declares book name i ≡ declared s.variables name
+pub declares_here : (book : Book) (name : List ℕ) (i : ℕ) (s : Step) → slice_get book.steps i ≡ Some s → declares book name i ≡ declared s.variables name
 declares_here book name i s at = rw at refl
 
 pub SeesBelow-more : (book : Book) (name : List ℕ) (marks : List Bool) (n : ℕ) (s : Step) (heads : List ℕ) (old new : List Sight) → slice_get book.steps n ≡ Some s → heads ≡ head_places book n → SeesBelow book name marks n old → ((sight : Sight) → Contains new sight ↔ (Contains old sight ⊎ IsSeenAt s name heads marks sight)) → SeesBelow book name marks (n + 1) new
@@ -83,6 +83,9 @@ declares_within book name p var d = elim (cases_lt p (length book.steps)) [ inl 
   where
     none : None ≡ Some var → ⊥
     none e = cc
+
+pub some_within : (book : Book) (name : List ℕ) (p : ℕ) → IsSome (declares book name p) → p < length book.steps
+some_within book name p some = elim (cases_lt p (length book.steps)) [ inl lt ↦ lt | inr ge ↦ absurd (false≢true (rw (slice_get_past book.steps p ge) at some)) ]
 
 pub SeesBelow-all : (book : Book) (name : List ℕ) (marks : List Bool) (n : ℕ) (items : List Sight) → length book.steps ≤ n → SeesBelow book name marks n items → (sight : Sight) → Contains items sight ↔ IsSeenAtControl book name marks sight
 SeesBelow-all book name marks n items over done sight = (

@@ -1,11 +1,12 @@
 -- The tables of a book.
-use Rattle.std.proofs.Common.{◌≡◌, ◌↔◌, inl, inr, ℕ, zero, suc, Bool, List, [], ◌∷◌, map, slice_get, Contains, refl, subst, sym}
+use Rattle.std.proofs.Common.{◌≡◌, ◌↔◌, inl, inr, ℕ, zero, suc, Bool, List, [], ◌∷◌, map, slice_get, Contains, Option, refl, subst, sym}
 use Rattle.std.specs.Option.{option_map_or}
 use Rattle.cacao_book.specs.declared.books.Book.{Book}
 use Rattle.cacao_book.specs.declared.steps.Step.{Step}
 use Rattle.reachability.specs.Closure.{Closure}
 use Rattle.reachability.proofs.ClosureLemmas.{closure_map}
-use Rattle.cacao_regions.specs.Charts.{AreMarksOf, LinksDown}
+use Rattle.cacao_regions.specs.Charts.{AreMarksOf, LinksDown, LinksBeside, LeadsThrough}
+use Rattle.reachability.specs.Nests.{LeadsBeside, IsInside, TellsGuards}
 use Rattle.reachability.specs.Tables.{IsMarked, Leads, row, IsReverse}
 use Rattle.cacao_steps.specs.Links.{next_keys, head_keys, next_places, head_places, places_of, start_places, GoesTo, Begins}
 
@@ -43,6 +44,16 @@ reach_marks book next heads marks n h exact p = (
     back : (from to : ℕ) → LinksDown book from to → Leads next heads [] [] from to
     back from to (inl g) = inl (subst (λ v. Contains v to) (sym (next_row_is book next from n)) g)
     back from to (inr b) = inr (refl, subst (λ v. Contains v to) (sym (head_row_is book heads from h)) b, refl)
+
+-- ---- what nests tell
+
+pub through_guards : (book : Book) (next heads : List (List ℕ)) (begin : List ℕ) (nests : List (Option ℕ)) → next ≡ map (λ step. places_of book (next_keys step)) book.steps → heads ≡ map (λ step. places_of book (head_keys step.kind)) book.steps → begin ≡ start_places book
+    → TellsGuards next heads begin nests → (place control : ℕ) → IsInside nests place control → LeadsThrough book control place
+through_guards book next heads begin nests n h b tells place control inside c = tells place control inside (closure_map (Contains (start_places book)) (Contains begin) (LinksBeside book control) (LeadsBeside next heads control) (λ q. subst (λ v. Contains v q) (sym b)) beside place c)
+  where
+    beside : (from to : ℕ) → LinksBeside book control from to → LeadsBeside next heads control from to
+    beside from to (inl g) = inl (subst (λ v. Contains v to) (sym (next_row_is book next from n)) g)
+    beside from to (inr e) = inr (e.1, subst (λ v. Contains v to) (sym (head_row_is book heads from h)) e.0)
 
 -- a search by other names
 pub same_search : (f f' : List ℕ) (a a' b b' : List (List ℕ)) (s s' t t' m : List Bool) → f ≡ f' → a ≡ a' → b ≡ b' → s ≡ s' → t ≡ t' → ((p : ℕ) → IsMarked m p ↔ Closure (Contains f) (Leads a b s t) p) → (p : ℕ) → IsMarked m p ↔ Closure (Contains f') (Leads a' b' s' t') p

@@ -1,12 +1,15 @@
 -- Tables of a book's links, and what is found in them.
-use Rattle.std.specs.Prelude.{◌≡◌, ◌⊎◌, ◌↔◌, ℕ, ◌<◌, List, [], length, map, Bool, Contains, All, IsTrue, slice_index_or}
+use Rattle.std.specs.Prelude.{◌≡◌, ◌≢◌, ◌⊎◌, ◌↔◌, ℕ, ◌<◌, List, [], length, map, Contains, All, slice_index_or}
+use Rattle.std.specs.Prelude.{Bool, IsTrue, Option}
 use Rattle.cacao_book.specs.declared.books.Book.{Book}
 use Rattle.reachability.specs.Closure.{Closure}
-use Rattle.reachability.specs.Tables.{IsMarked, IsOpen, IsWithin, IsReverse, row}
+use Rattle.reachability.specs.Tables.{IsMarked, IsOpen, IsWithin, IsReverse}
+use Rattle.reachability.specs.Nests.{IsInside}
 use Rattle.cacao_regions.specs.declared.charts.Chart.{Chart}
 use Rattle.cacao_regions.specs.declared.regions.Regions.{Regions}
 use Rattle.cacao_steps.specs.Links.{next_keys, head_keys, places_of, start_places, GoesTo, Begins}
 use Rattle.cacao_regions.specs.Regions.{InMain, InRegion}
+use Rattle.cacao_regions.specs.Declarers.{AreDeclarersOf}
 
 -- the marks are those of the places of which P holds
 abbrev pub AreMarksOf : (ℕ → Type 0) → List Bool → Type 0
@@ -15,6 +18,18 @@ AreMarksOf P marks = (place : ℕ) → IsMarked marks place ↔ P place
 -- both kinds of links
 abbrev pub LinksDown : Book → ℕ → ℕ → Type 0
 LinksDown book from to = GoesTo book from to ⊎ Begins book from to
+
+-- a step goes on to another, or a branch of a step other than the control begins there
+abbrev pub LinksBeside : Book → ℕ → ℕ → ℕ → Type 0
+LinksBeside book control from to = GoesTo book from to ⊎ (Begins book from to × (from ≢ control))
+
+-- each way of a run to a place leads through a branch of the control
+abbrev pub LeadsThrough : Book → ℕ → ℕ → Type 0
+LeadsThrough book control place = ¬ Closure (Contains (start_places book)) (LinksBeside book control) place
+
+-- the place is one of these, or it is told that it is inside one
+abbrev pub IsBehind : List (Option ℕ) → List ℕ → ℕ → Type 0
+IsBehind nests controls place = (control : ℕ) × Contains controls control × ((control ≡ place) ⊎ IsInside nests place control)
 
 -- the chart has the links of the book
 pub record IsChartOf (book : Book) (chart : Chart) : Type 0 where
@@ -29,6 +44,8 @@ pub record IsChartOf (book : Book) (chart : Chart) : Type 0 where
   pub back_heads_within : IsWithin (length book.steps) chart.back_heads.items
   pub back_heads_are : IsReverse chart.heads.items chart.back_heads.items
   pub reach_are : AreMarksOf (Closure (Contains (start_places book)) (LinksDown book)) chart.reach
+  pub declarers_are : AreDeclarersOf book chart.declarers
+  pub nests_tell : (place control : ℕ) → IsInside chart.nests place control → LeadsThrough book control place
 
 -- the table has the regions of the book
 pub record AreRegionsOf (book : Book) (regions : Regions) : Type 0 where
@@ -37,7 +54,8 @@ pub record AreRegionsOf (book : Book) (regions : Regions) : Type 0 where
 
 -- a search begins at the heads of the chosen steps, and where a run begins if that is chosen too
 abbrev pub BeginsChosen : Book → List Bool → Bool → ℕ → Type 0
-BeginsChosen book chosen at_start place = (IsTrue at_start × Contains (start_places book) place) ⊎ ((control : ℕ) × Begins book control place × IsMarked chosen control)
+BeginsChosen book chosen at_start place =
+    (IsTrue at_start × Contains (start_places book) place) ⊎ ((control : ℕ) × Begins book control place × IsMarked chosen control)
 
 -- a step goes on to another, or a branch of a step begins there that does not declare the name
 abbrev pub FlowsPast : Book → List Bool → ℕ → ℕ → Type 0

@@ -1,4 +1,5 @@
 pub mod Regions
+pub mod Declarers
 pub mod Charts
 pub mod Endings
 pub mod Seeing

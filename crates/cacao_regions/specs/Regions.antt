@@ -19,8 +19,10 @@ InRegion book control = Closure (Begins book control) (GoesTo book)
 -- main region it also sees what the book has of the name: its declaration, or that it has none.
 pub data Sees (book : Book) (name : List ℕ) : ℕ → Option Var → Type 0 where
   own : {place : ℕ} {var : Var} → declares book name place ≡ Some var → Sees book name place (Some var)
-  around : {place control : ℕ} {seen : Option Var} → declares book name place ≡ None → InRegion book control place → Sees book name control seen → Sees book name place seen
-  outermost : {place : ℕ} → declares book name place ≡ None → InMain book place → Sees book name place (declared book.variables name)
+  around : {place control : ℕ} {seen : Option Var} → declares book name place ≡ None → InRegion book control place
+      → Sees book name control seen → Sees book name place seen
+  outermost : {place : ℕ} → declares book name place ≡ None → InMain book place
+      → Sees book name place (declared book.variables name)
 
 -- the step stands in a region
 abbrev pub IsPlaced : Book → ℕ → Type 0
@@ -36,7 +38,8 @@ pub data Encloses (book : Book) : ℕ → ℕ → Type 0 where
 -- What may stand outside a place, whatever its own step declares: what a control step sees in whose region it stands, or in the main region
 -- what the book has.
 pub data Outside (book : Book) (name : List ℕ) : ℕ → Option Var → Type 0 where
-  region : {place control : ℕ} {seen : Option Var} → InRegion book control place → Sees book name control seen → Outside book name place seen
+  region : {place control : ℕ} {seen : Option Var} → InRegion book control place → Sees book name control seen
+      → Outside book name place seen
   main : {place : ℕ} → InMain book place → Outside book name place (declared book.variables name)
 
 -- the nearer of an inner and an outer declaration
@@ -47,7 +50,11 @@ nearer None outer = outer
 -- A run begins outside with what the book has; going on keeps what stands outside; a branch stands inside its control step; and a step sees
 -- its own declaration, or what stands outside.
 pub record ScopesAgree : Type 0 where
-  pub starts : (book : Book) (name : List ℕ) (place : ℕ) → Contains (start_places book) place → Outside book name place (declared book.variables name)
-  pub goes_on : (book : Book) (name : List ℕ) (from to : ℕ) (seen : Option Var) → GoesTo book from to → Outside book name from seen → Outside book name to seen
-  pub branches : (book : Book) (name : List ℕ) (control head : ℕ) (seen : Option Var) → Begins book control head → Outside book name control seen → Outside book name head (nearer (declares book name control) seen)
-  pub sees : (book : Book) (name : List ℕ) (place : ℕ) (seen : Option Var) → Outside book name place seen → Sees book name place (nearer (declares book name place) seen)
+  pub starts : (book : Book) (name : List ℕ) (place : ℕ) → Contains (start_places book) place
+      → Outside book name place (declared book.variables name)
+  pub goes_on : (book : Book) (name : List ℕ) (from to : ℕ) (seen : Option Var) → GoesTo book from to
+      → Outside book name from seen → Outside book name to seen
+  pub branches : (book : Book) (name : List ℕ) (control head : ℕ) (seen : Option Var) → Begins book control head
+      → Outside book name control seen → Outside book name head (nearer (declares book name control) seen)
+  pub sees : (book : Book) (name : List ℕ) (place : ℕ) (seen : Option Var) → Outside book name place seen
+      → Sees book name place (nearer (declares book name place) seen)

@@ -34,14 +34,19 @@ HasMarked places marks = (place : ℕ) × Contains places place × IsMarked mark
 
 -- the step declares the name so, and one of the places is marked
 abbrev pub IsSeenAt : Step → List ℕ → List ℕ → List Bool → Sight → Type 0
-IsSeenAt step name heads marks sight = (var : Var) × (declared step.variables name ≡ Some var) × HasMarked heads marks × (sight ≡ Declared var)
+IsSeenAt step name heads marks sight =
+    (var : Var) × (declared step.variables name ≡ Some var) × HasMarked heads marks × (sight ≡ Declared var)
 
 -- what is seen where these places are marked: at a control step of which one head is marked, or at the start
 abbrev pub IsSeenAtControl : Book → List ℕ → List Bool → Sight → Type 0
-IsSeenAtControl book name marks sight = (control : ℕ) × (var : Var) × (declares book name control ≡ Some var) × HasMarked (head_places book control) marks × (sight ≡ Declared var)
+IsSeenAtControl book name marks sight =
+    (control : ℕ) × (var : Var) × (declares book name control ≡ Some var) × HasMarked (head_places book control) marks
+    × (sight ≡ Declared var)
 
 abbrev pub IsSeenFrom : Book → List ℕ → List Bool → Sight → Type 0
-IsSeenFrom book name marks sight = IsSeenAtControl book name marks sight ⊎ (HasMarked (start_places book) marks × (sight ≡ sight_of (declared book.variables name)))
+IsSeenFrom book name marks sight =
+    IsSeenAtControl book name marks sight
+    ⊎ (HasMarked (start_places book) marks × (sight ≡ sight_of (declared book.variables name)))
 
 -- the places from which what stands outside a place flows to it
 abbrev pub FlowsBack : Book → List ℕ → ℕ → ℕ → Type 0

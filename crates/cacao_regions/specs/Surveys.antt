@@ -19,7 +19,8 @@ pub record IsSurveyOf (books : List Book) (book : Book) (survey : Survey) : Type
 -- one survey for each book
 pub record AreSurveysOf (books : List Book) (surveys : List Survey) : Type 0 where
   pub len : length surveys ≡ length books
-  pub each : (n : ℕ) (book : Book) (survey : Survey) → slice_get books n ≡ Some book → slice_get surveys n ≡ Some survey → IsSurveyOf books book survey
+  pub each : (n : ℕ) (book : Book) (survey : Survey) → slice_get books n ≡ Some book → slice_get surveys n ≡ Some survey
+      → IsSurveyOf books book survey
 
 -- for each book, the books to which it leads
 pub record AreLeads (books : List Book) (leads : List (List Bool)) : Type 0 where

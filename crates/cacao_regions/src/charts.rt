@@ -2,13 +2,15 @@
 ghost use Rattle.std.specs.Prelude.{IfOk};
 ghost use Rattle.cacao_regions.specs.Charts.{IsChartOf};
 
+use crate::declarers::{Declarers, declarers_of};
 use cacao_book::Book;
 use cacao_steps::{head_table, next_table, start_row};
-use reachability::{Bits, Places, reached_past_guards, reversed};
+use reachability::{Bits, Nests, Places, nests_of, reached_past_guards, reversed};
 use std::alloc::{AllocError, Global};
 
 /// The links of a book. A row of a table has the places to which the step at its place goes on (`next`), at which its branches begin
-/// (`heads`), and the same backwards. `starts` has the places at which a run begins, and `reach` those that a run reaches.
+/// (`heads`), and the same backwards. `starts` has the places at which a run begins, `reach` those that a run reaches, `declarers`
+/// those of the steps that declare a name, and `nests` tells of steps through the branches of which each way to a place leads.
 #[derive(Drop)]
 pub struct Chart {
     pub next: Vec<Places>,
@@ -17,6 +19,8 @@ pub struct Chart {
     pub back_heads: Vec<Places>,
     pub starts: Places,
     pub reach: Bits,
+    pub declarers: Declarers,
+    pub nests: Nests,
 }
 
 /// The chart of a book.
@@ -39,6 +43,16 @@ pub(crate) fn chart_of(alloc: Global, book: &Book) -> Result<Chart, AllocError>
         &none,
         starts.as_slice(),
     )?;
+    let declarers = declarers_of(alloc, book)?;
+    let nests = nests_of(
+        alloc,
+        steps.len(),
+        &next,
+        &heads,
+        &back_next,
+        &back_heads,
+        starts.as_slice(),
+    )?;
     Ok(Chart {
         next,
         heads,
@@ -46,5 +60,7 @@ pub(crate) fn chart_of(alloc: Global, book: &Book) -> Result<Chart, AllocError>
         back_heads,
         starts,
         reach,
+        declarers,
+        nests,
     })
 }

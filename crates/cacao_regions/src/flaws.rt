@@ -1,23 +1,23 @@
 // What may be wrong with what a step sees of a name.
-ghost use Rattle.std.specs.Prelude.{◌≡◌, ◌↔◌, ◌<◌, ◌≤◌, ◌⊎◌, ℕ, length, IfOk, OnOk, IsTrue, IsSome, Option, is_some, true};
+ghost use Rattle.std.specs.Prelude.{◌≡◌, ◌↔◌, ◌<◌, ◌≤◌, ◌⊎◌, ℕ, length, All, Contains, IfOk, OnOk, IsTrue, IsSome, Option, is_some, true};
 ghost use Rattle.std.specs.Option.{option_copied};
 ghost use Rattle.reachability.specs.Tables.{IsMarked, IsOpen};
-ghost use Rattle.cacao_book.specs.declared.steps.Step.{Step as AStep};
 ghost use Rattle.cacao_vars.specs.Declarations.{declared};
 ghost use Rattle.cacao_vars.specs.declared.declarations.Var.{Var as AVar};
 ghost use Rattle.cacao_steps.specs.Links.{declares};
 ghost use Rattle.cacao_regions.specs.Regions.{Sees};
 ghost use Rattle.cacao_regions.specs.Flaws.{may_take as may_take_of, is_flawed as is_flawed_of, HasOwnFlaw, SeesFlaw};
-ghost use Rattle.cacao_regions.specs.Charts.{IsChartOf, AreMarksOf};
-ghost use Rattle.cacao_regions.specs.Memories.{Remembers};
+ghost use Rattle.cacao_regions.specs.Charts.{IsChartOf, AreMarksOf, IsBehind};
+ghost use Rattle.cacao_regions.specs.Memories.{AreSourcesOf, AreSeenFrom, IsExact, Serves, Grows, Remembers};
 
 use crate::charts::Chart;
 use crate::memory::{Memory, copy_name, copy_of, key_of};
 use crate::same_vars::same_kind;
-use crate::sights::{declaring, sights};
+use crate::searches::{Searches, Sources, sources_key};
+use crate::sights::{marked, sights};
 use cacao_book::Book;
 use cacao_vars::{Kind, Name, Var};
-use reachability::Bits;
+use reachability::{Bits, Nests, Places};
 use std::alloc::{AllocError, Global};
 
 /// A flaw of a declaration, or of there being none.
@@ -67,30 +67,72 @@ fn is_flawed_there(flaw: &Flaw, found: Option<&Var>) -> bool
     found.is_some() && is_flawed(flaw, found)
 }
 
-// Whether some step declares the name with the flaw.
-fn is_flawed_anywhere(book: &Book, name: &Name, flaw: &Flaw) -> bool
-    ensures { IsTrue result ⊎ ((place : ℕ) → ¬ HasOwnFlaw book.now name.now flaw.now place) }
+// Whether the step at a place declares the name with the flaw.
+fn has_own_flaw(book: &Book, place: u32, name: &Name, flaw: &Flaw) -> bool
+    requires { place < length book.now.steps }
+    ensures { IsTrue result ↔ HasOwnFlaw book.now name.now flaw.now place }
 {
-    for step in book.steps.as_slice() {
-        if is_flawed_there(flaw, step.variables.find(name)) {
-            return true;
-        }
-    }
-    false
+    let step = &book.steps.as_slice()[place as usize];
+    is_flawed_there(flaw, step.variables.find(name))
 }
 
-// The steps that declare a name with the flaw.
-fn flawed(alloc: Global, book: &Book, name: &Name, flaw: &Flaw) -> Result<Bits, AllocError>
-    ensures { IfOk result (AreMarksOf (HasOwnFlaw book.now name.now flaw.now)) }
+// Adds the place of a step, if it declares the name with the flaw.
+fn add_flawed(
+    these: &mut Places,
+    book: &Book,
+    place: u32,
+    name: &Name,
+    flaw: &Flaw,
+) -> Result<(), AllocError>
+    requires { place < length book.now.steps }
+    ensures { OnOk result ((at : ℕ) → Contains these.new at ↔ (Contains these.old at ⊎ ((place ≡ at) × HasOwnFlaw book.now name.now flaw.now at))) }
 {
-    let steps = book.steps.as_slice();
-    let mut marks = Bits::unmarked(alloc, steps.len())?;
-    for (place, step) in steps.iter().enumerate() {
-        if is_flawed_there(flaw, step.variables.find(name)) {
-            marks.mark(place as u32);
-        }
+    if !has_own_flaw(book, place, name, flaw) {
+        return Ok(());
     }
-    Ok(marks)
+    these.push(place)?;
+    Ok(())
+}
+
+// Those of the places at which a step declares the name with the flaw.
+fn flawed(
+    alloc: Global,
+    book: &Book,
+    places: &[u32],
+    name: &Name,
+    flaw: &Flaw,
+) -> Result<Places, AllocError>
+    requires { All (λ place. place < length book.now.steps) places.now }
+    ensures { IfOk result (λ these. (place : ℕ) → Contains these place ↔ (Contains places.now place × HasOwnFlaw book.now name.now flaw.now place)) }
+{
+    let mut these = Places::new(alloc);
+    for place in places {
+        add_flawed(&mut these, book, *place, name, flaw)?;
+    }
+    Ok(these)
+}
+
+// Where the name is declared, with the flaw and without it.
+fn sources_of(
+    alloc: Global,
+    book: &Book,
+    chart: &Chart,
+    name: &Name,
+    flaw: &Flaw,
+) -> Result<Sources, AllocError>
+    requires { IsChartOf book.now chart.now }
+    ensures { IfOk result (AreSourcesOf book.now name.now flaw.now) }
+{
+    let places = chart.declarers.find(name);
+    let flawed = flawed(alloc, book, places, name, flaw)?;
+    let mut declaring = Places::new(alloc);
+    declaring.append(places)?;
+    let at_start = is_flawed(flaw, book.variables.find(name));
+    Ok(Sources {
+        declaring,
+        flawed,
+        at_start,
+    })
 }
 
 // Whether a step has the flaw itself, or sees it outside and does not hide it.
@@ -120,26 +162,54 @@ fn shown(
     Ok(marks)
 }
 
-// The places of the steps that may see something of the name that has the flaw: one search for all of them.
-fn flaw_marks(
+// The places of the steps that may see something of a name that has a flaw, where the name and the flaw have these sources: one search
+// for all of the steps.
+fn seen_marks(
     alloc: Global,
     book: &Book,
     chart: &Chart,
-    name: &Name,
-    flaw: &Flaw,
+    sources: &Sources,
 ) -> Result<Bits, AllocError>
-    requires { IsChartOf book.now chart.now }
-    ensures { IfOk result (AreMarksOf (SeesFlaw book.now name.now flaw.now)) }
+    requires chart { IsChartOf book.now chart.now }
+    requires declaring { All (λ place. place < length book.now.steps) sources.now.declaring }
+    requires flawed { All (λ place. place < length book.now.steps) sources.now.flawed }
+    ensures { IfOk result (AreSeenFrom book.now sources.now) }
 {
-    let at_start = is_flawed(flaw, book.variables.find(name));
-    if !at_start && !is_flawed_anywhere(book, name, flaw) {
+    let at_start = sources.at_start;
+    if !at_start && sources.flawed.as_slice().is_empty() {
         return Ok(Bits::new(alloc));
     }
-    let hiding = declaring(alloc, book, name)?;
-    let own = flawed(alloc, book, name, flaw)?;
+    let count = book.steps.as_slice().len();
+    let hiding = marked(alloc, count, sources.declaring.as_slice())?;
+    let own = marked(alloc, count, sources.flawed.as_slice())?;
     let outside = sights(alloc, book, chart, &hiding, &own, at_start)?;
-    let marks = shown(alloc, book.steps.as_slice().len(), &own, &outside, &hiding)?;
+    let marks = shown(alloc, count, &own, &outside, &hiding)?;
     Ok(marks)
+}
+
+// Where the search for a name and a flaw stands, which is made if none with the same sources was made before.
+fn search_for(
+    alloc: Global,
+    book: &Book,
+    chart: &Chart,
+    searches: &mut Searches,
+    name: &Name,
+    flaw: &Flaw,
+) -> Result<usize, AllocError>
+    requires chart { IsChartOf book.now chart.now }
+    requires exact { All (IsExact book.now) searches.old.items.items }
+    ensures exact { OnOk result (All (IsExact book.now) searches.new.items.items) }
+    ensures grows { OnOk result (Grows searches.old.items.items searches.new.items.items) }
+    ensures serves { IfOk result (λ at. Serves book.now searches.new.items.items at name.now flaw.now) }
+{
+    let sources = sources_of(alloc, book, chart, name, flaw)?;
+    let key = sources_key(alloc, &sources)?;
+    if let Some(at) = searches.find(&key, &sources) {
+        return Ok(at);
+    }
+    let marks = seen_marks(alloc, book, chart, &sources)?;
+    let at = searches.keep(key, sources, marks)?;
+    Ok(at)
 }
 
 // Whether it is plain that the step at a place finds a declaration: the book has one, or no run reaches the step.
@@ -161,8 +231,55 @@ fn is_never_missing(book: &Book, chart: &Chart, name: &Name, flaw: &Flaw, place:
     }
 }
 
-/// Whether the step at a place may see something of the name that has the flaw. What was searched for is kept in the memory, so that
-/// one search serves all steps.
+// So many steps that declare a name are looked at, before all steps are searched.
+const FEW: usize = 8;
+
+// Whether none of the places is that of a step that declares the name with the flaw.
+fn none_flawed(book: &Book, places: &[u32], name: &Name, flaw: &Flaw) -> bool
+    requires { All (λ place. place < length book.now.steps) places.now }
+    ensures { IsTrue result → (place : ℕ) → Contains places.now place → ¬ HasOwnFlaw book.now name.now flaw.now place }
+{
+    for place in places {
+        if has_own_flaw(book, *place, name, flaw) {
+            return false;
+        }
+    }
+    true
+}
+
+// Whether a place is one of these, or each way of a run to it leads through a branch of a step at one of them.
+fn is_behind(nests: &Nests, controls: &[u32], place: u32) -> bool
+    ensures { IsTrue result → IsBehind nests.now controls.now place }
+{
+    for control in controls {
+        if *control == place {
+            return true;
+        }
+        if nests.encloses(*control, place) {
+            return true;
+        }
+    }
+    false
+}
+
+// Whether it is plain that the step at a place does not see the flaw: few steps declare the name, none of them with the flaw, and one of
+// them hides what the book has of it.
+fn is_plainly_hidden(book: &Book, chart: &Chart, name: &Name, flaw: &Flaw, place: u32) -> bool
+    requires { IsChartOf book.now chart.now }
+    ensures { IsTrue result → ¬ SeesFlaw book.now name.now flaw.now place }
+{
+    let places = chart.declarers.find(name);
+    if places.len() > FEW {
+        return false;
+    }
+    if !is_behind(&chart.nests, places, place) {
+        return false;
+    }
+    none_flawed(book, places, name, flaw)
+}
+
+/// Whether the step at a place may see something of the name that has the flaw. What is plain takes no search. What was searched for is
+/// kept in the memory, so that one search serves all steps, and all names that the same steps declare in the same way.
 pub fn sees_flaw(
     alloc: Global,
     book: &Book,
@@ -180,14 +297,17 @@ pub fn sees_flaw(
     if is_never_missing(book, chart, name, flaw, place) {
         return Ok(false);
     }
+    if is_plainly_hidden(book, chart, name, flaw, place) {
+        return Ok(false);
+    }
     let key = key_of(alloc, name, flaw)?;
     if let Some(sees) = memory.recalled(&key, name, flaw, place) {
         return Ok(sees);
     }
-    let marks = flaw_marks(alloc, book, chart, name, flaw)?;
-    let sees = marks.has(place);
+    let search = search_for(alloc, book, chart, &mut memory.searches, name, flaw)?;
+    let sees = memory.searches.has(search, place);
     let name = copy_name(name)?;
     let flaw = copy_of(flaw)?;
-    memory.keep(key, name, flaw, marks)?;
+    memory.keep(key, name, flaw, search)?;
     Ok(sees)
 }

@@ -2,6 +2,7 @@
 #![tactic(auto)]
 
 mod charts;
+mod declarers;
 mod endings;
 mod flaws;
 mod laws;
@@ -10,12 +11,14 @@ mod looking;
 mod memory;
 mod regions;
 mod same_vars;
+mod searches;
 mod seeing;
 mod seen;
 mod sights;
 mod surveys;
 
 pub use charts::Chart;
+pub use declarers::Declarers;
 pub use flaws::{Flaw, sees_flaw};
 pub use laws::scopes_agree;
 pub use leading::leads_of;

@@ -5,22 +5,23 @@ ghost use Rattle.cacao_regions.specs.Memories.{Remembers, IsRecalled};
 
 use crate::flaws::Flaw;
 use crate::same_vars::same_kind;
+use crate::searches::Searches;
 use cacao_vars::{Kind, Name};
-use reachability::Bits;
 use std::alloc::{AllocError, Global};
 use std::collections::BTreeMap;
 
-/// A search that was made: the steps at the marked places see something of the name that has the flaw.
+/// A name and a flaw that were asked for, and where the search that serves them stands.
 #[derive(Drop)]
 pub(crate) struct Recall {
     pub name: Name,
     pub flaw: Flaw,
-    pub marks: Bits,
+    pub search: usize,
 }
 
-/// The searches that were made in a book, and where they stand, by keys that `key_of` makes.
+/// The searches that were made in a book, what was asked for, and where that stands, by keys that `key_of` makes.
 #[derive(Drop)]
 pub struct Memory {
+    pub(crate) searches: Searches,
     pub(crate) recalls: Vec<Recall>,
     pub(crate) keys: BTreeMap<String, usize>,
 }
@@ -42,7 +43,7 @@ fn kind_word(kind: &Kind) -> &str {
     }
 }
 
-/// A text by which a search is looked for. Nothing rests on it: what is found under it is compared.
+/// A text by which a name and a flaw are looked for. Nothing rests on it: what is found under it is compared.
 pub(crate) fn key_of(alloc: Global, name: &Name, flaw: &Flaw) -> Result<String, AllocError> {
     let mut key = String::from_str(alloc, name.text())?;
     let more = match flaw {
@@ -94,6 +95,7 @@ impl Memory {
         ensures { (book : ABook) → Remembers book result }
     {
         Memory {
+            searches: Searches::new(alloc),
             recalls: Vec::new(alloc),
             keys: BTreeMap::new(alloc),
         }
@@ -101,7 +103,7 @@ impl Memory {
 
     /// What is remembered of a name, a flaw and the step at a place. It takes no memory.
     pub(crate) fn recalled(&self, key: &str, name: &Name, flaw: &Flaw, place: u32) -> Option<bool>
-        ensures { IfSome result (λ sees. IsRecalled self.now.recalls.items name.now flaw.now place sees) }
+        ensures { IfSome result (λ sees. IsRecalled self.now name.now flaw.now place sees) }
     {
         let at = *self.keys.get(key)?;
         if at >= self.recalls.len() {
@@ -111,21 +113,25 @@ impl Memory {
         if recall.name != *name || !same_flaw(&recall.flaw, flaw) {
             return None;
         }
-        Some(recall.marks.has(place))
+        if recall.search >= self.searches.items.len() {
+            return None;
+        }
+        Some(self.searches.has(recall.search, place))
     }
 
-    /// Keeps what was found.
+    /// Keeps which search serves a name and a flaw.
     pub(crate) fn keep(
         &mut self,
         key: String,
         name: Name,
         flaw: Flaw,
-        marks: Bits,
+        search: usize,
     ) -> Result<(), AllocError>
-        ensures { OnOk result (self.new.recalls.items ≡ self.old.recalls.items ++ record { name = name; flaw = flaw; marks = marks } ∷ []) }
+        ensures recalls { OnOk result (self.new.recalls.items ≡ self.old.recalls.items ++ record { name = name; flaw = flaw; search = search } ∷ []) }
+        ensures searches { self.new.searches ≡ self.old.searches }
     {
         let at = self.recalls.len();
-        self.recalls.push(Recall { name, flaw, marks })?;
+        self.recalls.push(Recall { name, flaw, search })?;
         self.keys.insert(key, at)?;
         Ok(())
     }

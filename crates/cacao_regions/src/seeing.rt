@@ -145,7 +145,7 @@ fn places_around(
 {
     let steps = book.steps.as_slice();
     let none = Bits::new(alloc);
-    let hiding = declaring(alloc, book, name)?;
+    let hiding = declaring(alloc, book, chart, name)?;
     let marks = reached_past_guards(
         alloc,
         steps.len(),

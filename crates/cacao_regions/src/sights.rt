@@ -1,5 +1,5 @@
 // Which steps see something of a name, all at once.
-ghost use Rattle.std.specs.Prelude.{◌≡◌, ◌↔◌, ◌⊎◌, ℕ, ◌<◌, length, All, Contains, IfOk, OnOk, IsTrue, IsSome};
+ghost use Rattle.std.specs.Prelude.{◌↔◌, ◌⊎◌, ℕ, ◌<◌, length, All, Contains, IfOk, OnOk, IsTrue, IsSome};
 ghost use Rattle.reachability.specs.Closure.{Closure};
 ghost use Rattle.cacao_steps.specs.Links.{declares};
 ghost use Rattle.cacao_regions.specs.Charts.{IsChartOf, AreMarksOf, BeginsChosen, FlowsPast};
@@ -10,17 +10,30 @@ use cacao_vars::Name;
 use reachability::{Bits, Places, reached_past_guards};
 use std::alloc::{AllocError, Global};
 
+/// The marks of these places.
+pub(crate) fn marked(alloc: Global, count: usize, places: &[u32]) -> Result<Bits, AllocError>
+    requires { All (λ place. place < count) places.now }
+    ensures { IfOk result (AreMarksOf (Contains places.now)) }
+{
+    let mut marks = Bits::unmarked(alloc, count)?;
+    for place in places {
+        marks.mark(*place);
+    }
+    Ok(marks)
+}
+
 /// The steps that declare a name.
-pub(crate) fn declaring(alloc: Global, book: &Book, name: &Name) -> Result<Bits, AllocError>
+pub(crate) fn declaring(
+    alloc: Global,
+    book: &Book,
+    chart: &Chart,
+    name: &Name,
+) -> Result<Bits, AllocError>
+    requires { IsChartOf book.now chart.now }
     ensures { IfOk result (AreMarksOf (λ place. IsSome (declares book.now name.now place))) }
 {
-    let steps = book.steps.as_slice();
-    let mut marks = Bits::unmarked(alloc, steps.len())?;
-    for (place, step) in steps.iter().enumerate() {
-        if step.variables.find(name).is_some() {
-            marks.mark(place as u32);
-        }
-    }
+    let places = chart.declarers.find(name);
+    let marks = marked(alloc, book.steps.as_slice().len(), places)?;
     Ok(marks)
 }
 

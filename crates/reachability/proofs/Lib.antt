@@ -4,3 +4,4 @@ pub mod RowLemmas
 pub mod BackLemmas
 pub mod WordLemmas
 pub mod RankLemmas
+pub mod NestLemmas

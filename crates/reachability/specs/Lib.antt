@@ -4,3 +4,4 @@ pub mod Words
 pub mod Searching
 pub mod Reversing
 pub mod Ranks
+pub mod Nests

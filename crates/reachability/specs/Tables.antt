@@ -14,7 +14,8 @@ row rows place = slice_index_or rows place []
 
 -- a free edge, or a guarded one that leaves no shut place and enters no blocked one
 abbrev pub Leads : List (List ℕ) → List (List ℕ) → List Bool → List Bool → ℕ → ℕ → Type 0
-Leads free guarded shut blocked from to = Contains (row free from) to ⊎ (IsOpen shut from × Contains (row guarded from) to × IsOpen blocked to)
+Leads free guarded shut blocked from to =
+    Contains (row free from) to ⊎ (IsOpen shut from × Contains (row guarded from) to × IsOpen blocked to)
 
 -- each place in a table is below n
 abbrev pub IsWithin : ℕ → List (List ℕ) → Type 0

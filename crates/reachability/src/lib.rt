@@ -5,6 +5,8 @@
 #![tactic(auto)]
 
 mod bits;
+mod nesting;
+mod nests;
 mod places;
 mod ranking;
 mod returning;
@@ -12,6 +14,8 @@ mod reversing;
 mod searching;
 
 pub use bits::Bits;
+pub use nesting::nests_of;
+pub use nests::Nests;
 pub use places::Places;
 pub use returning::may_return;
 pub use reversing::reversed;

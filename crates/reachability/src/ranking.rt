@@ -63,23 +63,21 @@ fn enter(
     Ok(())
 }
 
-// The places in the order in which they are left, where all edges are followed.
-fn leaving_order(
+/// The places that are reached from the first ones, in the order in which they are left, where all edges are followed.
+pub(crate) fn leaving_order(
     alloc: Global,
     count: usize,
     free: &[Places],
     guarded: &[Places],
-) -> Result<Vec<u32>, AllocError>
-    requires { count < 2 ^ 32 }
-{
+    first: &[u32],
+) -> Result<Vec<u32>, AllocError> {
     let mut seen = vec![in alloc; false; count]?;
     let mut work = Vec::new(alloc);
-    for place in 0..count {
-        work.push(Visit::Enter(place as u32))?;
-    }
+    add_visits(first, &mut work)?;
     let edges = edges_of(free).saturating_add(edges_of(guarded));
+    let visits = edges.saturating_add(count).saturating_add(first.len());
     let mut order = Vec::new(alloc);
-    for _ in 0..edges.saturating_add(count).saturating_add(count) {
+    for _ in 0..visits {
         match work.pop() {
             Some(Visit::Enter(place)) => enter(place, free, guarded, &mut seen, &mut work)?,
             Some(Visit::Leave(place)) => order.push(place)?,
@@ -87,6 +85,16 @@ fn leaving_order(
         }
     }
     Ok(order)
+}
+
+fn places_below(alloc: Global, count: usize) -> Result<Vec<u32>, AllocError>
+    requires { count < 2 ^ 32 }
+{
+    let mut places = Vec::new(alloc);
+    for place in 0..count {
+        places.push(place as u32)?;
+    }
+    Ok(places)
 }
 
 // Gives a place that has none yet a rank, and lets what leads to it wait for the same.
@@ -151,7 +159,8 @@ pub(crate) fn ranks_of(
 ) -> Result<Vec<usize>, AllocError>
     requires { count < 2 ^ 32 }
 {
-    let order = leaving_order(alloc, count, free, guarded)?;
+    let all = places_below(alloc, count)?;
+    let order = leaving_order(alloc, count, free, guarded, &all)?;
     let mut ranks = vec![in alloc; UNRANKED; count]?;
     for (rank, place) in order.iter().rev().enumerate() {
         rank_from(alloc, *place, rank, back_free, back_guarded, &mut ranks)?;

@@ -2,7 +2,7 @@
 ghost use Rattle.std.specs.Prelude.{◌≡◌, ◌<◌, IfOk, length};
 ghost use Rattle.reachability.specs.Tables.{IsWithin};
 
-use crate::{Bits, Places, may_return, reached, reached_past_guards, reversed};
+use crate::{Bits, Places, may_return, nests_of, reached, reached_past_guards, reversed};
 use std::alloc::{AllocError, Global};
 use std::test::Fail;
 
@@ -99,6 +99,70 @@ fn only_what_leads_back_by_a_guarded_edge_may_return(rt: HostRuntime) -> Result<
     let marks = may_return(alloc, 5, &free, &guarded, &back_free, &back_guarded)?;
     for (place, wanted) in [(0, false), (1, false), (2, false), (3, true), (4, false)] {
         assert_eq!(rt; marks.has(place), wanted, "{place}");
+    }
+    Ok(())
+}
+
+#[test]
+fn a_place_is_inside_each_guard_of_a_chain_that_leads_to_it(rt: HostRuntime) -> Result<(), Fail> {
+    let alloc = rt.alloc();
+    let mut guarded = Vec::new(alloc);
+    let mut back = Vec::new(alloc);
+    back.push(row(alloc, &[])?)?;
+    for place in 0..40 {
+        guarded.push(row(alloc, &[place + 1])?)?;
+        back.push(row(alloc, &[place])?)?;
+    }
+    assert_eq!(rt; guarded.len(), 40);
+    let nests = nests_of(alloc, 41, &[], &guarded, &[], &back, &[0])?;
+    for place in 0..41 {
+        for guard in 0..41 {
+            assert_eq!(rt;
+                nests.encloses(guard, place),
+                guard < place,
+                "{guard} {place}"
+            );
+        }
+    }
+    Ok(())
+}
+
+#[test]
+fn where_ways_join_a_place_is_inside_the_guards_of_both(rt: HostRuntime) -> Result<(), Fail> {
+    let alloc = rt.alloc();
+    let mut guarded = Vec::new(alloc);
+    guarded.push(row(alloc, &[1, 5])?)?;
+    guarded.push(row(alloc, &[2, 3])?)?;
+    let mut free = Vec::new(alloc);
+    free.push(row(alloc, &[])?)?;
+    free.push(row(alloc, &[])?)?;
+    free.push(row(alloc, &[4])?)?;
+    free.push(row(alloc, &[4])?)?;
+    free.push(row(alloc, &[2, 6])?)?;
+    free.push(row(alloc, &[6])?)?;
+    free.push(row(alloc, &[])?)?;
+    free.push(row(alloc, &[2])?)?;
+    let back_free = reversed(alloc, &free)?;
+    let mut back_guarded = Vec::new(alloc);
+    back_guarded.push(row(alloc, &[])?)?;
+    back_guarded.push(row(alloc, &[0])?)?;
+    back_guarded.push(row(alloc, &[1])?)?;
+    back_guarded.push(row(alloc, &[1])?)?;
+    back_guarded.push(row(alloc, &[])?)?;
+    back_guarded.push(row(alloc, &[0])?)?;
+    let nests = nests_of(alloc, 8, &free, &guarded, &back_free, &back_guarded, &[0])?;
+    for (place, outer, inner) in [
+        (0, false, false),
+        (1, true, false),
+        (2, true, true),
+        (3, true, true),
+        (4, true, true),
+        (5, true, false),
+        (6, true, false),
+        (7, false, false),
+    ] {
+        assert_eq!(rt; nests.encloses(0, place), outer, "{place}");
+        assert_eq!(rt; nests.encloses(1, place), inner, "{place}");
     }
     Ok(())
 }

@@ -5,7 +5,7 @@ use Rattle.cacao_book.specs.Steps.{place_of}
 use Rattle.cacao_steps.specs.Links.{next_keys, head_keys, start_keys, start_places}
 use Rattle.reachability.specs.Tables.{IsWithin, IsReverse}
 use Rattle.cacao_steps.proofs.LinkLemmas.{rows_within, places_within}
-use Rattle.cacao_regions.proofs.TableLemmas.{reach_marks, same_search}
+use Rattle.cacao_regions.proofs.TableLemmas.{reach_marks, same_search, through_guards}
 use Rattle.cacao_regions.proofs.charts.chart_of.Goals as goal
 
 -- a table of the links of the steps, and its width
@@ -64,5 +64,7 @@ returns c =
       back_heads_within = subst (λ k. IsWithin k c.in_ok-back_heads.back_heads.items) heads_width c.in_ok-back_heads.ensures.within;
       reach_are = reach_marks c.args.book.now c.deref-3.result.now c.deref-4.result.now c.in_ok-reach.reach (c.deref-3.ensures.value ∙ next) (c.deref-4.ensures.value ∙ heads)
           (same_search c.as_slice.result.now (start_places c.args.book.now) c.deref-3.result.now c.deref-3.result.now c.deref-4.result.now c.deref-4.result.now c.new-none.result [] c.new-none.result [] c.in_ok-reach.reach (c.as_slice.ensures ∙ c.in_ok-starts.ensures) refl refl c.new-none.ensures c.new-none.ensures c.in_ok-reach.ensures.exact);
+      declarers_are = c.in_ok-declarers.ensures;
+      nests_tell = through_guards c.args.book.now c.deref-5.result.now c.deref-6.result.now c.as_slice-2.result.now c.in_ok-nests.nests (c.deref-5.ensures.value ∙ next) (c.deref-6.ensures.value ∙ heads) (c.as_slice-2.ensures ∙ c.in_ok-starts.ensures) c.in_ok-nests.ensures;
       back_heads_are = subst (λ v. IsReverse v c.in_ok-back_heads.back_heads.items) c.deref-2.ensures.value c.in_ok-back_heads.ensures.edges;
     }
