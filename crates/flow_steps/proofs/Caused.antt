@@ -26,7 +26,7 @@ use Rattle.slpf_actuator.specs.declared.error.ActError.TheVariants as act_error
 use Rattle.flow_steps.specs.Appends.{Tries}
 use Rattle.flow_steps.specs.Appends.Tries.{done, failed, limited}
 use Rattle.flow_steps.specs.Causes.{ActPasses, EachCause, RecordPasses, Shows}
-use Rattle.flow_steps.specs.Steps.{FailsToAct, FindsLate, FindsRunUsed, GoesTowards, HasRun, Step, Steps, after_reach}
+use Rattle.flow_steps.specs.Steps.{FailsToAct, FindsLate, FindsRunUsed, GoesTowards, HasRun, IsAddressed, Step, Steps, after_reach}
 use Rattle.flow_steps.specs.Steps.Step.{opens_clock, finds_run_used, asks_clock, finds_late, begins, moves, upgrades, tells, expires, says, fails_to_say}
 use Rattle.flow_steps.specs.Steps.Step.{puts_first, resends, takes, finds_none, fails_to_take, drops, replies, ignores_reply, acts_on, repeats_reply, fails_to_act, wants_memory_now}
 use Rattle.flow_steps.specs.Steps.Steps.{nothing, and_then}
@@ -200,10 +200,12 @@ tried_shows IsNext old new (limited what is) = shows_as new.phase (refused (past
     no_moment what e passes = limit_no_moment old.engine.history passes.comes.next passes.comes.edits (passes.passes ∙ ap Some e)
 
 -- the filter that refused has the acts that it had
-act_passes : (old new : World) (parcel : Parcel) (v w : ActuatorView) (needed : ℕ) → slice_get old.filters (parcel.agent - 1) ≡ Some v → new.filters ≡ slice_set old.filters (parcel.agent - 1) w
+act_passes : (old new : World) (parcel : Parcel) (v w : ActuatorView) (needed : ℕ) → IsAddressed parcel → parcel.back ≡ false → slice_get old.filters (parcel.agent - 1) ≡ Some v → new.filters ≡ slice_set old.filters (parcel.agent - 1) w
     → w ≡ record v { prepared = w.prepared; broken = true } → new.site ≡ old.site → Overflows v parcel old.site.clock.now needed → ActPasses new
-act_passes old new parcel v w needed was now view same overflows = record {
+act_passes old new parcel v w needed addressed command was now view same overflows = record {
   parcel = parcel;
+  addressed = addressed;
+  command = command;
   v = w;
   there = ap (λ (l : List ActuatorView). slice_get l (parcel.agent - 1)) now ∙ get_set_same old.filters (parcel.agent - 1) v w was;
   needed = needed;
@@ -214,7 +216,7 @@ act_passes old new parcel v w needed was now view same overflows = record {
 act_shows : (old new : World) (beat : ℕ) (parcel : Parcel) (v w : ActuatorView) (error : ActError) (cause : Cause) → FailsToAct beat parcel v w error cause old new → ShowsStep (refused cause false) old new
 act_shows old new beat parcel v w act_error.Disk cause is = subst (λ (c : Cause). ShowsStep (refused c false) old new) (sym is.why.1) is.why.0
 act_shows old new beat parcel v w (act_error.Full needed) cause is = subst (λ (c : Cause). ShowsStep (refused c false) old new) (sym is.why.1)
-    (inr (act_passes old new parcel v w needed is.holds_command.there is.filters is.refuses.view is.refuses.site is.why.0))
+    (inr (act_passes old new parcel v w needed is.holds_command.addressed is.holds_command.command is.holds_command.there is.filters is.refuses.view is.refuses.site is.why.0))
 act_shows old new beat parcel v w act_error.Memory cause is = subst (λ (c : Cause). ShowsStep (refused c false) old new) (sym is.why) tt
 act_shows old new beat parcel v w (act_error.Damaged place) cause is = absurd is.why
 act_shows old new beat parcel v w act_error.Broken cause is = absurd is.why

@@ -1,5 +1,5 @@
 -- Why a session ended as it did.
-use Rattle.std.specs.Prelude.{◌≡◌, ◌≢◌, ◌⊎◌, ℕ, ◌+◌, ◌-◌, ◌<◌, ◌≤◌, Bool, true, [], ◌∷◌, ◌++◌, List, Some, slice_get, ⊤}
+use Rattle.std.specs.Prelude.{◌≡◌, ◌≢◌, ◌⊎◌, ℕ, ◌+◌, ◌-◌, ◌<◌, ◌≤◌, Bool, false, true, [], ◌∷◌, ◌++◌, List, Some, slice_get, ⊤}
 use Rattle.cacao_site.specs.Counts.{Rose}
 use Rattle.cacao_site.specs.declared.parcel.Parcel.{Parcel}
 use Rattle.run_records.specs.Ranges.{last_moment}
@@ -14,7 +14,7 @@ use Rattle.flow_engine.specs.EngineCalls.{IsWaiting}
 use Rattle.flow_engine.specs.OpenIssues.{resend_after}
 use Rattle.slpf_actuator.specs.ActuatorCalls.{Overflows}
 use Rattle.slpf_actuator.specs.ActuatorView.{ActuatorView}
-use Rattle.flow_steps.specs.Steps.{AsksClock, HasRun, OpensClock, Step, Steps}
+use Rattle.flow_steps.specs.Steps.{AsksClock, HasRun, IsAddressed, OpensClock, Step, Steps}
 use Rattle.flow_steps.specs.Worlds.{IsGoing, Phase, World, opened, refused, waits, disk_failed, not_said, run_used, past}
 
 -- the journal is empty, and this is the least filter with an act of the run
@@ -34,9 +34,11 @@ pub record RecordPasses (w : World) (what : LimitKind) : Type 0 where
   pub r : Record
   pub passes : PassesLimit w.engine.history (Is r) what
 
--- the act of a filter on a command would pass the limit of its file
+-- the act of a filter on a command for it would pass the limit of its file
 pub record ActPasses (w : World) : Type 0 where
   pub parcel : Parcel
+  pub addressed : IsAddressed parcel
+  pub command : parcel.back ≡ false
   pub v : ActuatorView
   pub there : slice_get w.filters (parcel.agent - 1) ≡ Some v
   pub needed : ℕ
@@ -99,7 +101,8 @@ EachCause = (a b : World) → a.phase ≡ opened → Steps a b → HasCause a b
 
 -- Where the session did not refuse because the disk failed, no call of the disk failed.
 abbrev pub EachSteady : Type 0
-EachSteady = (a b : World) → Steps a b → ((lacks : Bool) → b.phase ≢ refused disk_failed lacks) → b.site.disk.faults ≡ a.site.disk.faults
+EachSteady = (a b : World) → Steps a b → ((lacks : Bool) → b.phase ≢ refused disk_failed lacks)
+    → b.site.disk.faults ≡ a.site.disk.faults
 
 -- the last step, from a world that went on
 pub record EndedByStep (a b : World) : Type 0 where

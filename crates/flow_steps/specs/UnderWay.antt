@@ -47,7 +47,8 @@ pub record IsUnderWay (w : World) : Type 0 where
 
 -- from a world where nothing was put, while no parcel is lost, doubled or held back
 abbrev pub EachUnderWay : Type 0
-EachUnderWay = (a b : World) → a.engine.puts ≡ [] → DidNotRise a.site.clock.mishaps b.site.clock.mishaps → Steps a b → IsUnderWay b
+EachUnderWay =
+    (a b : World) → a.engine.puts ≡ [] → DidNotRise a.site.clock.mishaps b.site.clock.mishaps → Steps a b → IsUnderWay b
 
 -- So no issue expires, where pending parcels are told.
 abbrev pub NoExpiry : Type 0

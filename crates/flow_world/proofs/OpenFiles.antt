@@ -37,23 +37,25 @@ pub file_refuses : {T : Type 0} (agent : ℕ) (old new : SiteView) (r : Result T
     → ((place : ℕ) → IsErrOf r (act_error.Damaged place) → IsTrue old.disk.told → IsDamaged (new.disk.reads agent) place)
     → (IsErrOf r act_error.Disk → Rose old.disk.faults new.disk.faults)
     → (r ≢ Err act_error.Disk → new.disk.faults ≡ old.disk.faults)
+    → (r ≢ Err act_error.Disk → new.disk.reads agent ≡ old.disk.reads agent)
     → ((needed : ℕ) → (r ≢ Err act_error.Broken) × (r ≢ Err (act_error.Full needed))) → RefusesFile (file_refusal agent error) agent old new
-file_refuses agent old new r act_error.Disk is opens durable damaged disk steady no_other = record { opens = opens; why = disk is; steady = λ other. absurd (other refl) }
-file_refuses agent old new r (act_error.Damaged place) is opens durable damaged disk steady no_other =
-    record { opens = opens; why = (refl, durable place is, damaged place is); steady = λ other. steady (λ e. cc) }
-file_refuses agent old new r act_error.Memory is opens durable damaged disk steady no_other = record { opens = opens; why = tt; steady = λ other. steady (λ e. cc) }
-file_refuses agent old new r (act_error.Full needed) is opens durable damaged disk steady no_other = absurd ((no_other needed).1 is)
-file_refuses agent old new r act_error.Broken is opens durable damaged disk steady no_other = absurd ((no_other 0).0 is)
+file_refuses agent old new r act_error.Disk is opens durable damaged disk steady reads no_other = record { opens = opens; why = disk is; steady = λ other. absurd (other refl); reads = λ other. absurd (other refl) }
+file_refuses agent old new r (act_error.Damaged place) is opens durable damaged disk steady reads no_other =
+    record { opens = opens; why = (refl, durable place is, damaged place is); steady = λ other. steady (λ e. cc); reads = λ other. reads (λ e. cc) }
+file_refuses agent old new r act_error.Memory is opens durable damaged disk steady reads no_other = record { opens = opens; why = tt; steady = λ other. steady (λ e. cc); reads = λ other. reads (λ e. cc) }
+file_refuses agent old new r (act_error.Full needed) is opens durable damaged disk steady reads no_other = absurd ((no_other needed).1 is)
+file_refuses agent old new r act_error.Broken is opens durable damaged disk steady reads no_other = absurd ((no_other 0).0 is)
 
 told_then : (agent : ℕ) (old new : SiteView) → OpensFile agent old new → IsTrue new.disk.told → IsTrue old.disk.told
 told_then agent old new opens told = subst IsTrue opens.only.each.goes_on.told told
 
-pub next_opens : (agent : ℕ) (old new : SiteView) (v : ActuatorView) (fs gs : List ActuatorView) → OpensFile agent old new → new.disk.faults ≡ old.disk.faults → filter.IsReady v new → IsDurable agent new.disk
+pub next_opens : (agent : ℕ) (old new : SiteView) (v : ActuatorView) (fs gs : List ActuatorView) → OpensFile agent old new → new.disk.faults ≡ old.disk.faults → new.disk.reads agent ≡ old.disk.reads agent → filter.IsReady v new → IsDurable agent new.disk
     → (IsTrue old.disk.told → HoldsActs v.acts (new.disk.reads agent))
     → (IsTrue old.disk.told → IsTrue v.prepared ↔ (9 < length (new.disk.reads agent))) → v.agent ≡ agent → v.broken ≡ false → gs ≡ fs ++ v ∷ [] → OpensNext agent old new fs gs
-next_opens agent old new v fs gs opens steady ready durable stands prepared of_agent whole more = record {
+next_opens agent old new v fs gs opens steady reads ready durable stands prepared of_agent whole more = record {
   opens = opens;
   steady = steady;
+  reads = reads;
   v = v;
   is_open = record {
     filter = record { ready = ready; whole = whole; of_agent = of_agent };

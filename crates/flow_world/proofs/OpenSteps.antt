@@ -46,6 +46,7 @@ opens_none site = record {
   each = λ k v there. absurd (cc);
   goes_on = goes_on-refl site.disk;
   images = λ file low high. absurd (omega (arith, low, high));
+  reads = λ file low high. absurd (omega (arith, low, high));
   others = λ file other. record { reads = refl; images = λ beat image from to. ap (λ (n : ℕ). site.disk.left file n image) (omega (arith, from, to)) };
   rest = record { link = refl; clock = refl };
   steady = refl;
@@ -112,6 +113,14 @@ module _ (n : ℕ) (old mid new : SiteView) (fs gs : List ActuatorView) (was : O
   reads_stay : (file : ℕ) → 1 ≤ file → file ≤ n → new.disk.reads file ≡ mid.disk.reads file
   reads_stay file low high = (one.others file (λ e. absurd (omega (arith, e, high)))).reads
 
+  reads_as_before : (file : ℕ) → 1 ≤ file → file ≤ n + 1 → new.disk.reads file ≡ old.disk.reads file
+  reads_as_before file low high = elim (cases_lt n file) [
+    | inl last ↦
+        let at : n + 1 ≡ file = omega (arith, last, high) in
+        subst (λ (f : ℕ). new.disk.reads f ≡ mid.disk.reads f) at next.reads ∙ (was.others file (inr last)).reads
+    | inr earlier ↦ reads_stay file low earlier ∙ was.reads file low earlier
+  ]
+
   calls_so_far : IsTrue old.disk.told → new.disk.calls ≤ old.disk.calls + 3 * (n + 1) + blocks_to (n + 1) new.disk
   calls_so_far told =
       let before = was.calls told in
@@ -129,6 +138,7 @@ module _ (n : ℕ) (old mid new : SiteView) (fs gs : List ActuatorView) (was : O
     each = each_open;
     goes_on = goes_on-trans was.goes_on on;
     images = images_were;
+    reads = reads_as_before;
     others = λ file other. stays-trans was.goes_on on (was.others file (fewer file other)) (one.others file (apart file other));
     rest = rest_then old mid new was.rest one.rest;
     steady = next.steady ∙ was.steady;

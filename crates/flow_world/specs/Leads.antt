@@ -102,15 +102,18 @@ EngineGoes P n so v p sn w q =
     (filters : List ActuatorView) (notes : Notes) → P notes → EngineLeads n (at so v filters notes p) sn w q
 
 abbrev pub EngineRefuses : (Notes → Type 0) → WorldError → SiteView → EngineView → Phase → SiteView → Type 0
-EngineRefuses P error so v p sn = (filters : List ActuatorView) (notes : Notes) → P notes → RefusesAt error sn (at so v filters notes p)
+EngineRefuses P error so v p sn =
+    (filters : List ActuatorView) (notes : Notes) → P notes → RefusesAt error sn (at so v filters notes p)
 
 -- what becomes of a call of the engine's side that came from such a world: it goes on to a new turn, or refuses
-abbrev pub EngineDid : {T : Type 0} → Result T WorldError → (Notes → Type 0) → ℕ → SiteView → EngineView → Phase → SiteView → EngineView → Type 0
+abbrev pub EngineDid : {T : Type 0} → Result T WorldError → (Notes → Type 0) → ℕ → SiteView → EngineView → Phase → SiteView
+    → EngineView → Type 0
 EngineDid (Ok done) P n so v p sn w = EngineGoes P n so v p sn w rests
 EngineDid (Err error) P n so v p sn w = EngineRefuses P error so v p sn
 
 -- the same of a call that may not apply: then nothing changed, and this is why
-abbrev pub EngineTried : Result Bool WorldError → (Notes → Type 0) → Type 0 → ℕ → SiteView → EngineView → Phase → SiteView → EngineView → Type 0
+abbrev pub EngineTried : Result Bool WorldError → (Notes → Type 0) → Type 0 → ℕ → SiteView → EngineView → Phase → SiteView
+    → EngineView → Type 0
 EngineTried (Ok true) P Why n so v p sn w = EngineGoes P n so v p sn w rests
 EngineTried (Ok false) P Why n so v p sn w = Why × (w ≡ v) × (sn ≡ so)
 EngineTried (Err error) P Why n so v p sn w = EngineRefuses P error so v p sn
@@ -133,10 +136,12 @@ pub record FiltersLead (n : ℕ) (from : World) (site : SiteView) (filters : Lis
 -- so it is from each world where this parcel is in hand, and not too many parcels changed nothing
 abbrev pub FiltersGo : ℕ → ℕ → Parcel → SiteView → List ActuatorView → SiteView → List ActuatorView → Type 0
 FiltersGo n beat parcel so fs sn gs =
-    (v : EngineView) (notes : Notes) → notes.ignored + 1 ≤ most_ignored → FiltersLead n (at so v fs notes (holds beat parcel)) sn gs
+    (v : EngineView) (notes : Notes) → notes.ignored + 1 ≤ most_ignored
+    → FiltersLead n (at so v fs notes (holds beat parcel)) sn gs
 
 abbrev pub FiltersRefuse : WorldError → ℕ → Parcel → SiteView → List ActuatorView → SiteView → Type 0
-FiltersRefuse error beat parcel so fs sn = (v : EngineView) (notes : Notes) → RefusesAt error sn (at so v fs notes (holds beat parcel))
+FiltersRefuse error beat parcel so fs sn =
+    (v : EngineView) (notes : Notes) → RefusesAt error sn (at so v fs notes (holds beat parcel))
 
 -- what becomes of a command that is handed on: its filter acts, or repeats its reply, or the session refuses
 abbrev pub FilterDid : Result Bool WorldError → ℕ → Parcel → SiteView → List ActuatorView → SiteView → List ActuatorView → Type 0
@@ -172,12 +177,14 @@ abbrev pub ClosesFrom : Close → List OperatorAnswer → SiteView → Session �
 ClosesFrom close answers so s p sn = (notes : Notes) → Counts answers s notes → ClosesAt close sn (world_of so s notes p)
 
 -- what becomes of a call of a session that came from such worlds: it goes on to a new turn, or refuses
-abbrev pub Did : {T : Type 0} → Result T WorldError → List OperatorAnswer → SiteView → Session → Phase → SiteView → Session → Type 0
+abbrev pub Did : {T : Type 0} → Result T WorldError → List OperatorAnswer → SiteView → Session → Phase → SiteView → Session
+    → Type 0
 Did (Ok done) answers so s p sn t = Goes answers so s p sn t rests
 Did (Err error) answers so s p sn t = Refuses error answers so s p sn
 
 -- or it closes
-abbrev pub Turned : Result (Option Close) WorldError → List OperatorAnswer → SiteView → Session → Phase → SiteView → Session → Type 0
+abbrev pub Turned : Result (Option Close) WorldError → List OperatorAnswer → SiteView → Session → Phase → SiteView → Session
+    → Type 0
 Turned (Ok None) answers so s p sn t = Goes answers so s p sn t rests
 Turned (Ok (Some close)) answers so s p sn t = ClosesFrom close answers so s p sn
 Turned (Err error) answers so s p sn t = Refuses error answers so s p sn

@@ -26,9 +26,9 @@ pub record OpensFile (file : ℕ) (old new : SiteView) : Type 0 where
 abbrev pub IsSteady : WorldError → SiteView → SiteView → Type 0
 IsSteady why old new = why ≢ error.Disk → new.disk.faults ≡ old.disk.faults
 
--- the journal's file reads as before, where the disk did not fail
-abbrev pub ReadsAsBefore : WorldError → SiteView → SiteView → Type 0
-ReadsAsBefore why old new = why ≢ error.Disk → new.disk.reads 0 ≡ old.disk.reads 0
+-- the file reads as before, where the disk did not fail
+abbrev pub ReadsAsBefore : WorldError → ℕ → SiteView → SiteView → Type 0
+ReadsAsBefore why file old new = why ≢ error.Disk → new.disk.reads file ≡ old.disk.reads file
 
 -- ---- the journal
 
@@ -52,7 +52,7 @@ pub record RefusesJournal (error : WorldError) (given : Given) (run : ℕ) (old 
   pub refused : IsRefusedOpening given run why old new
   pub is : error ≡ opening_refusal why
   pub steady : IsSteady error old new
-  pub reads : ReadsAsBefore error old new
+  pub reads : ReadsAsBefore error 0 old new
 
 -- ---- the filters
 
@@ -68,13 +68,15 @@ abbrev pub blocks_to : ℕ → DiskView → ℕ
 blocks_to zero disk = 0
 blocks_to (suc n) disk = length (disk.reads (suc n)) / 4096 + blocks_to n disk
 
--- the files of agents 1 to n were opened, in order; the journal's and those of the others stay, and no call of the disk failed
+-- The files of agents 1 to n were opened, in order, and read as before; the journal's and those of the others stay, and no call of
+-- the disk failed.
 pub record OpensFilters (n : ℕ) (old new : SiteView) (filters : List ActuatorView) : Type 0 where
   pub many : length filters ≡ n
   pub each : (k : ℕ) (v : ActuatorView) → slice_get filters k ≡ Some v → IsFilterOpen (suc k) new v
   pub goes_on : GoesOn old.disk new.disk
   pub images : (file : ℕ) → 1 ≤ file → file ≤ n → (beat : ℕ) (image : List ℕ) → IsTrue old.disk.told → old.disk.beat ≤ beat
       → beat ≤ new.disk.beat → IsLeft new.disk file beat image → IsLeft old.disk file old.disk.beat image
+  pub reads : (file : ℕ) → 1 ≤ file → file ≤ n → new.disk.reads file ≡ old.disk.reads file
   pub others : (file : ℕ) → (file ≡ 0) ⊎ (n < file) → StaysAt old.disk new.disk file
   pub rest : SameRest old new
   pub steady : new.disk.faults ≡ old.disk.faults
@@ -85,6 +87,7 @@ pub record OpensFilters (n : ℕ) (old new : SiteView) (filters : List ActuatorV
 pub record OpensNext (agent : ℕ) (old new : SiteView) (fs gs : List ActuatorView) : Type 0 where
   pub opens : OpensFile agent old new
   pub steady : new.disk.faults ≡ old.disk.faults
+  pub reads : new.disk.reads agent ≡ old.disk.reads agent
   pub v : ActuatorView
   pub is_open : IsFilterOpen agent new v
   pub more : gs ≡ fs ++ v ∷ []
@@ -92,7 +95,8 @@ pub record OpensNext (agent : ℕ) (old new : SiteView) (fs gs : List ActuatorVi
 -- why a filter's file was not opened
 abbrev pub IsFileCause : WorldError → ℕ → SiteView → SiteView → Type 0
 IsFileCause error.Disk agent old new = Rose old.disk.faults new.disk.faults
-IsFileCause (error.Damaged file place) agent old new = (file ≡ agent) × IsDurable agent new.disk × (IsTrue old.disk.told → IsDamaged (new.disk.reads agent) place)
+IsFileCause (error.Damaged file place) agent old new =
+    (file ≡ agent) × IsDurable agent new.disk × (IsTrue old.disk.told → IsDamaged (new.disk.reads agent) place)
 IsFileCause error.Memory agent old new = ⊤
 IsFileCause other agent old new = ⊥
 
@@ -100,6 +104,7 @@ pub record RefusesFile (error : WorldError) (agent : ℕ) (old new : SiteView) :
   pub opens : OpensFile agent old new
   pub why : IsFileCause error agent old new
   pub steady : IsSteady error old new
+  pub reads : ReadsAsBefore error agent old new
 
 -- the files of the agents before it were opened, and that of this one was not
 pub record RefusesFilters (error : WorldError) (old new : SiteView) : Type 0 where

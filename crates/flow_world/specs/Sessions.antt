@@ -28,18 +28,21 @@ pub record Went (given : Given) (run most : ℕ) (answers : List OperatorAnswer)
   pub cause : HasCause start to
 
 -- it closed so
-pub record HasClosed (close : Close) (given : Given) (run most : ℕ) (answers : List OperatorAnswer) (old new : SiteView) : Type 0 where
+pub record HasClosed (close : Close) (given : Given) (run most : ℕ) (answers : List OperatorAnswer)
+    (old new : SiteView) : Type 0 where
   pub went : Went given run most answers old new
   pub closes : IsClose close went.to
 
 -- it refused, with all files open
-pub record RefusesLater (error : WorldError) (given : Given) (run most : ℕ) (answers : List OperatorAnswer) (old new : SiteView) : Type 0 where
+pub record RefusesLater (error : WorldError) (given : Given) (run most : ℕ) (answers : List OperatorAnswer)
+    (old new : SiteView) : Type 0 where
   pub went : Went given run most answers old new
   pub refuses : IsRefusal error went.to
 
 -- it refused, while files were opened or later
 abbrev pub HasRefused : WorldError → Given → ℕ → ℕ → List OperatorAnswer → SiteView → SiteView → Type 0
-HasRefused error given run most answers old new = RefusesOpening error given run old new ⊎ RefusesLater error given run most answers old new
+HasRefused error given run most answers old new =
+    RefusesOpening error given run old new ⊎ RefusesLater error given run most answers old new
 
 -- A session may begin here, under a fresh number, and the site tells its files and its parcels. Of lines said before nothing is
 -- known where the site doesn't tell them.

@@ -30,6 +30,8 @@ impl Actuator {
             → (D.view disk.new).disk.calls
             ≤ (D.view disk.old).disk.calls + 3 + length ((D.view disk.new).disk.reads agent) / 4096 }
         ensures bytes { (D.view disk.new).disk.written ≤ (D.view disk.old).disk.written }
+        // Unless the disk failed, the file reads as before.
+        ensures reads { result ≢ Err ActError.Disk → (D.view disk.new).disk.reads agent ≡ (D.view disk.old).disk.reads agent }
 
         // The one image then stands for the value's acts.
         ensures ready { IfOk result (λ actuator. IsReady actuator (D.view disk.new)) }
