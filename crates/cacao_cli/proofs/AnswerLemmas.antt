@@ -1,24 +1,20 @@
 -- Which statuses a command may answer.
-use Rattle.std.proofs.Common.{◌≡◌, ◌⊎◌, inl, inr, ◌∙◌, refl, sym, ap, subst, arith, ℕ, Bool, true, false, List, [], ◌∷◌, Option, Some, None, Result, Ok, Err, map}
+use Rattle.std.proofs.Common.{◌≡◌, ◌⊎◌, inl, inr, refl, sym, subst, ℕ, Bool, true, false, List, [], ◌∷◌, Option, Some, None, Result, Ok, Err, map}
 use Rattle.std.specs.Prelude.{if◌then◌else◌, nat_eq}
 use Rattle.std.specs.List.{list_any}
 use Rattle.serde_json.specs.Data.{Data}
 use Rattle.cacao_check.specs.declared.breaks.Mode.TheVariants.{Read as Reading}
-use Rattle.memory_site.specs.MemorySite.{view_of}
 use Rattle.cacao_site.specs.View.{SiteView}
 use Rattle.oc2_nets.specs.declared.packets.Packet.{Packet}
 use Rattle.filter_reports.specs.PacketFiles.{packets_of}
-use Rattle.cacao_words.specs.Requests.{RunRequest}
 use Rattle.cacao_cli.specs.Asked.{Asked, canonises, checks, runs, shows, lists_rules, decides, shadows, rehearses, audits}
 use Rattle.cacao_cli.specs.Ended.{Ended}
-use Rattle.cacao_cli.specs.Ends.{End, status_of, done, accepted, agrees, disagrees, refused, bind_refused, ended_ok, ended_failed, paused, waiting}
-use Rattle.cacao_cli.specs.Ends.{flooded, asked_for, other_run, other_book, run_used, not_understood, past, shelf_failed, no_such_file, not_readable}
-use Rattle.cacao_cli.specs.Ends.{rehearsed, damaged, disk_failed, unsaid, no_memory}
-use Rattle.cacao_cli.specs.Exact.{IsOneOf, session_statuses}
+use Rattle.cacao_cli.specs.Ends.{End, status_of, done, accepted}
+use Rattle.cacao_cli.specs.Ends.{past}
+use Rattle.cacao_cli.specs.Exact.{IsOneOf, run_rehearsal_statuses}
 use Rattle.cacao_cli.specs.Files.{Files, NamedText, Reads, ShelfCall, files_of, has_too_many}
 use Rattle.cacao_cli.specs.Leaves.{CountsDisk}
-use Rattle.cacao_cli.specs.Rehearsing.{MayEndSo, TellsRehearsal}
-use Rattle.cacao_cli.specs.Statuses.{MayAnswer, rehearsal_statuses, statuses_of}
+use Rattle.cacao_cli.specs.Statuses.{IsOwnStatus, rehearsal_statuses, statuses_of}
 use Rattle.cacao_cli.specs.Work.{Work, ends, judges, opens_filter, opens_run, compares, rehearsals, starts, at_decisions, canon_line, or_end, packets_or_end, start_of, trees_of, trees_wanted, work, work_on}
 use Rattle.cacao_cli.specs.declared.limit.Limit.TheVariants.{BookCount}
 use Rattle.cacao_cli.proofs.CauseLemmas.{TreesCase, all_trees, one_treeless, trees_case}
@@ -27,57 +23,8 @@ use Rattle.cacao_cli.proofs.ExactLemmas.{Comes, performs-comes}
 use Rattle.cacao_cli.proofs.JudgedLemmas.{settled-listed}
 use Rattle.cacao_cli.proofs.LineLemmas.{IsCutOff}
 use Rattle.cacao_cli.proofs.ReadLemmas.{Read, empty-read}
-use Rattle.cacao_cli.proofs.RehearseLemmas.{run-listed}
-use Rattle.cacao_cli.proofs.StatusLists.{are_among, not-among, widen}
-
--- ---- a rehearsal
-
--- the statuses of a session that no rehearsal answers
-abbrev left-out : List ℕ
-left-out = 7 ∷ 12 ∷ 13 ∷ 14 ∷ 16 ∷ []
-
-may-status : (last : End) → MayEndSo last → list_any (nat_eq (status_of last)) left-out ≡ false
-may-status done h = refl
-may-status accepted h = refl
-may-status (agrees records acts) h = refl
-may-status (disagrees file place) h = refl
-may-status (refused broken) h = refl
-may-status (bind_refused rule) h = refl
-may-status ended_ok h = refl
-may-status ended_failed h = refl
-may-status paused h = absurd h
-may-status (waiting moment) h = absurd h
-may-status flooded h = refl
-may-status (asked_for issue) h = absurd h
-may-status (other_run held asked) h = absurd h
-may-status (other_book index) h = absurd h
-may-status (run_used agent) h = absurd h
-may-status not_understood h = refl
-may-status (past limit) h = refl
-may-status (shelf_failed name) h = refl
-may-status (no_such_file name) h = refl
-may-status (not_readable name reason) h = refl
-may-status (rehearsed positions records acts rules) h = refl
-may-status (damaged file place) h = absurd h
-may-status disk_failed h = refl
-may-status unsaid h = refl
-may-status no_memory h = refl
-
--- and those that are left
-left-over : (n : ℕ) → IsOneOf n session_statuses → (IsOneOf n left-out → ⊥) → IsOneOf n rehearsal_statuses
-left-over n (inl e) others = inl e
-left-over n (inr (inl e)) others = inr (inr (inl e))
-left-over n (inr (inr (inl e))) others = absurd (others (inl e))
-left-over n (inr (inr (inr (inl e)))) others = inr (inr (inr (inl e)))
-left-over n (inr (inr (inr (inr (inl e))))) others = inr (inr (inr (inr (inl e))))
-left-over n (inr (inr (inr (inr (inr (inl e)))))) others = inr (inr (inr (inr (inr (inl e)))))
-left-over n (inr (inr (inr (inr (inr (inr (inl e))))))) others = inr (inr (inr (inr (inr (inr (inl e))))))
-left-over n (inr (inr (inr (inr (inr (inr (inr (inl e)))))))) others = absurd (others (inr (inl e)))
-left-over n (inr (inr (inr (inr (inr (inr (inr (inr (inl e))))))))) others = absurd (others (inr (inr (inl e))))
-left-over n (inr (inr (inr (inr (inr (inr (inr (inr (inr (inl e)))))))))) others = absurd (others (inr (inr (inr (inl e)))))
-left-over n (inr (inr (inr (inr (inr (inr (inr (inr (inr (inr (inl e))))))))))) others = inr (inr (inr (inr (inr (inr (inr (inl e)))))))
-left-over n (inr (inr (inr (inr (inr (inr (inr (inr (inr (inr (inr (inl e)))))))))))) others = absurd (others (inr (inr (inr (inr (inl e))))))
-left-over n (inr (inr (inr (inr (inr (inr (inr (inr (inr (inr (inr (inr none)))))))))))) others = absurd none
+use Rattle.cacao_cli.proofs.RehearseLemmas.{ran-listed}
+use Rattle.cacao_cli.proofs.StatusLists.{are_among, not-among, session_statuses, widen}
 
 -- ---- the statuses of the work
 
@@ -106,8 +53,7 @@ comes-listed (compares files) old new n (inr (inl h)) = inr (inl h.1)
 comes-listed (compares files) old new n (inr (inr h)) = inr (inr (inl h.1))
 comes-listed (rehearsals positions) old new n (inl h) = inr (inr (inr (inr (inr (inr (inl h.1))))))
 comes-listed (rehearsals positions) old new n (inr (inl h)) = inr (inl h.1)
-comes-listed (rehearsals positions) old new n (inr (inr h)) = subst (λ (m : ℕ). IsOneOf m rehearsal_statuses) (sym h.is)
-    (left-over (status_of h.last) (run-listed positions h.came.given (view_of h.came.site) (view_of h.came.left) h.last h.came.runs) (not-among (status_of h.last) left-out (may-status h.last h.came.may)))
+comes-listed (rehearsals positions) old new n (inr (inr h)) = widen n run_rehearsal_statuses rehearsal_statuses refl (ran-listed positions n h)
 comes-listed (starts start) old new n (inl h) = inl h.1
 comes-listed (starts start) old new n (inr (inl h)) = inr (inl h.1)
 comes-listed (starts start) old new n (inr (inr h)) = inr (inr (settled-listed start h))
@@ -174,7 +120,7 @@ module _ (n : ℕ) where
   by-work (audits engine filters) told count read reads = by-read (audits engine filters) read refl (λ end e. read-status told (files_of (Some (audits engine filters))) count read end reads e)
 
   -- a line could not be said, or memory was wanted
-  by-cut : (asked : Option Asked) → IsCutOff n → MayAnswer asked n
+  by-cut : (asked : Option Asked) → IsCutOff n → IsOwnStatus asked n
   by-cut None h = widen n (9 ∷ 10 ∷ []) (statuses_of None) refl h
   by-cut (Some (canonises book)) h = widen n (9 ∷ 10 ∷ []) (statuses_of (Some (canonises book))) refl h
   by-cut (Some (checks books)) h = widen n (9 ∷ 10 ∷ []) (statuses_of (Some (checks books))) refl h
@@ -186,11 +132,11 @@ module _ (n : ℕ) where
   by-cut (Some (rehearses positions)) h = widen n (9 ∷ 10 ∷ []) (statuses_of (Some (rehearses positions))) refl h
   by-cut (Some (audits engine filters)) h = widen n (9 ∷ 10 ∷ []) (statuses_of (Some (audits engine filters))) refl h
 
-pub answers-ended : (asked : Option Asked) (shelf : ShelfCall) (old new : SiteView) (answer : ℕ) → Ended asked shelf old new answer → MayAnswer asked answer
+pub answers-ended : (asked : Option Asked) (shelf : ShelfCall) (old new : SiteView) (answer : ℕ) → Ended asked shelf old new answer → IsOwnStatus asked answer
 answers-ended None shelf old new answer h = not_understood-ended None shelf old new answer h refl
 answers-ended (Some asked) shelf old new answer h = go (performs-comes (work (Some asked) h.performed.read) old h.between new h.last answer h.performed.performs h.tells)
   where
-    go : Comes (work (Some asked) h.performed.read) old new answer ⊎ IsCutOff answer → MayAnswer (Some asked) answer
+    go : Comes (work (Some asked) h.performed.read) old new answer ⊎ IsCutOff answer → IsOwnStatus (Some asked) answer
     go (inl c) = by-work answer asked shelf.told h.performed.reads.count h.performed.read h.performed.reads.reads (comes-listed (work (Some asked) h.performed.read) old new answer c)
     go (inr c) = by-cut answer (Some asked) c
 
@@ -198,7 +144,7 @@ answers-ended (Some asked) shelf old new answer h = go (performs-comes (work (So
 
 -- a status that is not in the list does not come
 pub never : (asked : Option Asked) (shelf : ShelfCall) (old new : SiteView) (answer m : ℕ) → list_any (nat_eq m) (statuses_of asked) ≡ false → Ended asked shelf old new answer → answer ≡ m → ⊥
-never asked shelf old new answer m none h e = not-among m (statuses_of asked) none (subst (λ (k : ℕ). MayAnswer asked k) e (answers-ended asked shelf old new answer h))
+never asked shelf old new answer m none h e = not-among m (statuses_of asked) none (subst (λ (k : ℕ). IsOwnStatus asked k) e (answers-ended asked shelf old new answer h))
 
 pub disk-ended : (asked : Option Asked) (shelf : ShelfCall) (old new : SiteView) (answer : ℕ) → Ended asked shelf old new answer → answer ≡ 8 → CountsDisk asked old new
 disk-ended None shelf old new answer h e = never None shelf old new answer 8 refl h e

@@ -5,7 +5,7 @@ use Rattle.cacao_site.specs.View.{SiteView}
 use Rattle.flow_audit.specs.declared.verdict.Verdict17.{Verdict17}
 use Rattle.flow_audit.specs.declared.verdict.Verdict17.TheVariants as verdict
 use Rattle.cacao_words.specs.Words.{Text}
-use Rattle.cacao_cli.specs.Audited.{Agree, Compares, Disagree, IsOnlyVerdict, PassTasks, TellsFiles, verdict_end}
+use Rattle.cacao_cli.specs.Audited.{FilesAgree, Compares, Disagree, IsOnlyVerdict, PassTasks, TellsFiles, verdict_end}
 use Rattle.cacao_cli.specs.Ends.{End, status_of, text_of}
 use Rattle.cacao_cli.specs.Exact.{HasVerdict}
 use Rattle.cacao_cli.specs.Lines.{Tells}
@@ -68,12 +68,12 @@ compares-failed files old mid new last answer h tells e = go (tells-status last 
 
 -- ---- the status settles the cause
 
-pub verdict-agree : (files : List Text) (n : ℕ) → HasVerdict files n → n ≡ 0 → Agree files
+pub verdict-agree : (files : List Text) (n : ℕ) → HasVerdict files n → n ≡ 0 → FilesAgree files
 verdict-agree files n (inl h) e = record { within = h.0.2.within; records = h.0.0; acts = h.0.1; agree = h.0.2.is }
 verdict-agree files n (inr (inl h)) e = absurd (omega (arith, e, h.1))
 verdict-agree files n (inr (inr h)) e = absurd (omega (arith, e, h.1))
 
-pub agree-verdict : (files : List Text) (n : ℕ) → HasVerdict files n → Agree files → n ≡ 0
+pub agree-verdict : (files : List Text) (n : ℕ) → HasVerdict files n → FilesAgree files → n ≡ 0
 agree-verdict files n (inl h) a = h.1
 agree-verdict files n (inr (inl h)) a = absurd (apart (h.0.2.one (verdict.Yes a.records a.acts) a.agree))
   where

@@ -23,12 +23,12 @@ use Rattle.flow_world.specs.declared.close.Close.{Close}
 use Rattle.flow_world.specs.declared.close.Close.TheVariants as close
 use Rattle.flow_world.specs.declared.error.WorldError.{WorldError}
 use Rattle.flow_world.specs.declared.error.WorldError.TheVariants as error
-use Rattle.session_laws.specs.Complete.{Completes as SessionCompletes, EndsSo, IsForThisRun, IsUndisturbed, NoneFindsAnother, StopsSo, TellsOfAnother}
-use Rattle.session_laws.specs.Undamaged.{GoodIsUndamaged, IsAccepted, IsUndamaged, NoneFindsDamage}
+use Rattle.session_laws.specs.Complete.{EndsSo, IsForThisRun, IsUndisturbed, NoneFindsAnother, StopsSo, TellsOfAnother, UndisturbedCompletes}
+use Rattle.session_laws.specs.Undamaged.{ComesOfTexts, GoodIsUndamaged, IsUndamaged, NoneFindsDamage}
 use Rattle.cacao_words.specs.Requests.{RunRequest}
 use Rattle.cacao_cli.specs.Asked.{Asked, canonises, checks, runs, shows, lists_rules, decides, shadows, rehearses, audits}
 use Rattle.cacao_cli.specs.Causes.{HasTexts, HasTrees, LacksTree}
-use Rattle.cacao_cli.specs.Completing.{AddsNoExpire, Completes, CompletesSo, EachSendIsDone, HasNoRecord, HasOwnFile}
+use Rattle.cacao_cli.specs.Completing.{AddsNoExpire, Completes, CompletesSo, EachSendIsDone, FileHasNoRecord, HasOwnFile}
 use Rattle.cacao_cli.specs.Ended.{Ended, Performed, Performs}
 use Rattle.cacao_cli.specs.Ends.{End, status_of, text_of, accepted, disk_failed, done, no_memory, past, shelf_failed}
 use Rattle.cacao_cli.specs.Exact.{HasVerdict, IsOneOf, file_faults}
@@ -101,7 +101,7 @@ module _ (undamaged : GoodIsUndamaged) (none : NoneFindsDamage) (old mid new : S
       let each = opens.only.each in
       each.each told mid.disk.beat (mid.disk.reads file) each.goes_on.later (omega arith) (sound_mid.reads file (told-goes_on each.goes_on told))
 
-  none-refused : (given : Given) (run most : ℕ) (answers : List OperatorAnswer) (why : WorldError) → IsAccepted given → HasRefused why given run most answers old mid → status_of (error_end why) ≡ 13 → ⊥
+  none-refused : (given : Given) (run most : ℕ) (answers : List OperatorAnswer) (why : WorldError) → ComesOfTexts given → HasRefused why given run most answers old mid → status_of (error_end why) ≡ 13 → ⊥
   none-refused given run most answers error.Disk is h e = omega (arith, e)
   none-refused given run most answers (error.Damaged file place) is h e = none given run most answers old mid file place is told good sound_mid h
   none-refused given run most answers (error.OtherRun held asked) is h e = omega (arith, e)
@@ -306,7 +306,7 @@ undisturbed-before old mid new behind said u = record {
 not-unsaid : (before after : ℕ) → Rose before after → DidNotRise before after → ⊥
 not-unsaid before after rose same = omega (arith, rose, same.0, same.1)
 
-module _ (no_other : NoneFindsAnother) (completes : SessionCompletes) (start : Start) (old mid new : SiteView) (last : End) (answer : ℕ) (sound_old : IsSound old) (sound : IsSound mid) (is : IsStart old start.run)
+module _ (no_other : NoneFindsAnother) (completes : UndisturbedCompletes) (start : Start) (old mid new : SiteView) (last : End) (answer : ℕ) (sound_old : IsSound old) (sound : IsSound mid) (is : IsStart old start.run)
     (unsaid : answer ≡ 9 → Rose old.clock.unsaid new.clock.unsaid) (tells : Tells last mid new answer) where
   said-all : IsUndisturbed old new → new.clock.unsaid ≡ mid.clock.unsaid
   said-all u = last-said last (text_of last) mid new answer tells (λ e. not-unsaid old.clock.unsaid new.clock.unsaid (unsaid e) u.unsaid)
@@ -399,7 +399,7 @@ module _ (no_other : NoneFindsAnother) (completes : SessionCompletes) (start : S
   }
   started-completes (inr (inr (inr (inl h)))) = go h.holds.held
     where
-      accepted_is : IsAccepted h.given
+      accepted_is : ComesOfTexts h.given
       accepted_is = record { texts = start.books; bind = start.bind; accepted = h.accepted }
 
       agreed : KeepsAgreement old mid
@@ -408,7 +408,7 @@ module _ (no_other : NoneFindsAnother) (completes : SessionCompletes) (start : S
       comes : (o : HasOwnFile start old) (u : IsUndisturbed old new) → ((how : Close) → HasClosed how h.given start.run start.most h.answers old mid → EndsSo how) × ((why : WorldError) → HasRefused why h.given start.run start.most h.answers old mid → StopsSo why)
       comes o u = completes h.given start.run start.most h.answers old mid accepted_is is (own-file h.given o h.accepted) sound (before u)
 
-      done-by : (how : Close) → last ≡ close_end how → HasClosed how h.given start.run start.most h.answers old mid → DidNotRise old.clock.mishaps new.clock.mishaps → HasNoRecord old
+      done-by : (how : Close) → last ≡ close_end how → HasClosed how h.given start.run start.most h.answers old mid → DidNotRise old.clock.mishaps new.clock.mishaps → FileHasNoRecord old
           → (answer ≡ 0) ⊎ (answer ≡ 6) → EachSendIsDone start.run new
       done-by (close.Ended well) e c still_ none either =
           done-there old mid new bytes-there start.run (ended-done old mid start.run sound is h.given start.most h.answers agreed.told well c (still-before still_) none agreed)
@@ -438,7 +438,7 @@ module _ (no_other : NoneFindsAnother) (completes : SessionCompletes) (start : S
     sends_done = λ m none e. absurd (undone no_memory h.ends (λ f. omega (arith, f)) (λ f. omega (arith, f)) e);
   }
 
-module _ (no_other : NoneFindsAnother) (completes : SessionCompletes) (wanted : RunRequest) (files : Files) (old mid new : SiteView) (last : End) (answer : ℕ) (sound_old : IsSound old) (sound : IsSound mid) (is : IsStart old wanted.run)
+module _ (no_other : NoneFindsAnother) (completes : UndisturbedCompletes) (wanted : RunRequest) (files : Files) (old mid new : SiteView) (last : End) (answer : ℕ) (sound_old : IsSound old) (sound : IsSound mid) (is : IsStart old wanted.run)
     (unsaid : answer ≡ 9 → Rose old.clock.unsaid new.clock.unsaid) (tells : Tells last mid new answer) where
   run-completes : Performs (work (Some (runs wanted)) (reading files (files_of (Some (runs wanted))))) old mid last → (texts : List NamedText) → HasTexts files wanted texts → HasTrees wanted texts
       → CompletesSo (start_of wanted texts) old new answer
@@ -505,7 +505,7 @@ unread-same asked read end old mid last is p = go (has_too_many asked) (subst (�
     go true p = says-none (past BookCount) old mid last p
     go false p = says-none end old mid last p
 
-pub completes-ended : NoneFindsAnother → SessionCompletes → (asked : Option Asked) (shelf : ShelfCall) (old mid new : SiteView) (last : End) (answer : ℕ) → IsSound old → IsSound mid → Performed asked shelf old mid last
+pub completes-ended : NoneFindsAnother → UndisturbedCompletes → (asked : Option Asked) (shelf : ShelfCall) (old mid new : SiteView) (last : End) (answer : ℕ) → IsSound old → IsSound mid → Performed asked shelf old mid last
     → Tells last mid new answer → Completes asked shelf.told old new answer
 completes-ended no_other completes None shelf old mid new last answer sound_old sound p tells = tt
 completes-ended no_other completes (Some (canonises book)) shelf old mid new last answer sound_old sound p tells = tt

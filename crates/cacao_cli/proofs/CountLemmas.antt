@@ -15,14 +15,14 @@ use Rattle.cacao_cli.specs.Files.{File, Files, Content, ShelfCall, NamedText, Re
 use Rattle.cacao_cli.specs.Lines.{SaysWork, Tells}
 use Rattle.cacao_cli.specs.Work.{Work, ends, judges, opens_filter, opens_run, compares, rehearsals, at_decisions, or_end, packets_or_end, trees_of, canon_line, work, work_on, starts, start_of, trees_wanted}
 use Rattle.cacao_cli.specs.Ended.{Performs, Performed, Ended}
-use Rattle.cacao_cli.specs.Exact.{IsOneOf, session_statuses}
+use Rattle.cacao_cli.specs.Exact.{IsOneOf}
 use Rattle.cacao_cli.specs.Leaves.{CountsDisk, CountsUnsaid, NoFault}
 use Rattle.cacao_cli.specs.declared.limit.Limit.TheVariants.{BookCount}
 use Rattle.cacao_cli.proofs.AuditLemmas.{compares-failed, compares-said, compares-unsaid, has-other}
 use Rattle.cacao_cli.proofs.RehearseLemmas.{rehearsed-other, rehearses-failed, rehearses-said, rehearses-unsaid}
 use Rattle.cacao_cli.proofs.CauseLemmas.{TreesCase, all_trees, one_treeless, trees_case}
 use Rattle.cacao_cli.proofs.ExactLemmas.{Comes, performs-comes}
-use Rattle.cacao_cli.proofs.StatusLists.{not-among}
+use Rattle.cacao_cli.proofs.StatusLists.{not-among, session_statuses}
 use Rattle.cacao_cli.proofs.JudgedLemmas.{settled-listed}
 use Rattle.cacao_cli.proofs.EndLemmas.{end-failed, no-more, no_cons}
 use Rattle.cacao_cli.proofs.LeaveLemmas.{rehearse-performed}

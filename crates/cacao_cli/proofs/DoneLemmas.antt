@@ -14,8 +14,8 @@ use Rattle.flow_steps.specs.Complete.{IsComplete}
 use Rattle.flow_world.specs.Sessions.{HasClosed, IsStart, KeepsAgreement, Went}
 use Rattle.flow_world.specs.declared.close.Close.TheVariants as close
 use Rattle.session_laws.proofs.Answering.{send_is_acted_on}
-use Rattle.cacao_cli.specs.Completing.{EachSendIsDone, HasNoRecord, IsDone}
-use Rattle.cacao_cli.proofs.ReturnedRuns.{closes-filters, closes-sure, had-records, holds-there, sure-records}
+use Rattle.cacao_cli.specs.Completing.{EachSendIsDone, FileHasNoRecord, IsDone}
+use Rattle.cacao_cli.proofs.ReturnedRuns.{closes-filters, closes-sure, had-records, holds-there, sound-reads, sure-records}
 
 module _ (old mid : SiteView) (run : ℕ) (sound : IsSound mid) (is : IsStart old run) where
   module _ (given : Given) (most : ℕ) (answers : List OperatorAnswer) (told : IsTrue mid.disk.told) where
@@ -30,16 +30,16 @@ module _ (old mid : SiteView) (run : ℕ) (sound : IsSound mid) (is : IsStart ol
         went.sums.complete told_there (subst (λ (k : ℕ). DidNotRise k went.to.site.clock.mishaps) (sym clock) at_end)
 
     -- each Send of a run that ended in one session is done
-    pub ended-done : (well : Bool) → HasClosed (close.Ended well) given run most answers old mid → DidNotRise old.clock.mishaps mid.clock.mishaps → HasNoRecord old → KeepsAgreement old mid → EachSendIsDone run mid
+    pub ended-done : (well : Bool) → HasClosed (close.Ended well) given run most answers old mid → DidNotRise old.clock.mishaps mid.clock.mishaps → FileHasNoRecord old → KeepsAgreement old mid → EachSendIsDone run mid
     ended-done well closed still_ none agreed records are task issue agent moment bytes has =
         let went = closed.went in
-        let sure = closes-sure given run most answers old mid sound told went (close.Ended well) closed.closes in
-        let filters = closes-filters given run most answers old mid sound told went (close.Ended well) closed.closes in
-        let all : records ≡ went.to.engine.history.records = same_records (mid.disk.reads 0) records went.to.engine.history.records are (sure-records given run most answers old mid sound told went sure) in
-        let empty : went.start.engine.history.records ≡ [] = none_of_empty (old.disk.reads 0) went.start.engine.history.records none (had-records given run most answers old mid sound told went) in
+        let sure = closes-sure given run most answers old mid (sound-reads mid sound) told went (close.Ended well) closed.closes in
+        let filters = closes-filters given run most answers old mid (sound-reads mid sound) told went (close.Ended well) closed.closes in
+        let all : records ≡ went.to.engine.history.records = same_records (mid.disk.reads 0) records went.to.engine.history.records are (sure-records given run most answers old mid (sound-reads mid sound) told went sure) in
+        let empty : went.start.engine.history.records ≡ [] = none_of_empty (old.disk.reads 0) went.start.engine.history.records none (had-records given run most answers old mid (sound-reads mid sound) told went) in
         let d = send_is_acted_on well given run most answers old mid closed empty is.pending still_ agreed sound task issue agent moment bytes
         (subst (λ (l : List Record). Contains l (entry.Send task issue agent moment bytes)) all has) in
-        let f = holds-there given run most answers old mid sound told went filters agent d.low d.v d.there in
+        let f = holds-there given run most answers old mid (sound-reads mid sound) told went filters agent d.low d.v d.there in
         record {
           moment = d.moment;
           status = d.status;

@@ -13,7 +13,7 @@ use Rattle.cacao_cli.specs.Files.{File, Files, NamedText, ShelfCall, Reads, file
 use Rattle.cacao_cli.specs.Lines.{Tells}
 use Rattle.cacao_cli.specs.Work.{Work, ends, judges, opens_filter, opens_run, compares, rehearsals, or_end, canon_line, trees_of, work, work_on, starts, start_of, trees_wanted}
 use Rattle.cacao_cli.specs.Ended.{Performs, Performed, Ended}
-use Rattle.cacao_cli.specs.Exact.{IsBroken, IsOneOf, IfFilesTold, IfTold, HasStatus, HasVerdict, HasRehearsed, Answers, file_faults, faults_of}
+use Rattle.cacao_cli.specs.Exact.{IsBroken, IsOneOf, IfFilesTold, IfTold, HasStatus, HasVerdict, HasRehearsed, AnswersExactly, file_faults, faults_of}
 use Rattle.cacao_cli.specs.declared.limit.Limit.TheVariants.{BookCount}
 use Rattle.cacao_cli.proofs.AuditLemmas.{compares-comes}
 use Rattle.cacao_cli.proofs.RehearseLemmas.{rehearses-comes}
@@ -268,5 +268,5 @@ status-told asked files shelf old new answer disk seen ended = go asked disk (st
     go (Some (audits engine filters)) told h = plain (Some (audits engine filters)) (audit-plain engine filters files) h
     go (Some (decides agent packets)) told h = opened (Some (decides agent packets)) told (λ e. inr (inl e)) h
 
-pub exact-ended : (asked : Option Asked) (shelf : ShelfCall) (old new : SiteView) (answer : ℕ) → Ended asked shelf old new answer → Answers asked shelf.told old new answer
+pub exact-ended : (asked : Option Asked) (shelf : ShelfCall) (old new : SiteView) (answer : ℕ) → Ended asked shelf old new answer → AnswersExactly asked shelf.told old new answer
 exact-ended asked shelf old new answer ended = if-asked asked shelf.told old _ (λ disk files seen. status-told asked files shelf old new answer disk seen ended)

@@ -32,7 +32,7 @@ use Rattle.session_laws.proofs.Opening.{OnlyOpens, opens_refused}
 use Rattle.session_laws.proofs.Undamaged.{reads_agree}
 use Rattle.cacao_cli.specs.Completing.{AddsNoExpire}
 use Rattle.cacao_cli.proofs.DoneLemmas.{complete}
-use Rattle.cacao_cli.proofs.ReturnedRuns.{gains-added, had-records, sound-there, told-there}
+use Rattle.cacao_cli.proofs.ReturnedRuns.{gains-added, had-records, sound-reads, sound-there, told-there}
 
 -- ---- lists that end with one
 
@@ -168,7 +168,7 @@ module _ (old mid new : SiteView) (run : ℕ) (sound_old : IsSound old) (sound :
       left = was-left;
       same = λ s. refl;
       before = went.start.engine.history.records;
-      had = had-records given run most answers old mid sound told went;
+      had = had-records given run most answers old mid (sound-reads mid sound) told went;
       added = added;
       has = there (went.start.engine.history.records ++ added) has;
       none = none;
@@ -189,8 +189,8 @@ module _ (old mid new : SiteView) (run : ℕ) (sound_old : IsSound old) (sound :
 
         holds : HoldsWithUnsure records went.to.notes.unsure (mid.disk.reads 0)
         holds = subst (λ (s : SiteView). HoldsWithUnsure records went.to.notes.unsure (s.disk.reads 0)) went.to_is
-            (went.sums.journal.holds (told-there given run most answers old mid sound told went) (went.to.site.disk.reads 0)
-            ((sound-there given run most answers old mid sound told went).reads 0 (told-there given run most answers old mid sound told went)))
+            (went.sums.journal.holds (told-there given run most answers old mid (sound-reads mid sound) told went) (went.to.site.disk.reads 0)
+            ((sound-there given run most answers old mid (sound-reads mid sound) told went).reads 0 (told-there given run most answers old mid (sound-reads mid sound) told went)))
 
         ranges : AllByRecursion InRange records
         ranges = went.sums.journal.engine.history.ranges
@@ -217,7 +217,7 @@ module _ (old mid new : SiteView) (run : ℕ) (sound_old : IsSound old) (sound :
     went-none = by went.sums.unbroken.journal
       where
         by : IsJournalSure went.to ⊎ ((r : Record) × UnsureByStep went.start went.to r) → AddsNoExpire old new
-        by (inl sure) = gained went.sums.adds.added (gains-added given run most answers old mid sound told went sure).has none-among
+        by (inl sure) = gained went.sums.adds.added (gains-added given run most answers old mid (sound-reads mid sound) told went sure).has none-among
         by (inr h) = unsure-none h.0 h.1
 
   pub refused-adds : (why : WorldError) (given : Given) (most : ℕ) (answers : List OperatorAnswer) → IsTrue mid.disk.told → DidNotRise old.clock.mishaps mid.clock.mishaps

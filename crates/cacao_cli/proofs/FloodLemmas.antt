@@ -3,9 +3,7 @@ use Rattle.std.proofs.Common.{◌≡◌, ◌≢◌, ◌∙◌, refl, sym, ap, su
 use Rattle.std.specs.Prelude.{IfSome, IsSome, IsTrue, nat_eq, slice_get, if◌then◌else◌}
 use Rattle.std.specs.List.{AllByRecursion}
 use Rattle.std.proofs.lemmas.Bool.{false≢true}
-use Rattle.cacao_site.specs.DiskCalls.{IsDurable, IsLeft}
 use Rattle.cacao_site.specs.LinkCalls.{GainsAll}
-use Rattle.cacao_site.specs.Sound.{IsSound}
 use Rattle.cacao_site.specs.View.{LinkView, SiteView}
 use Rattle.cacao_site.specs.declared.parcel.Parcel.{Parcel}
 use Rattle.run_records.specs.declared.act.Act.{Act}
@@ -14,7 +12,7 @@ use Rattle.flow_rules.specs.Givens.{Given}
 use Rattle.operator_answers.specs.declared.answers.OperatorAnswer.{OperatorAnswer}
 use Rattle.flow_laws.specs.Images.{IsActs, IsAgent}
 use Rattle.flow_laws.proofs.OneList.{acts_of_layout, same_acts, same_records}
-use Rattle.slpf_actuator.specs.ActuatorView.{ActuatorView, HoldsActs}
+use Rattle.slpf_actuator.specs.ActuatorView.{ActuatorView}
 use Rattle.flow_steps.specs.Appends.{Tries}
 use Rattle.flow_steps.specs.Appends.Tries.{done, failed, limited}
 use Rattle.flow_steps.specs.Grown.{HasGrown, acts_of}
@@ -31,7 +29,7 @@ use Rattle.flow_world.specs.Openings.{IsFilterOpen}
 use Rattle.flow_world.specs.Sessions.{Went}
 use Rattle.cacao_cli.specs.Returning.{FloodsSo, GainsActs}
 use Rattle.cacao_cli.specs.Work.{Start}
-use Rattle.cacao_cli.proofs.ReturnedRuns.{gains-added, goes-later, holds-there, there-at, told-middle, told-start}
+use Rattle.cacao_cli.proofs.ReturnedRuns.{ReadsImages, gains-added, holds-there, there-at, told-start}
 
 -- ---- acts are of agents
 
@@ -163,11 +161,10 @@ same-behind (x ∷ xs) ys zs e = same-behind xs ys zs (tails e)
     tails : x ∷ (xs ++ ys) ≡ x ∷ (xs ++ zs) → xs ++ ys ≡ xs ++ zs
     tails e = cc
 
--- an agent's file that had one image gained one list of acts
-one-gain : (agent : ℕ) (xs ys : List Act) (old mid : SiteView) → IsDurable agent old.disk → GainsActs agent xs old mid → GainsActs agent ys old mid → xs ≡ ys
-one-gain agent xs ys old mid durable a b =
-    let images : a.image ≡ b.image = durable a.image a.left ∙ sym (durable b.image b.left) in
-    let before : a.before ≡ b.before = same_acts b.image a.before b.before (subst (λ (i : List ℕ). IsActs i a.before) images a.had) b.had in
+-- an agent's file gained one list of acts
+one-gain : (agent : ℕ) (xs ys : List Act) (old mid : SiteView) → GainsActs agent xs old mid → GainsActs agent ys old mid → xs ≡ ys
+one-gain agent xs ys old mid a b =
+    let before : a.before ≡ b.before = same_acts (old.disk.reads agent) a.before b.before a.had b.had in
     same-behind b.before xs ys (subst (λ (l : List Act). l ++ xs ≡ b.before ++ ys) before (same_acts (mid.disk.reads agent) (a.before ++ xs) (b.before ++ ys) a.has b.has))
 
 -- one number of parcels was taken
@@ -191,7 +188,7 @@ same-not start old mid same f some = by old.link.taken some (subst (λ (o : Opti
     by None some g = false≢true some
     by (Some xs) some g = omega (arith, g)
 
-module _ (given : Given) (run most : ℕ) (answers : List OperatorAnswer) (old mid : SiteView) (sound : IsSound mid) (told : IsTrue mid.disk.told) (went : Went given run most answers old mid) where
+module _ (given : Given) (run most : ℕ) (answers : List OperatorAnswer) (old mid : SiteView) (sound : ReadsImages mid) (told : IsTrue mid.disk.told) (went : Went given run most answers old mid) where
   none-acted : went.start.notes.acted ≡ []
   none-acted = ap (λ (n : Notes). n.acted) went.begins.notes
 
@@ -202,14 +199,11 @@ module _ (given : Given) (run most : ℕ) (answers : List OperatorAnswer) (old m
   pub acted-agents : AreOfAgents went.sums.grow.acted
   acted-agents = subst AreOfAgents acted-is (steps-agents went.start went.to went.steps (subst AreOfAgents (sym none-acted) tt))
 
-  -- an image that stood for a filter's acts when it was opened, and when the call began
-  record WasImage (agent : ℕ) (v : ActuatorView) : Type 0 where
-    image : List ℕ
-    left : IsLeft old.disk agent old.disk.beat image
-    had : IsActs image v.acts
-
-  was-image : (agent : ℕ) → IsAgent agent → (v : ActuatorView) → slice_get went.start.filters (agent - 1) ≡ Some v → WasImage agent v
-  was-image agent is v there = record { image = image; left = at-old; had = acts_of_layout image v.acts open_.filter.ready.history.ranges stands }
+  -- the acts that a filter was opened with are those that its file had when the call began
+  pub had-acts : (agent : ℕ) → IsAgent agent → (v : ActuatorView) → slice_get went.start.filters (agent - 1) ≡ Some v → IsActs (old.disk.reads agent) v.acts
+  had-acts agent is v there =
+      subst (λ (image : List ℕ). IsActs image v.acts) as-before
+      (acts_of_layout (went.start.site.disk.reads agent) v.acts open_.filter.ready.history.ranges (open_.stands (told-start given run most answers old mid sound told went)))
     where
       same : suc (agent - 1) ≡ agent
       same = omega (arith, is.0)
@@ -217,25 +211,8 @@ module _ (given : Given) (run most : ℕ) (answers : List OperatorAnswer) (old m
       open_ : IsFilterOpen agent went.start.site v
       open_ = subst (λ (n : ℕ). IsFilterOpen n went.start.site v) same (went.files.others.each (agent - 1) v there)
 
-      found : (image : List ℕ) × IsLeft mid.disk agent went.start.site.disk.beat image
-      found = sound.images agent went.start.site.disk.beat told (goes-later given run most answers old mid sound told went).later
-
-      image : List ℕ
-      image = found.0
-
-      at-start : IsLeft went.start.site.disk agent went.start.site.disk.beat image
-      at-start = subst IsTrue ((goes-later given run most answers old mid sound told went).past agent went.start.site.disk.beat image (omega arith)) found.1
-
-      at-middle : IsLeft went.files.middle.disk agent went.files.middle.disk.beat image
-      at-middle = went.files.others.images agent is.0 is.1 went.start.site.disk.beat image (told-middle given run most answers old mid sound told went)
-          went.files.others.goes_on.later (omega arith) at-start
-
-      at-old : IsLeft old.disk agent old.disk.beat image
-      at-old = subst IsTrue ((went.files.journal.opens.only.others agent (λ e. omega (arith, e, is.0))).images went.files.middle.disk.beat image
-          went.files.journal.opens.only.each.goes_on.later (omega arith)) at-middle
-
-      stands : HoldsActs v.acts image
-      stands = subst (λ (i : List ℕ). HoldsActs v.acts i) (sym (open_.durable image at-start)) (open_.stands (told-start given run most answers old mid sound told went))
+      as-before : went.start.site.disk.reads agent ≡ old.disk.reads agent
+      as-before = went.files.others.reads agent is.0 is.1 ∙ (went.files.journal.opens.only.others agent (λ e. omega (arith, e, is.0))).reads
 
   pub gained-acts : AreFiltersSure went.to → (agent : ℕ) → IsAgent agent → GainsActs agent (acts_of agent went.sums.grow.acted) old mid
   gained-acts sure agent is =
@@ -245,12 +222,9 @@ module _ (given : Given) (run most : ℕ) (answers : List OperatorAnswer) (old m
       let grown : HasGrown found.0 went.to.filters (agent - 1) (acts_of agent went.sums.grow.acted) =
       subst (λ (n : ℕ). HasGrown found.0 went.to.filters (agent - 1) (acts_of n went.sums.grow.acted)) same (went.sums.grow.each (agent - 1) found.0 found.1) in
       let f = holds-there given run most answers old mid sound told went sure agent is.0 grown.now grown.there in
-      let was = was-image agent is found.0 found.1 in
       record {
-        image = was.image;
-        left = was.left;
         before = (found.0).acts;
-        had = was.had;
+        had = had-acts agent is found.0 found.1;
         has = subst (IsActs (mid.disk.reads agent)) grown.has (acts_of_layout (mid.disk.reads agent) (grown.now).acts f.history.ranges f.holds);
       }
 
@@ -282,15 +256,15 @@ module _ (given : Given) (run most : ℕ) (answers : List OperatorAnswer) (old m
 
   -- where 1,000,000 parcels changed neither journal by what the files show, they did by what the session counted
   pub flooded-exactly : (start : Start) → IsJournalSure went.to → AreFiltersSure went.to → went.sums.handles.at_hand ≡ [] → (f : FloodsSo start old mid) → IsSome old.link.taken
-      → ((agent : ℕ) → IsAgent agent → IsDurable agent old.disk) → went.to.notes.ignored ≡ 1_000_000
-  flooded-exactly start sure filters empty f some durable =
+      → went.to.notes.ignored ≡ 1_000_000
+  flooded-exactly start sure filters empty f some =
       let g = gains-added given run most answers old mid sound told went sure in
       let before : f.may.gains.before ≡ g.before = same_records (old.disk.reads 0) f.may.gains.before g.before f.may.gains.had g.had in
       let all : f.may.gains.before ++ f.may.gains.added ≡ g.before ++ g.added = same_records (mid.disk.reads 0) (f.may.gains.before ++ f.may.gains.added) (g.before ++ g.added) f.may.gains.has g.has in
       let added : f.may.gains.added ≡ g.added = same-added g.before f.may.gains.added g.added (subst (λ (l : List Record). l ++ f.may.gains.added ≡ g.before ++ g.added) before all) in
       let replied : total one_reply f.may.gains.added ≡ total one_reply g.added = ap (λ (l : List Record). total one_reply l) added in
       let acted : length f.acted ≡ length went.sums.grow.acted = same-many f.acted went.sums.grow.acted f.of_agents acted-agents
-      (λ agent is. one-gain agent (acts_of agent f.acted) (acts_of agent went.sums.grow.acted) old mid (durable agent is) (f.gained agent is) (gained-acts filters agent is)) in
+      (λ agent is. one-gain agent (acts_of agent f.acted) (acts_of agent went.sums.grow.acted) old mid (f.gained agent is) (gained-acts filters agent is)) in
       let taken : 1_000_000 + total one_reply f.may.gains.added + length f.acted ≡ went.to.notes.ignored + total one_reply g.added + length went.sums.grow.acted =
       one-number old.link.taken mid.link.taken (1_000_000 + total one_reply f.may.gains.added + length f.acted) (went.to.notes.ignored + total one_reply g.added + length went.sums.grow.acted)
       some (some-after old.link.taken mid.link.taken _ some takes-all) f.taken (many-taken empty) in

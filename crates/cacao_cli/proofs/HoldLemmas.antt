@@ -19,9 +19,10 @@ use Rattle.flow_world.specs.declared.error.WorldError.{WorldError}
 use Rattle.flow_world.specs.declared.error.WorldError.TheVariants as error
 use Rattle.flow_world.proofs.CloseLemmas.{closes_are_no_refusals}
 use Rattle.cacao_cli.specs.Ends.{End, status_of, disk_failed, ended_ok, unsaid}
-use Rattle.cacao_cli.specs.Exact.{IsOneOf, session_statuses}
+use Rattle.cacao_cli.specs.Exact.{IsOneOf}
 use Rattle.cacao_cli.specs.Holding.{ClosesSo, HoldsSo, RefusesSo, close_end, error_end}
 use Rattle.cacao_cli.proofs.StepLemmas.{Unsaid, none_unsaid, one_unsaid, steps_unsaid}
+use Rattle.cacao_cli.proofs.StatusLists.{session_statuses}
 
 -- ---- the statuses
 

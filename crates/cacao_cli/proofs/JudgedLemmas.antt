@@ -12,12 +12,12 @@ use Rattle.run_reports.proofs.AcceptLemmas.{not-accepted}
 use Rattle.cacao_words.specs.Words.{Text}
 use Rattle.cacao_cli.specs.Causes.{LacksTree}
 use Rattle.cacao_cli.specs.Ends.{End, status_of, ended_ok}
-use Rattle.cacao_cli.specs.Exact.{HasStatus, IsOneOf, IsSettled, session_statuses}
+use Rattle.cacao_cli.specs.Exact.{HasStatus, IsOneOf, IsSettled}
 use Rattle.cacao_cli.specs.Files.{NamedText}
 use Rattle.cacao_cli.specs.Holding.{CameTo, HasAnswers, HasBadAnswer, IsAcceptedStart, IsRefusedStart}
 use Rattle.cacao_cli.specs.Work.{Start, bytes_of, starts}
 use Rattle.cacao_cli.proofs.CauseLemmas.{Roots, Treeless}
-use Rattle.cacao_cli.proofs.StatusLists.{not-among}
+use Rattle.cacao_cli.proofs.StatusLists.{not-among, session_statuses}
 use Rattle.cacao_cli.proofs.HoldLemmas.{holds-done, holds-status}
 
 -- ---- trees
@@ -96,10 +96,7 @@ module _ (start : Start) {old new : SiteView} {n : ℕ} where
   start-settled (inr (inl h)) a b = absurd (b h.1)
   start-settled (inr (inr h)) a b = h
 
-  pub start-listed : IsAcceptedStart start → HasStatus (starts start) old new n → IsOneOf n session_statuses
-  start-listed a (inl h) = absurd (bad-answers start h.0 a.0)
-  start-listed a (inr (inl h)) = absurd (refused-accepted start h.0 a)
-  start-listed a (inr (inr h)) = settled-listed h
-
-  pub start-among : IsAcceptedStart start → HasStatus (starts start) old new n → IsOneOf n (3 ∷ session_statuses)
-  start-among a h = inr (start-listed a h)
+  pub accepted-settled : IsAcceptedStart start → HasStatus (starts start) old new n → IsSettled start old new n
+  accepted-settled a (inl h) = absurd (bad-answers start h.0 a.0)
+  accepted-settled a (inr (inl h)) = absurd (refused-accepted start h.0 a)
+  accepted-settled a (inr (inr h)) = h

@@ -17,7 +17,7 @@ use Rattle.cacao_cli.specs.Lines.{SaysAll, Tells, TellsText, SaysWork}
 use Rattle.cacao_cli.specs.Rehearsing.{Rehearses}
 use Rattle.cacao_cli.specs.Work.{Work, ends, judges, opens_filter, opens_run, compares, rehearsals, at_rules, at_shadows, at_decisions, or_end, packets_or_end, tree_of, trees_of, canon_line, run_files, work, work_on, Start, starts, start_of, trees_wanted}
 use Rattle.cacao_cli.specs.Ended.{Performs, Performed, Ended}
-use Rattle.cacao_cli.specs.Exact.{IsOneOf, session_statuses}
+use Rattle.cacao_cli.specs.Exact.{IsOneOf}
 use Rattle.cacao_cli.specs.Holding.{HoldsSession}
 use Rattle.cacao_cli.specs.Leaves.{LeavesSession, SaysAtMostOnce, Leaves, ReadsAtMost, WritesNothing}
 use Rattle.cacao_cli.specs.declared.limit.Limit.TheVariants.{BookCount}
@@ -29,6 +29,7 @@ use Rattle.cacao_cli.proofs.HoldLemmas.{holds-status}
 use Rattle.cacao_cli.proofs.LineLemmas.{IsCutOff, tells-status}
 use Rattle.cacao_cli.proofs.StartLemmas.{tells-line}
 use Rattle.cacao_cli.proofs.ReadLemmas.{Read, reads-few, empty-read}
+use Rattle.cacao_cli.proofs.StatusLists.{session_statuses}
 
 -- ---- what is said by a command that says one line
 

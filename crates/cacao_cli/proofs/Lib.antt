@@ -5,6 +5,7 @@ pub mod AuditLemmas
 pub mod BeginLemmas
 pub mod BudgetLemmas
 pub mod CauseLemmas
+pub mod ClockLemmas
 pub mod CompleteLemmas
 pub mod CountLemmas
 pub mod DoneLemmas
@@ -18,6 +19,7 @@ pub mod HoldLemmas
 pub mod IdleLemmas
 pub mod JudgeLemmas
 pub mod JudgedLemmas
+pub mod KeptActs
 pub mod LeaveLemmas
 pub mod LimitLemmas
 pub mod LineLemmas
@@ -27,6 +29,7 @@ pub mod PacketLemmas
 pub mod PartLemmas
 pub mod PastLemmas
 pub mod PerformLemmas
+pub mod ReachedLemmas
 pub mod ReadLemmas
 pub mod RehearseLemmas
 pub mod ReportLines
@@ -43,6 +46,8 @@ pub mod SayingLemmas
 pub mod ShortLemmas
 pub mod SpentLemmas
 pub mod SplitLemmas
+pub mod StandLemmas
+pub mod StandRuns
 pub mod StartLemmas
 pub mod StatusKinds
 pub mod StatusLemmas

@@ -1,7 +1,6 @@
 -- What the filters' files hold where a session refused past a limit: acts, also in that of a filter whose next act would pass it.
 use Rattle.std.proofs.Common.{◌≡◌, ◌⊎◌, inl, inr, ◌∙◌, refl, sym, ap, subst, arith, ℕ, suc, ◌-◌, ◌≤◌, Bool, false, List, length, Option, Some, None}
 use Rattle.std.specs.Prelude.{IsTrue, slice_get}
-use Rattle.cacao_site.specs.Sound.{IsSound}
 use Rattle.cacao_site.specs.View.{SiteView}
 use Rattle.cacao_site.specs.declared.parcel.Parcel.{Parcel}
 use Rattle.run_records.specs.declared.act.Act.{Act}
@@ -24,7 +23,7 @@ use Rattle.flow_world.specs.Closes.{IsRefusal}
 use Rattle.flow_world.specs.Sessions.{Went}
 use Rattle.flow_world.specs.declared.error.WorldError.TheVariants as error
 use Rattle.session_laws.proofs.WholeActs.{acts_undamaged}
-use Rattle.cacao_cli.proofs.ReturnedRuns.{HoldsFilter, cause-past, same-cause, sound-there, there-at, told-there}
+use Rattle.cacao_cli.proofs.ReturnedRuns.{HoldsFilter, ReadsImages, cause-past, same-cause, sound-there, there-at, told-there}
 
 -- a filter is full where a limit is the cause
 full : (error : ActError) (v : ActuatorView) (parcel : Parcel) (old new : World) (cause : Cause) (what : LimitKind) → IsActCause error v parcel old new cause → cause ≡ past what
@@ -52,7 +51,7 @@ none-unsure a old beat parcel none steps here = go old.notes.unsure_act refl
         let by : UnsureByFilter a old act = steps_unsure_act a old act none steps e in
         absurd (in-hand old.phase beat parcel by.cause false here by.fails.phase)
 
-module _ (given : Given) (run most : ℕ) (answers : List OperatorAnswer) (old mid : SiteView) (sound : IsSound mid) (told : IsTrue mid.disk.told) (went : Went given run most answers old mid) where
+module _ (given : Given) (run most : ℕ) (answers : List OperatorAnswer) (old mid : SiteView) (sound : ReadsImages mid) (told : IsTrue mid.disk.told) (went : Went given run most answers old mid) where
   none-at-start : went.start.notes.unsure_act ≡ None
   none-at-start = ap (λ (n : Notes). n.unsure_act) went.begins.notes
 

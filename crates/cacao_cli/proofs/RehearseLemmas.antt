@@ -1,5 +1,5 @@
 -- A rehearsal is held on a site of its own, and what came of it is told.
-use Rattle.std.proofs.Common.{◌≡◌, ◌⊎◌, inl, inr, ◌∙◌, refl, sym, ap, subst, arith, ℕ, true, false, [], ◌∷◌}
+use Rattle.std.proofs.Common.{◌≡◌, ◌⊎◌, inl, inr, ◌∙◌, refl, sym, ap, subst, arith, ℕ, true, false, List, [], ◌∷◌}
 use Rattle.std.specs.Prelude.{nat_eq}
 use Rattle.std.specs.List.{list_any}
 use Rattle.std.proofs.lemmas.Bool.{true≢false}
@@ -22,14 +22,15 @@ use Rattle.rehearsal.specs.declared.error.RehearsalError.{RehearsalError}
 use Rattle.rehearsal.specs.declared.error.RehearsalError.TheVariants as rehearsal_error
 use Rattle.rehearsal.specs.declared.summary.Summary.{Summary}
 use Rattle.run_reports.proofs.AcceptLemmas.{not-accepted}
-use Rattle.cacao_cli.specs.Ends.{End, disk_failed, rehearsed, status_of, text_of, unsaid}
-use Rattle.cacao_cli.specs.Exact.{HasRehearsed, IsOneOf, IsRehearsed, session_statuses}
+use Rattle.cacao_cli.specs.Ends.{End, accepted, agrees, asked_for, bind_refused, damaged, disagrees, disk_failed, done, ended_failed, ended_ok, flooded, no_memory, no_such_file, not_readable, not_understood}
+use Rattle.cacao_cli.specs.Ends.{other_book, other_run, past, paused, refused, rehearsed, run_used, shelf_failed, status_of, text_of, unsaid, waiting}
+use Rattle.cacao_cli.specs.Exact.{HasRehearsed, IsOneOf, IsRehearsed, run_rehearsal_statuses}
 use Rattle.cacao_cli.specs.Holding.{close_end, error_end}
 use Rattle.cacao_cli.specs.Lines.{Tells}
 use Rattle.cacao_cli.specs.OwnSites.{CountsOwn}
 use Rattle.cacao_cli.specs.Rehearsing.{MayEndSo, EndsRun, IsBrokenRehearsal, IsLongRehearsal, RehearsalTo, Rehearses, TellsRehearsal, failed_end}
 use Rattle.cacao_cli.proofs.EndCases.{eight-is, nine-or-not}
-use Rattle.cacao_cli.proofs.StatusLists.{not-among}
+use Rattle.cacao_cli.proofs.StatusLists.{not-among, session_statuses}
 use Rattle.cacao_cli.proofs.HoldLemmas.{close-eight, close-nine, close-status, error-done, error-eight, error-nine, error-status, refuses-failed, refuses-unsaid, rose-later, went-faults}
 use Rattle.cacao_cli.proofs.LineLemmas.{IsCutOff, tells-status}
 use Rattle.cacao_cli.proofs.UnsaidLemmas.{last-said, last-unsaid}
@@ -127,6 +128,57 @@ run-listed positions given old new last (inr (inr (inr h))) = subst (λ (e : End
 pub rehearsed-listed : (positions : ℕ) (n : ℕ) → IsRehearsed positions n → IsOneOf n session_statuses
 rehearsed-listed positions n h = subst (λ (m : ℕ). IsOneOf m session_statuses) (sym h.is) (run-listed positions h.came.given (view_of h.came.site) (view_of h.came.left) h.last h.came.runs)
 
+-- the statuses of a session that no rehearsal answers
+abbrev left-out : List ℕ
+left-out = 7 ∷ 12 ∷ 13 ∷ 14 ∷ 16 ∷ []
+
+may-status : (last : End) → MayEndSo last → list_any (nat_eq (status_of last)) left-out ≡ false
+may-status done h = refl
+may-status accepted h = refl
+may-status (agrees records acts) h = refl
+may-status (disagrees file place) h = refl
+may-status (refused broken) h = refl
+may-status (bind_refused rule) h = refl
+may-status ended_ok h = refl
+may-status ended_failed h = refl
+may-status paused h = absurd h
+may-status (waiting moment) h = absurd h
+may-status flooded h = refl
+may-status (asked_for issue) h = absurd h
+may-status (other_run held asked) h = absurd h
+may-status (other_book index) h = absurd h
+may-status (run_used agent) h = absurd h
+may-status not_understood h = refl
+may-status (past limit) h = refl
+may-status (shelf_failed name) h = refl
+may-status (no_such_file name) h = refl
+may-status (not_readable name reason) h = refl
+may-status (rehearsed positions records acts rules) h = refl
+may-status (damaged file place) h = absurd h
+may-status disk_failed h = refl
+may-status unsaid h = refl
+may-status no_memory h = refl
+
+-- and those that are left
+left-over : (n : ℕ) → IsOneOf n session_statuses → (IsOneOf n left-out → ⊥) → IsOneOf n run_rehearsal_statuses
+left-over n (inl e) others = inl e
+left-over n (inr (inl e)) others = inr (inl e)
+left-over n (inr (inr (inl e))) others = absurd (others (inl e))
+left-over n (inr (inr (inr (inl e)))) others = inr (inr (inl e))
+left-over n (inr (inr (inr (inr (inl e))))) others = inr (inr (inr (inl e)))
+left-over n (inr (inr (inr (inr (inr (inl e)))))) others = inr (inr (inr (inr (inl e))))
+left-over n (inr (inr (inr (inr (inr (inr (inl e))))))) others = inr (inr (inr (inr (inr (inl e)))))
+left-over n (inr (inr (inr (inr (inr (inr (inr (inl e)))))))) others = absurd (others (inr (inl e)))
+left-over n (inr (inr (inr (inr (inr (inr (inr (inr (inl e))))))))) others = absurd (others (inr (inr (inl e))))
+left-over n (inr (inr (inr (inr (inr (inr (inr (inr (inr (inl e)))))))))) others = absurd (others (inr (inr (inr (inl e)))))
+left-over n (inr (inr (inr (inr (inr (inr (inr (inr (inr (inr (inl e))))))))))) others = inr (inr (inr (inr (inr (inr (inl e))))))
+left-over n (inr (inr (inr (inr (inr (inr (inr (inr (inr (inr (inr (inl e)))))))))))) others = absurd (others (inr (inr (inr (inr (inl e))))))
+left-over n (inr (inr (inr (inr (inr (inr (inr (inr (inr (inr (inr (inr none)))))))))))) others = absurd none
+
+pub ran-listed : (positions : ℕ) (n : ℕ) → IsRehearsed positions n → IsOneOf n run_rehearsal_statuses
+ran-listed positions n h = subst (λ (m : ℕ). IsOneOf m run_rehearsal_statuses) (sym h.is)
+    (left-over (status_of h.last) (run-listed positions h.came.given (view_of h.came.site) (view_of h.came.left) h.last h.came.runs) (not-among (status_of h.last) left-out (may-status h.last h.came.may)))
+
 pub rehearsed-other : (positions n m : ℕ) → HasRehearsed positions n → n ≡ m → (11 ≡ m → ⊥) → (1 ≡ m → ⊥) → list_any (nat_eq m) session_statuses ≡ false → ⊥
 rehearsed-other positions n m (inl h) e a b none = a (sym h.1 ∙ e)
 rehearsed-other positions n m (inr (inl h)) e a b none = b (sym h.1 ∙ e)
@@ -176,15 +228,15 @@ module _ (positions n : ℕ) where
   broken-rehearsed (inr (inr h)) b = absurd (broken-accepted positions b h.came.given h.came.accepted)
 
   -- the status of a playbook that ran, wherever else it may run
-  pub rehearsal-listed : HasRehearsed positions n → (last : End) → RehearsalTo positions last → IsOneOf n session_statuses
-  rehearsal-listed (inl h) last r = inr (inr (inr (inr (inr (inr (inl h.1))))))
+  pub rehearsal-listed : HasRehearsed positions n → (last : End) → RehearsalTo positions last → IsOneOf n run_rehearsal_statuses
+  rehearsal-listed (inl h) last r = inr (inr (inr (inr (inr (inl h.1)))))
   rehearsal-listed (inr (inl h)) last r = absurd (broken-accepted positions h.0 r.given r.accepted)
-  rehearsal-listed (inr (inr h)) last r = rehearsed-listed positions n h
+  rehearsal-listed (inr (inr h)) last r = ran-listed positions n h
 
-  pub long-listed : HasRehearsed positions n → IsLongRehearsal positions → IsOneOf n session_statuses
-  long-listed (inl h) long = inr (inr (inr (inr (inr (inr (inl h.1))))))
+  pub long-listed : HasRehearsed positions n → IsLongRehearsal positions → IsOneOf n run_rehearsal_statuses
+  long-listed (inl h) long = inr (inr (inr (inr (inr (inl h.1)))))
   long-listed (inr (inl h)) long = absurd (long-broken positions long h.0)
-  long-listed (inr (inr h)) long = rehearsed-listed positions n h
+  long-listed (inr (inr h)) long = ran-listed positions n h
 
   pub rehearsed-ran : HasRehearsed positions n → (n ≡ 11 → ⊥) → (n ≡ 1 → ⊥) → IsRehearsed positions n
   rehearsed-ran (inl h) a b = absurd (a h.1)

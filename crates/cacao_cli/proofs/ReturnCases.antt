@@ -3,8 +3,8 @@ use Rattle.std.proofs.Common.{◌≡◌, ◌≢◌, ◌⊎◌, inl, inr, ◌∙�
 use Rattle.std.specs.Prelude.{IfSome, IsTrue}
 use Rattle.cacao_check.specs.Fits.{FitsKind}
 use Rattle.cacao_check.proofs.LawLemmas.{sound_gives}
-use Rattle.cacao_site.specs.Sound.{IsSound}
-use Rattle.cacao_site.specs.View.{LinkView, SiteView}
+use Rattle.cacao_site.specs.DiskCalls.{IsDurable, StaysAt}
+use Rattle.cacao_site.specs.View.{DiskView, LinkView, SiteView}
 use Rattle.run_records.specs.declared.record.Record.{Record}
 use Rattle.flow_core.specs.Setups.{AreAccepted}
 use Rattle.flow_setup.proofs.SetupRunnable.{accepted_is_runnable}
@@ -50,17 +50,18 @@ use Rattle.session_laws.proofs.Returning.{reads_as_one_run}
 use Rattle.cacao_cli.specs.Ends.{status_of}
 use Rattle.cacao_cli.specs.Exact.{IsOneOf}
 use Rattle.cacao_cli.specs.Holding.{AreAnswers, close_end, error_end}
-use Rattle.cacao_cli.specs.Returning.{BeginsAnother, FileTells, FindsUsed, GainsRecords, HasDamagedFilter, IsResend, KeepsWithin, CanGoOn, ReadsAsAnother, ReadsAsDamaged, ReadsSo, ReadsTooLarge, ReturnsSo, StatusTells}
+use Rattle.cacao_cli.specs.Returning.{BeginsAnother, FileTells, FindsUsed, GainsRecords, HasDamagedFilter, IsResend, KeepsWithin, LeavesRecords, CanGoOn, ReadsAsAnother, ReadsAsDamaged, ReadsSo, ReadsTooLarge, ReturnsSo, StatusTells}
 use Rattle.cacao_cli.specs.Returning.{TurnTells, WaitsFirst, WaitsInTurn, WaitsSo, or_any}
 use Rattle.cacao_cli.specs.Work.{Start}
 use Rattle.cacao_cli.proofs.FloodLemmas.{acted-agents, gained-acts, hand-empty, many-taken}
 use Rattle.cacao_cli.proofs.LimitLemmas.{would-pass}
 use Rattle.cacao_cli.proofs.PastLemmas.{past-whole}
-use Rattle.cacao_cli.proofs.ReturnedRuns.{closes-filters, closes-sure, closes-unused, empty-same, fewer-added, filter-whole, first-used, gains, gains-added, kept-within, none-added, not-another, not-spent, opened-none, past-more, past-unused, reads-run, refuses-sure, sure-holds, used, used-filters}
+use Rattle.cacao_cli.proofs.ReachedLemmas.{closed-come}
+use Rattle.cacao_cli.proofs.ReturnedRuns.{ReadsImages, closes-filters, closes-sure, closes-unused, empty-same, fewer-added, filter-whole, first-least, first-used, gains, gains-added, kept-within, none-added, not-another, not-spent, opened-none, past-more, past-unused, reads-run, refuses-sure, sure-holds, used, used-filters}
 use Rattle.cacao_cli.proofs.SpentLemmas.{CouldMore}
 use Rattle.cacao_cli.proofs.ReturnTurns.{empty-not, turns-another, turns-asked, turns-damaged, turns-ended, turns-flooded, turns-past, turns-paused, turns-waits}
 use Rattle.cacao_cli.proofs.WaitLemmas.{answers-given, none-answers, waits-idle, waits-unanswered}
-use Rattle.cacao_cli.proofs.ReturnTells.{behind-faults, besides, fault-returns, not-closing, tells-past}
+use Rattle.cacao_cli.proofs.ReturnTells.{behind-faults, besides, durable-leaves, fault-returns, not-closing, not-leaving, not-reaching, tells-past}
 
 -- ---- the session
 
@@ -96,7 +97,7 @@ only-disk (refusal.Limit what) e = absurd (cc)
 only-disk refusal.Memory e = absurd (cc)
 only-disk refusal.Broken e = absurd (cc)
 
-module _ (start : Start) (old mid : SiteView) (sound : IsSound mid) (told : IsTrue mid.disk.told) (given : Given) (accepted : Accepted AreAccepted FitsKind start.books start.bind given) (some : 1 ≤ start.most) where
+module _ (start : Start) (old mid : SiteView) (sound : ReadsImages mid) (told : IsTrue mid.disk.told) (given : Given) (accepted : Accepted AreAccepted FitsKind start.books start.bind given) (some : 1 ≤ start.most) where
   same-given : (other : Given) → Accepted AreAccepted FitsKind start.books start.bind other → other ≡ given
   same-given other is = accepted-one start.books start.bind other given is accepted
 
@@ -279,6 +280,9 @@ module _ (start : Start) (old mid : SiteView) (sound : IsSound mid) (told : IsTr
         kept-of : (how : Close) (h : HasClosed how given start.run start.most answers old mid) → KeepsWithin start old mid
         kept-of how h = kept-within given start.run start.most answers old mid sound told h.went start refl (sure-of how h)
 
+        reached-of : (how : Close) (h : HasClosed how given start.run start.most answers old mid) → ((moment : ℕ) → how ≡ close.Waiting moment → ⊥) → mid.clock.asked ≤ mid.clock.now
+        reached-of how h not_ = closed-come how given start.run start.most answers old mid h not_
+
         -- the filters' files are whole, and the number is not used
         rest-of : (how : Close) (h : HasClosed how given start.run start.most answers old mid) → FileRest answer
         rest-of how h = rest-of-run answer (run-of how h)
@@ -306,6 +310,8 @@ module _ (start : Start) (old mid : SiteView) (sound : IsSound mid) (told : IsTr
             damaged = λ e. absurd (omega (arith, e, is));
             past = λ e. absurd (omega (arith, e, is));
             kept = λ one. kept-of (close.Ended true) h;
+            reached = λ one. reached-of (close.Ended true) h (λ moment e. cc);
+            left = λ one. absurd (not-leaving answer 0 refl is one);
           };
           of_file = file-of (run-of (close.Ended true) h).seen (Some true) answer (reads-of (close.Ended true) h) h.closes.outcome_is (λ e. is) (λ e. absurd (cc)) (λ e. absurd (cc)) (λ e some g. absurd (cc)) (rest-of (close.Ended true) h);
           of_turn = turns-ended start old mid sound told given reads-as answers h.went (sure-of (close.Ended true) h) answer true h.closes;
@@ -322,6 +328,8 @@ module _ (start : Start) (old mid : SiteView) (sound : IsSound mid) (told : IsTr
             damaged = λ e. absurd (omega (arith, e, is));
             past = λ e. absurd (omega (arith, e, is));
             kept = λ one. kept-of (close.Ended false) h;
+            reached = λ one. reached-of (close.Ended false) h (λ moment e. cc);
+            left = λ one. absurd (not-leaving answer 6 refl is one);
           };
           of_file = file-of (run-of (close.Ended false) h).seen (Some false) answer (reads-of (close.Ended false) h) h.closes.outcome_is (λ e. absurd (cc)) (λ e. is) (λ e. absurd (cc)) (λ e some g. absurd (cc)) (rest-of (close.Ended false) h);
           of_turn = turns-ended start old mid sound told given reads-as answers h.went (sure-of (close.Ended false) h) answer false h.closes;
@@ -341,6 +349,8 @@ module _ (start : Start) (old mid : SiteView) (sound : IsSound mid) (told : IsTr
             damaged = λ e. absurd (omega (arith, e, is));
             past = λ e. absurd (omega (arith, e, is));
             kept = λ one. kept-of close.Paused h;
+            reached = λ one. reached-of close.Paused h (λ moment e. cc);
+            left = λ one. absurd (not-leaving answer 7 refl is one);
           };
           of_file = going-file (run-of close.Paused h).seen answer (reads-of close.Paused h) h.closes.goes_on (inl is) (λ some g. inl is) (rest-of close.Paused h);
           of_turn = turns-paused start old mid sound told given reads-as answers h.went (sure-of close.Paused h) answer h.closes;
@@ -360,6 +370,8 @@ module _ (start : Start) (old mid : SiteView) (sound : IsSound mid) (told : IsTr
               damaged = λ e. absurd (omega (arith, e, is));
               past = λ e. absurd (omega (arith, e, is));
               kept = λ one. kept-of (close.Waiting moment) h;
+              reached = λ one. absurd (not-reaching answer 14 refl is one);
+              left = λ one. absurd (not-leaving answer 14 refl is one);
             }) (inr (inr (inl is)))
             (λ some g. not-spent given start.run start.most answers old mid sound told h.went some sure (waits-could h turn) g) (rest-of (close.Waiting moment) h)
           where
@@ -390,6 +402,8 @@ module _ (start : Start) (old mid : SiteView) (sound : IsSound mid) (told : IsTr
                 damaged = λ e. absurd (omega (arith, e, is));
                 past = λ e. absurd (omega (arith, e, is));
                 kept = λ one. kept-of close.Flooded h;
+                reached = λ one. reached-of close.Flooded h (λ moment e. cc);
+                left = λ one. absurd (not-leaving answer 15 refl is one);
               };
               of_file = going-file (run-of close.Flooded h).seen answer (reads-of close.Flooded h) turn.goes_on (inr (inr (inl is)))
                   (λ some g. absurd (spends close.Flooded h turn.budget some g)) (rest-of close.Flooded h);
@@ -422,6 +436,8 @@ module _ (start : Start) (old mid : SiteView) (sound : IsSound mid) (told : IsTr
                 damaged = λ e. absurd (omega (arith, e, is));
                 past = λ e. absurd (omega (arith, e, is));
                 kept = λ one. kept-of (close.Asked issue) h;
+                reached = λ one. reached-of (close.Asked issue) h (λ moment e. cc);
+                left = λ one. absurd (not-leaving answer 16 refl is one);
               };
               of_file = going-file (run-of (close.Asked issue) h).seen answer (reads-of (close.Asked issue) h) turn.may.goes_on (inr (inr (inr (inl is))))
                   (λ some g. absurd (spends (close.Asked issue) h turn.may.budget some g)) (rest-of (close.Asked issue) h);
@@ -439,6 +455,10 @@ module _ (start : Start) (old mid : SiteView) (sound : IsSound mid) (told : IsTr
           where
             holds : HoldsRun given start.run (mid.disk.reads 0)
             holds = sure-holds given start.run start.most answers old mid sound told h.went sure
+
+            -- a crash leaves the records
+            crash : LeavesRecords mid
+            crash = (kept-within given start.run start.most answers old mid sound told h.went start refl sure).crash
 
             by : (why : WorldError) → answer ≡ status_of (error_end why) → IsRefusal why h.went.to → ReturnsSo start old mid answer
             by error.Disk is r = fault-returns start old mid answer (inr (inr (inl is)))
@@ -463,20 +483,25 @@ module _ (start : Start) (old mid : SiteView) (sound : IsSound mid) (told : IsTr
                     waits = λ e. absurd (omega (arith, e, is));
                     another = λ e. inr (
                       record {
-                        given = given;
-                        accepted = accepted;
-                        blank = subst (IsRecords (mid.disk.reads 0)) blank (reads-run given start.run mid holds).reads;
-                        agent = agent;
-                        of_agent = (first.low, first.high);
-                        acts = acts.acts;
-                        are = acts.are;
-                        has = acts.has;
+                        used = record {
+                          given = given;
+                          accepted = accepted;
+                          blank = subst (IsRecords (mid.disk.reads 0)) blank (reads-run given start.run mid holds).reads;
+                          agent = agent;
+                          of_agent = (first.low, first.high);
+                          acts = acts.acts;
+                          are = acts.are;
+                          has = acts.has;
+                        };
+                        least = first-least given start.run start.most answers old mid sound told h.went agent r;
                       },
                       whole,
                     );
                     damaged = λ e. absurd (omega (arith, e, is));
                     past = λ e. absurd (omega (arith, e, is));
                     kept = λ one. absurd (not-closing answer 12 refl is one);
+                    reached = λ one. absurd (not-reaching answer 12 refl is one);
+                    left = λ one. crash;
                   };
                   of_file = going-file holds.seen answer (reads-run given start.run mid holds) out (inr (inl is))
                       (λ some g. absurd (not-spent given start.run start.most answers old mid sound told h.went some sure
@@ -484,8 +509,8 @@ module _ (start : Start) (old mid : SiteView) (sound : IsSound mid) (told : IsTr
                       (rest-of-run answer holds (λ d. absurd (whole d)) (λ u. inl is));
                   of_turn = turns-another start old mid answer is (empty-not start old mid sound told given reads-as answers h.went sure first.empty);
                 }
-            by (error.Limit what) is r = returns-besides answer (turns-past start old mid answer is) (tells-past start old mid answer is
-                (inr (would-pass start old mid sound told given accepted answers h.went sure what r))) (inl is)
+            by (error.Limit what) is r = returns-besides answer (turns-past start old mid answer is) (tells-past start old mid answer is crash
+                (inr (would-pass start old mid sound told given accepted answers are h.went sure what r))) (inl is)
                 (λ some g. not-spent given start.run start.most answers old mid sound told h.went some sure
                 (past-more given start.run start.most answers old mid sound told h.went what r) g)
                 (rest-of-run answer holds (λ d. absurd (past-whole given start.run start.most answers old mid sound told h.went what r d.agent d.place d.of_agent d.damaged))
@@ -543,8 +568,8 @@ module _ (start : Start) (old mid : SiteView) (sound : IsSound mid) (told : IsTr
   }
 
   -- it is another run's
-  is-another : (answer : ℕ) → answer ≡ 12 → BeginsAnother given start.run (mid.disk.reads 0) → ReturnsSo start old mid answer
-  is-another answer is begins = record {
+  is-another : (answer : ℕ) → answer ≡ 12 → IsDurable 0 mid.disk → BeginsAnother given start.run (mid.disk.reads 0) → ReturnsSo start old mid answer
+  is-another answer is durable begins = record {
     of_status = record {
       well = λ e. absurd (omega (arith, e, is));
       failed = λ e. absurd (omega (arith, e, is));
@@ -556,6 +581,8 @@ module _ (start : Start) (old mid : SiteView) (sound : IsSound mid) (told : IsTr
       damaged = λ e. absurd (omega (arith, e, is));
       past = λ e. absurd (omega (arith, e, is));
       kept = λ one. absurd (not-closing answer 12 refl is one);
+      reached = λ one. absurd (not-reaching answer 12 refl is one);
+      left = λ one. durable-leaves mid durable;
     };
     of_file = record {
       well = λ r. absurd (not-another given start.run mid r.seen (reads-as (Some true) r) begins);
@@ -599,11 +626,13 @@ module _ (start : Start) (old mid : SiteView) (sound : IsSound mid) (told : IsTr
         damaged = λ e. inl (record { given = given; accepted = accepted; place = place; damaged = h.1 before });
         past = λ e. absurd (omega (arith, e, is));
         kept = λ one. absurd (not-closing answer 13 refl is one);
+        reached = λ one. absurd (not-reaching answer 13 refl is one);
+        left = λ one. durable-leaves mid h.0;
       }) (inr (inl is)) (opened-more (same (λ e. cc))) (rest-damaged answer place is (h.1 before))
-  journal-refused (refusal.OtherRun held asked) answer taken same before h is = is-another answer is (run-entries held asked h.1 (h.2.1 before))
-  journal-refused (refusal.OtherBook index) answer taken same before h is = is-another answer is (book-entries index (h.1 before))
+  journal-refused (refusal.OtherRun held asked) answer taken same before h is = is-another answer is h.2.0 (run-entries held asked h.1 (h.2.1 before))
+  journal-refused (refusal.OtherBook index) answer taken same before h is = is-another answer is h.0 (book-entries index (h.1 before))
   journal-refused (refusal.Limit what) answer taken same before h is =
-      returns-besides answer (turns-past start old mid answer is) (tells-past start old mid answer is (inl (record {
+      returns-besides answer (turns-past start old mid answer is) (tells-past start old mid answer is (durable-leaves mid h.1.0) (inl (record {
         given = given;
         accepted = accepted;
         large = subst (λ (k : LimitKind). RefusesImage given start.run (mid.disk.reads 0) (refusal.Limit k)) h.0 (h.1.1 before);
@@ -616,6 +645,16 @@ module _ (start : Start) (old mid : SiteView) (sound : IsSound mid) (told : IsTr
 
   same-second : (why : WorldError) (h : RefusesSecond why given start.run old mid) → mid.disk.reads 0 ≡ h.middle.disk.reads 0
   same-second why h = (h.refuses.refuses.opens.only.others 0 (λ e. omega (arith, e))).reads ∙ (h.refuses.before.others 0 (inl refl)).reads
+
+  -- what leaves a file as it was leaves what a crash leaves of it
+  durable-stays : (a b : DiskView) → StaysAt a b 0 → a.beat ≤ b.beat → IsDurable 0 a → IsDurable 0 b
+  durable-stays a b stays later durable image left =
+      durable image (subst IsTrue (stays.images b.beat image later (omega arith)) left) ∙ sym stays.reads
+
+  durable-second : (why : WorldError) → RefusesSecond why given start.run old mid → IsDurable 0 mid.disk
+  durable-second why h =
+      durable-stays h.refuses.middle.disk mid.disk (h.refuses.refuses.opens.only.others 0 (λ e. omega (arith, e))) h.refuses.refuses.opens.only.each.goes_on.later
+      (durable-stays h.middle.disk h.refuses.middle.disk (h.refuses.before.others 0 (inl refl)) h.refuses.before.goes_on.later h.journal.durable)
 
   second-holds : (why : WorldError) → RefusesSecond why given start.run old mid → HoldsRun given start.run (mid.disk.reads 0)
   second-holds why h =
@@ -661,6 +700,8 @@ module _ (start : Start) (old mid : SiteView) (sound : IsSound mid) (told : IsTr
             });
             past = λ e. absurd (omega (arith, e, is));
             kept = λ one. absurd (not-closing answer 13 refl is one);
+            reached = λ one. absurd (not-reaching answer 13 refl is one);
+            left = λ one. durable-leaves mid (durable-second why h);
           }) (inr (inl is)) (opened-more (same-second why h ∙ h.journal.reads)) (rest-of-run answer holds (λ d. inl is) (λ u. inr (behind-faults answer (13 ∷ []) (inl is))))
       by error.Memory is c = fault-returns start old mid answer (inr (inr (inr (inr (inl is)))))
       by (error.OtherRun held asked) is c = absurd c

@@ -9,7 +9,7 @@ use Rattle.cacao_cli.specs.Causes.{HasTexts}
 use Rattle.cacao_cli.specs.Ended.{Performed, Performs}
 use Rattle.cacao_cli.specs.Ends.{End, status_of, not_readable}
 use Rattle.cacao_cli.specs.Files.{Files, NamedText, ShelfCall, files_of, has_too_many, reading}
-use Rattle.cacao_cli.specs.Holding.{ClosesSo, RefusesSo}
+use Rattle.cacao_cli.specs.Holding.{ClosesSo, HoldsSession, RefusesSo}
 use Rattle.cacao_cli.specs.Lines.{SaysAtMostALine, Tells}
 use Rattle.cacao_cli.specs.Returning.{ReturnsSo, TellsOnReturn}
 use Rattle.cacao_cli.specs.Work.{Start, Work, ends, starts, start_of, work}
@@ -19,9 +19,10 @@ use Rattle.cacao_cli.proofs.JudgedLemmas.{refused-accepted}
 use Rattle.cacao_cli.proofs.LineLemmas.{IsCutOff, tells-status}
 use Rattle.cacao_cli.proofs.ReadLemmas.{Fails}
 use Rattle.cacao_cli.proofs.ReturnCases.{closed, refused-so}
+use Rattle.cacao_cli.proofs.ReturnedRuns.{ReadsImages, sound-reads}
 use Rattle.cacao_cli.proofs.ReturnTells.{alike-behind, cut, fault-returns, faulty, none-accepted, returns-there}
 use Rattle.cacao_cli.proofs.StartLemmas.{tells-line}
-use Rattle.cacao_cli.proofs.WithinLemmas.{keeps-behind, run-keeps}
+use Rattle.cacao_cli.proofs.WithinLemmas.{Keeps, keeps-behind, run-keeps}
 use Rattle.cacao_cli.proofs.StatusRuns.{RunCase, long-texts, missing-texts, no-texts, run_case, run_long, run_many, run_missing, run_starts, run_treeless, same-texts}
 
 -- ---- the call
@@ -30,9 +31,17 @@ told-before : (mid new : SiteView) → SaysAtMostALine mid new → IsTrue new.di
 told-before mid new (inl is) told = subst (λ (s : SiteView). IsTrue s.disk.told) is told
 told-before mid new (inr says) told = subst (λ (b : Bool). IsTrue b) says.disk.goes_on.told told
 
-module _ (start : Start) (old mid new : SiteView) (sound : IsSound mid) (behind : SaysAtMostALine mid new) (told : IsTrue new.disk.told) (some : 1 ≤ start.most) where
+module _ (start : Start) (old mid new : SiteView) (sound : ReadsImages mid) (behind : SaysAtMostALine mid new) (told : IsTrue new.disk.told) (some : 1 ≤ start.most) where
   told-mid : IsTrue mid.disk.told
   told-mid = told-before mid new behind told
+
+  -- a session that was held
+  pub session-returns : (last : End) (answer : ℕ) → HoldsSession start old mid last → answer ≡ status_of last → ReturnsSo start old new answer
+  session-returns last answer h is = returns-there start old mid new answer (alike-behind mid new behind) (go h.holds.held)
+    where
+      go : ClosesSo h.given start.run start.most h.answers old mid last ⊎ RefusesSo h.given start.run start.most h.answers old mid last → ReturnsSo start old mid answer
+      go (inl c) = closed start old mid sound told-mid h.given h.accepted some h.answers h.are c.close answer (is ∙ ap status_of c.ends) c.closed
+      go (inr r) = refused-so start old mid sound told-mid h.given h.accepted some h.answers h.are r.error answer (is ∙ ap status_of r.ends) r.why
 
   started : (last : End) (answer : ℕ) → Performs (starts start) old mid last → answer ≡ status_of last → ReturnsSo start old new answer
   started last answer (inl h) is = fault-returns start old new answer (inr (inl (is ∙ ap status_of h.ends)))
@@ -40,11 +49,7 @@ module _ (start : Start) (old mid new : SiteView) (sound : IsSound mid) (behind 
       (λ given a. refused-accepted start ((h.answers, h.are), inl (h.broken, h.breaks)) ((h.answers, h.are), (given, a)))
   started last answer (inr (inr (inl h))) is = none-accepted start old new answer 1 refl (is ∙ ap status_of h.ends)
       (λ given a. refused-accepted start ((h.answers, h.are), inr (h.rule, h.breaks)) ((h.answers, h.are), (given, a)))
-  started last answer (inr (inr (inr (inl h)))) is = returns-there start old mid new answer (alike-behind mid new behind) (go h.holds.held)
-    where
-      go : ClosesSo h.given start.run start.most h.answers old mid last ⊎ RefusesSo h.given start.run start.most h.answers old mid last → ReturnsSo start old mid answer
-      go (inl c) = closed start old mid sound told-mid h.given h.accepted some h.answers h.are c.close answer (is ∙ ap status_of c.ends) c.closed
-      go (inr r) = refused-so start old mid sound told-mid h.given h.accepted some h.answers h.are r.error answer (is ∙ ap status_of r.ends) r.why
+  started last answer (inr (inr (inr (inl h)))) is = session-returns last answer h is
   started last answer (inr (inr (inr (inr h)))) is = fault-returns start old new answer (inr (inr (inr (inr (inl (is ∙ ap status_of h.ends))))))
 
 module _ (wanted : RunRequest) (files : Files) (old mid new : SiteView) (last : End) (answer : ℕ) (sound : IsSound mid) (told : IsTrue new.disk.told) (some : 1 ≤ wanted.most) (tells : Tells last mid new answer) where
@@ -66,7 +71,7 @@ module _ (wanted : RunRequest) (files : Files) (old mid new : SiteView) (last : 
       go (run_starts others roots there within r is) = subst (λ (l : List NamedText). ReturnsSo (start_of wanted l) old new answer) (same-texts files wanted others texts there has) (by (tells-status last mid new answer tells))
         where
           by : (answer ≡ status_of last) ⊎ IsCutOff answer → ReturnsSo (start_of wanted others) old new answer
-          by (inl e) = started (start_of wanted others) old mid new sound (tells-line last mid new answer tells) told some last answer (at (starts (start_of wanted others)) is) e
+          by (inl e) = started (start_of wanted others) old mid new (sound-reads mid sound) (tells-line last mid new answer tells) told some last answer (at (starts (start_of wanted others)) is) e
           by (inr c) = cut (start_of wanted others) old new answer c
 
 pub returns-ended : (asked : Option Asked) (shelf : ShelfCall) (old mid new : SiteView) (last : End) (answer : ℕ) → IfSome asked HasBudget → IsSound mid → Performed asked shelf old mid last → Tells last mid new answer
@@ -75,12 +80,16 @@ returns-ended None shelf old mid new last answer some sound p tells = tt
 returns-ended (Some (canonises book)) shelf old mid new last answer some sound p tells = tt
 returns-ended (Some (checks books)) shelf old mid new last answer some sound p tells = tt
 returns-ended (Some (runs wanted)) shelf old mid new last answer some sound p tells = λ told. (
-  keeps-behind wanted.most old mid new (tells-line last mid new answer tells)
-      (run-keeps old mid sound (told-before mid new (tells-line last mid new answer tells) told) wanted p.read last p.performs),
+  (keeps told).0,
+  (keeps told).1,
   if-told (files_of (Some (runs wanted))) shelf.told _ (λ files seen. λ texts has.
       go told files texts has (seen-read shelf.told (files_of (Some (runs wanted))) files p.reads.count p.read seen p.reads.reads)),
 )
   where
+    keeps : IsTrue new.disk.told → Keeps wanted.most old new
+    keeps told = keeps-behind wanted.most old mid new (tells-line last mid new answer tells)
+        (run-keeps old mid sound (told-before mid new (tells-line last mid new answer tells) told) wanted p.read last p.performs)
+
     go : IsTrue new.disk.told → (files : Files) (texts : List NamedText) → HasTexts files wanted texts
         → (p.read ≡ reading files (files_of (Some (runs wanted)))) ⊎ Fails (files_of (Some (runs wanted))) p.read → ReturnsSo (start_of wanted texts) old new answer
     go told files texts has (inl is) = run-returns wanted files old mid new last answer sound told some tells

@@ -3,6 +3,7 @@ use Rattle.std.proofs.Common.{◌≡◌, ◌≢◌, ◌⊎◌, inl, inr, ◌∙�
 use Rattle.std.specs.Prelude.{IfSome, IsTrue, nat_eq}
 use Rattle.std.specs.List.{list_any}
 use Rattle.cacao_check.specs.Fits.{FitsKind}
+use Rattle.cacao_site.specs.DiskCalls.{IsDurable}
 use Rattle.cacao_site.specs.View.{SiteView}
 use Rattle.cacao_site.specs.declared.parcel.Parcel.{Parcel}
 use Rattle.run_records.specs.declared.act.Act.{Act}
@@ -25,10 +26,10 @@ use Rattle.session_laws.specs.Undamaged.{IsDamagedFor}
 use Rattle.cacao_cli.specs.Exact.{IsOneOf, file_faults}
 use Rattle.cacao_cli.specs.Files.{File}
 use Rattle.cacao_cli.specs.Lines.{SaysAtMostALine}
-use Rattle.cacao_cli.specs.Returning.{ActPasses, AsksSo, BeginsAnother, FindsUsed, FloodsSo, GainsActs, GainsRecords, HasDamagedFilter, IsIdleNow, IsLateSo, IsResend, KeepsWithin, CanGoOn, PausesSo, ReadsAsAnother, ReadsAsDamaged, ReadsSo, ReadsTooLarge, ReturnsSo, StatusTells}
-use Rattle.cacao_cli.specs.Returning.{NextPasses, TurnTells, WaitsFirst, WaitsInTurn, WaitsSo, WouldPass, or_any}
+use Rattle.cacao_cli.specs.Returning.{AsksSo, BeginsAnother, CanGoOn, ComesInTurn, CouldAppend, DuePasses, FindsFirstUsed, FindsUsed, FloodsSo, GainsActs, GainsRecords, HasDamagedFilter, IsIdleNow, IsLateSo, IsResend, IsTakenLast, KeepsWithin, LeavesRecords, NextActPasses, PausesSo, ReadsAsAnother, ReadsAsDamaged, ReadsSo, ReadsTooLarge, ReturnsSo, StatusTells}
+use Rattle.cacao_cli.specs.Returning.{NextPasses, TurnTells, WaitsFirst, WaitsInTurn, WaitsSo, WouldPassSo, or_any}
 use Rattle.cacao_cli.specs.Work.{Start}
-use Rattle.cacao_cli.proofs.StatusLists.{not-among}
+use Rattle.cacao_cli.proofs.StatusLists.{not-among, widen}
 use Rattle.cacao_cli.proofs.LineLemmas.{IsCutOff}
 
 -- ---- statuses in lists
@@ -73,6 +74,27 @@ closing-telling n (inr (inr (inr (inr (inr (inr h)))))) = absurd h
 pub not-closing : (answer m : ℕ) → list_any (nat_eq m) closing ≡ false → answer ≡ m → IsOneOf answer closing → ⊥
 not-closing answer m none is one = not-among m closing none (subst (λ (n : ℕ). IsOneOf n closing) is one)
 
+-- and of those the ones that waited for no moment
+abbrev pub reaching : List ℕ
+reaching = 0 ∷ 6 ∷ 7 ∷ 15 ∷ 16 ∷ []
+
+reaching-closing : (n : ℕ) → IsOneOf n reaching → IsOneOf n closing
+reaching-closing n h = widen n reaching closing refl h
+
+pub not-reaching : (answer m : ℕ) → list_any (nat_eq m) reaching ≡ false → answer ≡ m → IsOneOf answer reaching → ⊥
+not-reaching answer m none is one = not-among m reaching none (subst (λ (n : ℕ). IsOneOf n reaching) is one)
+
+-- what leaves the engine's file as it reads where a session refused
+abbrev pub leaving : List ℕ
+leaving = 11 ∷ 12 ∷ 13 ∷ []
+
+pub not-leaving : (answer m : ℕ) → list_any (nat_eq m) leaving ≡ false → answer ≡ m → IsOneOf answer leaving → ⊥
+not-leaving answer m none is one = not-among m leaving none (subst (λ (n : ℕ). IsOneOf n leaving) is one)
+
+-- a crash leaves what the file reads as
+pub durable-leaves : (site : SiteView) → IsDurable 0 site.disk → LeavesRecords site
+durable-leaves site durable told image left records are = subst (λ (i : List ℕ). IsRecords i records) (sym (durable image left)) are
+
 pub tells-nothing : (start : Start) (old new : SiteView) (answer m : ℕ) → list_any (nat_eq m) telling ≡ false → answer ≡ m → StatusTells start old new answer
 tells-nothing start old new answer m none is = record {
   well = λ e. absurd (other (inl (sym is ∙ e)));
@@ -85,14 +107,16 @@ tells-nothing start old new answer m none is = record {
   asks = λ e. absurd (other (inr (inr (inr (inr (inr (inr (inr (inl (sym is ∙ e))))))))));
   past = λ e. absurd (other (inr (inr (inr (inr (inr (inr (inr (inr (inl (sym is ∙ e)))))))))));
   kept = λ one. absurd (other (closing-telling m (subst (λ (n : ℕ). IsOneOf n closing) is one)));
+  reached = λ one. absurd (other (closing-telling m (subst (λ (n : ℕ). IsOneOf n closing) is (reaching-closing answer one))));
+  left = λ one. absurd (other (widen m leaving telling refl (subst (λ (n : ℕ). IsOneOf n leaving) is one)));
 }
   where
     other : IsOneOf m telling → ⊥
     other h = not-among m telling none h
 
 -- 11 tells that something would pass a limit
-pub tells-past : (start : Start) (old new : SiteView) (answer : ℕ) → answer ≡ 11 → ReadsTooLarge start new ⊎ WouldPass start old new → StatusTells start old new answer
-tells-past start old new answer is past = record {
+pub tells-past : (start : Start) (old new : SiteView) (answer : ℕ) → answer ≡ 11 → LeavesRecords new → ReadsTooLarge start new ⊎ WouldPassSo start old new → StatusTells start old new answer
+tells-past start old new answer is leaves past = record {
   well = λ e. absurd (omega (arith, e, is));
   failed = λ e. absurd (omega (arith, e, is));
   pauses = λ e. absurd (omega (arith, e, is));
@@ -103,6 +127,8 @@ tells-past start old new answer is past = record {
   damaged = λ e. absurd (omega (arith, e, is));
   past = λ e. past;
   kept = λ one. absurd (not-closing answer 11 refl is one);
+  reached = λ one. absurd (not-reaching answer 11 refl is one);
+  left = λ one. leaves;
 }
 
 pub fault-tells : (start : Start) (old new : SiteView) (answer : ℕ) → IsOneOf answer faults → StatusTells start old new answer
@@ -119,7 +145,7 @@ fault-turns start old new answer h = record {
   asks = λ a le. inr (inr (among-faults answer (11 ∷ 13 ∷ []) h));
   moves = λ m some. inr (inr (among-faults answer (13 ∷ []) h));
   late = λ a lt. inr (among-faults answer (12 ∷ 13 ∷ []) h);
-  floods = λ f some durable. inr (among-faults answer (11 ∷ []) h);
+  floods = λ f some. inr (among-faults answer (11 ∷ []) h);
 }
 
 pub fault-returns : (start : Start) (old new : SiteView) (answer : ℕ) → IsOneOf answer faults → ReturnsSo start old new answer
@@ -170,7 +196,7 @@ none-accepted start old new answer m none is refused = record {
     asks = λ a le. absurd (refused a.may.goes_on.given a.may.goes_on.accepted);
     moves = λ m some. absurd (refused m.goes_on.given m.goes_on.accepted);
     late = λ a lt. absurd (refused a.1.0 a.1.1);
-    floods = λ f some durable. absurd (refused f.may.goes_on.given f.may.goes_on.accepted);
+    floods = λ f some. absurd (refused f.may.goes_on.given f.may.goes_on.accepted);
   };
 }
 
@@ -243,13 +269,17 @@ module _ (start : Start) (a b : SiteView) (same : Alike a b) where
     as_many = g.as_many;
   }
 
+  leaves-there : LeavesRecords a → LeavesRecords b
+  leaves-there leaves told image left records are =
+      leaves (subst (λ (t : Bool). IsTrue t) same.told told) image (subst (λ (l : Bool). IsTrue l) (same.left image) left) records
+      (subst (λ (i : List ℕ). IsRecords i records) (same.bytes 0) are)
+
   kept-there : (old : SiteView) → KeepsWithin start old a → KeepsWithin start old b
   kept-there old k = record {
     many = k.many;
     gains = gains-there k.many old k.gains;
     within = k.within;
-    crash = λ told image left records are. k.crash (subst (λ (t : Bool). IsTrue t) same.told told) image (subst (λ (l : Bool). IsTrue l) (same.left image) left) records
-        (subst (λ (i : List ℕ). IsRecords i records) (same.bytes 0) are);
+    crash = leaves-there k.crash;
   }
 
   pauses-there : (old : SiteView) → PausesSo start old a → PausesSo start old b
@@ -260,8 +290,6 @@ module _ (start : Start) (a b : SiteView) (same : Alike a b) where
 
   acts-there : (agent : ℕ) (acts : List Act) (old : SiteView) → GainsActs agent acts old a → GainsActs agent acts old b
   acts-there agent acts old g = record {
-    image = g.image;
-    left = g.left;
     before = g.before;
     had = g.had;
     has = subst (λ (image : List ℕ). IsActs image (g.before ++ acts)) (sym (same.bytes agent)) g.has;
@@ -345,7 +373,7 @@ module _ (start : Start) (a b : SiteView) (same : Alike a b) where
     damaged = subst (λ (image : List ℕ). IsDamaged image h.place) (sym (same.bytes h.agent)) h.damaged;
   }
 
-  used-there : FindsUsed start a → FindsUsed start b
+  abbrev used-there : FindsUsed start a → FindsUsed start b
   used-there h = record {
     given = h.given;
     accepted = h.accepted;
@@ -357,6 +385,12 @@ module _ (start : Start) (a b : SiteView) (same : Alike a b) where
     has = h.has;
   }
 
+  first-used-there : FindsFirstUsed start a → FindsFirstUsed start b
+  first-used-there h = record {
+    used = used-there h.used;
+    least = λ lower is lt acts are has. h.least lower is lt acts (subst (λ (image : List ℕ). IsActs image acts) (same.bytes lower) are) has;
+  }
+
   damaged-filter-there : (answer : ℕ) → DamagedFilterSo start a answer → DamagedFilterSo start b answer
   damaged-filter-there answer (inl h) = inl h
   damaged-filter-there answer (inr (inl h)) = inr (inl (h.0, large-there h.1))
@@ -366,37 +400,55 @@ module _ (start : Start) (a b : SiteView) (same : Alike a b) where
   late-there l = record {
     how = l.how;
     reads = reads-there l.how l.reads;
-    late = elim l.late [ inl lt ↦ inl (subst (λ (n : ℕ). 9_000_000_000_000_000 < n) (sym same.now) lt) | inr due_ ↦ inr due_ ];
+    late = subst (λ (n : ℕ). 9_000_000_000_000_000 < n) (sym same.now) l.late;
   }
+
+  reached-there : a.clock.asked ≤ a.clock.now → b.clock.asked ≤ b.clock.now
+  reached-there le = let asked = same.asked in let now = same.now in omega (arith, asked, now, le)
+
+  abbrev could-there : (old : SiteView) → CouldAppend start old a → CouldAppend start old b
+  could-there old c = record {
+    goes_on = reads-there None c.goes_on;
+    many = c.many;
+    gains = gains-there c.many old c.gains;
+    fewer = c.fewer;
+    reached = reached-there c.reached;
+  }
+
+  due-there : (old : SiteView) → DuePasses start old a → DuePasses start old b
+  due-there old d = record { could = could-there old d.could; idle = idle-there d.could.goes_on.seen d.idle; at = d.at; due_is = d.due_is; late = d.late }
 
   next-there : (old : SiteView) → NextPasses start old a → NextPasses start old b
   next-there old n = record {
-    goes_on = reads-there None n.goes_on;
-    many = n.many;
-    gains = gains-there n.many old n.gains;
-    fewer = n.fewer;
+    could = could-there old n.could;
     next = n.next;
     edits = n.edits;
     now = n.now ∙ sym same.now;
     takes = n.takes;
+    in_turn = subst (λ (m : ℕ). ComesInTurn start old.link.taken b.link.taken n.could.goes_on.seen m n.next) (sym same.now)
+        (subst (λ (t : Option (List (ℕ × Parcel))). ComesInTurn start old.link.taken t n.could.goes_on.seen a.clock.now n.next) (sym same.taken) n.in_turn);
     passes = n.passes;
   }
 
-  act-there : ActPasses a → ActPasses b
-  act-there p = record {
+  act-there : (old : SiteView) → NextActPasses start old a → NextActPasses start old b
+  act-there old p = record {
+    could = could-there old p.could;
+    begun = p.begun;
     parcel = p.parcel;
-    of_agent = p.of_agent;
+    is_command = p.is_command;
+    taken_last = subst (λ (t : Option (List (ℕ × Parcel))). IsTakenLast p.parcel old.link.taken t) (sym same.taken) p.taken_last;
     acts = p.acts;
     are = subst (λ (image : List ℕ). IsActs image p.acts) (sym (same.bytes p.parcel.agent)) p.are;
     is_new = p.is_new;
     past = subst (λ (n : ℕ). 67_108_864 < length_with p.acts (act_for p.acts p.parcel n)) (sym same.now) p.past;
   }
 
-  past-there : (old : SiteView) → ReadsTooLarge start a ⊎ WouldPass start old a → ReadsTooLarge start b ⊎ WouldPass start old b
+  past-there : (old : SiteView) → ReadsTooLarge start a ⊎ WouldPassSo start old a → ReadsTooLarge start b ⊎ WouldPassSo start old b
   past-there old (inl l) = inl (large-there l)
   past-there old (inr (inl l)) = inr (inl (late-there l))
-  past-there old (inr (inr (inl n))) = inr (inr (inl (next-there old n)))
-  past-there old (inr (inr (inr p))) = inr (inr (inr (act-there p)))
+  past-there old (inr (inr (inl d))) = inr (inr (inl (due-there old d)))
+  past-there old (inr (inr (inr (inl n)))) = inr (inr (inr (inl (next-there old n))))
+  past-there old (inr (inr (inr (inr p)))) = inr (inr (inr (inr (act-there old p))))
 
   status-there : (old : SiteView) (answer : ℕ) → (HasDamagedFilter start b → HasDamagedFilter start a) → StatusTells start old a answer → StatusTells start old b answer
   status-there old answer whole-back t = record {
@@ -408,7 +460,9 @@ module _ (start : Start) (a b : SiteView) (same : Alike a b) where
     waits = λ e. waits-there old (t.waits e);
     past = λ e. past-there old (t.past e);
     kept = λ one. kept-there old (t.kept one);
-    another = λ e. elim (t.another e) [ inl h ↦ inl (another-there h) | inr h ↦ inr (used-there h.0, λ d. h.1 (whole-back d)) ];
+    reached = λ one. reached-there (t.reached one);
+    left = λ one. leaves-there (t.left one);
+    another = λ e. elim (t.another e) [ inl h ↦ inl (another-there h) | inr h ↦ inr (first-used-there h.0, λ d. h.1 (whole-back d)) ];
     damaged = λ e. elim (t.damaged e) [ inl h ↦ inl (damaged-there h) | inr h ↦ inr (filter-there h) ];
   }
 
@@ -430,7 +484,7 @@ returns-there start old a b answer same is = record {
     may = λ m. is.of_turn.may (may-there start b a back old m);
     asks = λ h le. is.of_turn.asks (asks-there start b a back old h) (subst (λ (n : ℕ). h.may.goes_on.seen.moment ≤ n) same.now le);
     moves = λ m some. is.of_turn.moves (may-there start b a back old m) (subst (λ (n : ℕ). enabled_move m.goes_on.seen n ≢ None) same.now some);
-    floods = λ f some durable. is.of_turn.floods (floods-there start b a back old f) some durable;
+    floods = λ f some. is.of_turn.floods (floods-there start b a back old f) some;
     late = λ accepted lt. is.of_turn.late accepted (subst (λ (n : ℕ). 9_000_000_000_000_000 < n) same.now lt);
   };
 }

@@ -1,8 +1,6 @@
 -- What a run that may go on, and the clock, tell of the status of a session.
 use Rattle.std.proofs.Common.{◌≡◌, ◌≢◌, ◌⊎◌, inl, inr, ◌∙◌, refl, sym, ap, subst, arith, ℕ, ◌<◌, ◌≤◌, Bool, true, false, cond, List, [], ◌∷◌, length, Option, Some, None}
 use Rattle.std.specs.Prelude.{IsSome, IsTrue, nat_lt, if◌then◌else◌}
-use Rattle.cacao_site.specs.DiskCalls.{IsDurable}
-use Rattle.cacao_site.specs.Sound.{IsSound}
 use Rattle.cacao_site.specs.View.{SiteView}
 use Rattle.run_records.specs.Ranges.{last_moment}
 use Rattle.flow_core.specs.SetupLaws.{AcceptedIsRunnable}
@@ -13,7 +11,6 @@ use Rattle.flow_rules.specs.Moves.{due, enabled_move, first_move}
 use Rattle.flow_rules.specs.State.{Shown}
 use Rattle.operator_answers.specs.declared.answers.OperatorAnswer.{OperatorAnswer}
 use Rattle.flow_engine.specs.EngineView.{EngineView}
-use Rattle.flow_laws.specs.Images.{IsAgent}
 use Rattle.flow_laws.proofs.OneList.{same_records}
 use Rattle.flow_steps.specs.Causes.{AskedFirst, AskedLast, IsResendNear, IsShort, Shows}
 use Rattle.flow_steps.specs.Steps.{GoesTowards, after_reach}
@@ -30,7 +27,7 @@ use Rattle.session_laws.proofs.Returning.{reads_as_one_run}
 use Rattle.cacao_cli.specs.Returning.{AsksSo, CanGoOn, FloodsSo, ReadsSo, TurnTells}
 use Rattle.cacao_cli.specs.Work.{Start}
 use Rattle.cacao_cli.proofs.FloodLemmas.{flooded-exactly, hand-empty, same-not}
-use Rattle.cacao_cli.proofs.ReturnedRuns.{gained-many, reads-run, sure-holds, sure-records}
+use Rattle.cacao_cli.proofs.ReturnedRuns.{ReadsImages, gained-many, reads-run, sure-holds, sure-records}
 use Rattle.cacao_cli.proofs.ReturnTells.{behind-faults}
 use Rattle.cacao_cli.proofs.WaitLemmas.{looked-going, looked-not, waits-idle}
 
@@ -42,7 +39,7 @@ turns-past start old mid answer is = record {
   asks = λ a le. inr (inr (behind-faults answer (11 ∷ 13 ∷ []) (inl is)));
   moves = λ m some. inl is;
   late = λ a lt. inl is;
-  floods = λ f some durable. inr (behind-faults answer (11 ∷ []) (inl is));
+  floods = λ f some. inr (behind-faults answer (11 ∷ []) (inl is));
 }
 
 pub turns-damaged : (start : Start) (old mid : SiteView) (answer : ℕ) → answer ≡ 13 → mid.link.taken ≡ old.link.taken → TurnTells start old mid answer
@@ -51,7 +48,7 @@ turns-damaged start old mid answer is same = record {
   asks = λ a le. inr (inr (behind-faults answer (11 ∷ 13 ∷ []) (inr (inl is))));
   moves = λ m some. inr (inr (behind-faults answer (13 ∷ []) (inl is)));
   late = λ a lt. inr (behind-faults answer (12 ∷ 13 ∷ []) (inr (inl is)));
-  floods = λ f some durable. absurd (same-not start old mid same f some);
+  floods = λ f some. absurd (same-not start old mid same f some);
 }
 
 pub turns-another : (start : Start) (old mid : SiteView) (answer : ℕ) → answer ≡ 12 → (CanGoOn start old mid → ⊥) → TurnTells start old mid answer
@@ -60,7 +57,7 @@ turns-another start old mid answer is none = record {
   asks = λ a le. absurd (none a.may);
   moves = λ m some. absurd (none m);
   late = λ a lt. inr (behind-faults answer (12 ∷ 13 ∷ []) (inl is));
-  floods = λ f some durable. absurd (none f.may);
+  floods = λ f some. absurd (none f.may);
 }
 
 -- a run that may not go on, and a clock that is within the limit
@@ -70,7 +67,7 @@ turns-none start old mid answer none within = record {
   asks = λ a le. absurd (none a.may);
   moves = λ m some. absurd (none m);
   late = λ a lt. absurd (omega (arith, within, lt));
-  floods = λ f some durable. absurd (none f.may);
+  floods = λ f some. absurd (none f.may);
 }
 
 -- ---- the clock
@@ -110,7 +107,7 @@ rests-not p e f = apart (sym e ∙ f)
 
 -- ---- sessions
 
-module _ (start : Start) (old mid : SiteView) (sound : IsSound mid) (told : IsTrue mid.disk.told) (given : Given) (reads-as : (how : Option Bool) (r : ReadsSo start how mid) → ReadsAsRun given start.run mid r.seen)
+module _ (start : Start) (old mid : SiteView) (sound : ReadsImages mid) (told : IsTrue mid.disk.told) (given : Given) (reads-as : (how : Option Bool) (r : ReadsSo start how mid) → ReadsAsRun given start.run mid r.seen)
     (answers : List OperatorAnswer) (went : Went given start.run start.most answers old mid) (sure : IsJournalSure went.to) where
   seen : Shown
   seen = went.to.engine.history.seen
@@ -164,17 +161,16 @@ module _ (start : Start) (old mid : SiteView) (sound : IsSound mid) (told : IsTr
     asks = λ a le. inr (inl is);
     moves = λ m some. inr (inl is);
     late = λ a lt. let within = within-rests c.phase in absurd (omega (arith, within, lt));
-    floods = λ f some durable. inl is;
+    floods = λ f some. inl is;
   }
 
   moves-not : enabled_move went.to.engine.history.seen mid.clock.now ≡ None → (m : CanGoOn start old mid) → enabled_move m.goes_on.seen mid.clock.now ≢ None → ⊥
   moves-not none m some = some (subst (λ (s : Shown). enabled_move s mid.clock.now ≡ None) (sym (same-seen m)) none)
 
   -- a session that closed in a turn was not flooded
-  calm-not : AreFiltersSure went.to → went.sums.handles.at_hand ≡ [] → went.to.notes.ignored < most_ignored → FloodsSo start old mid → IsSome old.link.taken
-      → ((agent : ℕ) → IsAgent agent → IsDurable agent old.disk) → ⊥
-  calm-not filters empty calm f some durable =
-      let many = flooded-exactly given start.run start.most answers old mid sound told went start sure filters empty f some durable in omega (arith, calm, many)
+  calm-not : AreFiltersSure went.to → went.sums.handles.at_hand ≡ [] → went.to.notes.ignored < most_ignored → FloodsSo start old mid → IsSome old.link.taken → ⊥
+  calm-not filters empty calm f some =
+      let many = flooded-exactly given start.run start.most answers old mid sound told went start sure filters empty f some in omega (arith, calm, many)
 
   pub turns-asked : (answer issue : ℕ) → answer ≡ 16 → IsClose (close.Asked issue) went.to → AreFiltersSure went.to → IsInTurn went.to → TurnTells start old mid answer
   turns-asked answer issue is c filters turn = record {
@@ -182,8 +178,8 @@ module _ (start : Start) (old mid : SiteView) (sound : IsSound mid) (told : IsTr
     asks = λ a le. inl is;
     moves = λ m some. absurd (moves-not (subst (λ (n : ℕ). enabled_move went.to.engine.history.seen n ≡ None) now-is c.untold.idle.no_move) m some);
     late = λ a lt. let within = within-looked c.untold.idle.has_looked.phase in absurd (omega (arith, within, lt));
-    floods = λ f some durable. absurd (calm-not filters
-        (hand-empty given start.run start.most answers old mid sound told went looked c.untold.idle.has_looked.phase (λ e. e)) turn.calm f some durable);
+    floods = λ f some. absurd (calm-not filters
+        (hand-empty given start.run start.most answers old mid sound told went looked c.untold.idle.has_looked.phase (λ e. e)) turn.calm f some);
   }
 
   -- ---- where it waits
@@ -251,6 +247,6 @@ module _ (start : Start) (old mid : SiteView) (sound : IsSound mid) (told : IsTr
       asks = λ a le. absurd (elim is-short.why [ inl f ↦ asks-first f a le | inr l ↦ asks-last l a ]);
       moves = λ m some. absurd (moves-not (waits-none runnable turn is-short.why) m some);
       late = λ a lt. let within = within-waits is-short.why in absurd (omega (arith, within, lt));
-      floods = λ f some durable. absurd (calm-not filters
-          (hand-empty given start.run start.most answers old mid sound told went (waits moment) closes (λ e. e)) (waits-calm turn) f some durable);
+      floods = λ f some. absurd (calm-not filters
+          (hand-empty given start.run start.most answers old mid sound told went (waits moment) closes (λ e. e)) (waits-calm turn) f some);
     }

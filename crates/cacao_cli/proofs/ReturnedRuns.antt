@@ -1,7 +1,7 @@
 -- What the engine's file holds where a session ended.
 use Rattle.std.proofs.Common.{◌≡◌, ◌≢◌, ◌⊎◌, inl, inr, ◌∙◌, refl, sym, ap, ap₂, subst, arith, ℕ, zero, suc, ◌+◌, ◌-◌, ◌<◌, ◌≤◌, Bool, false, List, [], ◌∷◌, ◌++◌, length, length-append, Option, Some, None}
 use Rattle.std.specs.Prelude.{Any, IsTrue, slice_get}
-use Rattle.cacao_site.specs.DiskCalls.{AllLeft, GoesOn}
+use Rattle.cacao_site.specs.DiskCalls.{AllLeft, GoesOn, IsLeft}
 use Rattle.cacao_site.specs.Sound.{IsSound}
 use Rattle.cacao_site.specs.View.{SiteView}
 use Rattle.cacao_site.specs.declared.parcel.Parcel.{Parcel}
@@ -51,10 +51,31 @@ use Rattle.session_laws.specs.Returned.{ReadsAsRun}
 use Rattle.session_laws.proofs.Carried.{steps_keep_disk_on}
 use Rattle.session_laws.proofs.Shown.{steps_in_turn}
 use Rattle.session_laws.proofs.WholeActs.{acts_undamaged}
+use Rattle.cacao_cli.specs.Lines.{SaysAtMostALine}
 use Rattle.cacao_cli.specs.Returning.{BeginsAnother, GainsRecords, KeepsWithin}
 use Rattle.cacao_cli.specs.Work.{Start}
 use Rattle.cacao_cli.proofs.SpentLemmas.{CouldMore, past-could}
 use Rattle.cacao_cli.proofs.UnusedLemmas.{IsEarly, steps-not-used}
+
+-- ---- sites
+
+-- what a file reads as is one of its images
+pub record ReadsImages (site : SiteView) : Type 0 where
+  pub reads : (file : ℕ) → IsTrue site.disk.told → IsLeft site.disk file site.disk.beat (site.disk.reads file)
+
+pub sound-reads : (site : SiteView) → IsSound site → ReadsImages site
+sound-reads site sound = record { reads = sound.reads }
+
+-- so it was before the last line
+pub reads-before : (mid new : SiteView) → SaysAtMostALine mid new → ReadsImages new → ReadsImages mid
+reads-before mid new (inl is) images = subst ReadsImages is images
+reads-before mid new (inr says) images = record {
+  reads = λ file told.
+      let stays = says.disk.stays file in
+      subst (λ (image : List ℕ). IsLeft mid.disk file mid.disk.beat image) stays.reads
+      (subst IsTrue (stays.images new.disk.beat (new.disk.reads file) says.disk.goes_on.later (omega arith))
+      (images.reads file (subst IsTrue (sym says.disk.goes_on.told) told)));
+}
 
 -- ---- the first record of a file
 
@@ -126,9 +147,9 @@ refused-reads why given run old mid (inr second) other =
     let last = second.refuses in
     (last.refuses.opens.only.others 0 (λ e. omega (arith, e))).reads ∙ (last.before.others 0 (inl refl)).reads ∙ second.journal.reads
 
-module _ (given : Given) (run most : ℕ) (answers : List OperatorAnswer) (old mid : SiteView) (sound : IsSound mid) (told : IsTrue mid.disk.told) (went : Went given run most answers old mid) where
-  pub sound-there : IsSound went.to.site
-  sound-there = subst IsSound (sym went.to_is) sound
+module _ (given : Given) (run most : ℕ) (answers : List OperatorAnswer) (old mid : SiteView) (sound : ReadsImages mid) (told : IsTrue mid.disk.told) (went : Went given run most answers old mid) where
+  pub sound-there : ReadsImages went.to.site
+  sound-there = subst ReadsImages (sym went.to_is) sound
 
   pub told-there : IsTrue went.to.site.disk.told
   told-there = subst (λ (s : SiteView). IsTrue s.disk.told) (sym went.to_is) told
@@ -381,6 +402,17 @@ module _ (given : Given) (run most : ℕ) (answers : List OperatorAnswer) (old m
 
   -- ---- a number that was used
 
+  -- where the file of an agent has an act of the run, its filter has one
+  acts-run : AreFiltersSure went.to → (agent : ℕ) → IsAgent agent → (acts : List Act) → IsActs (mid.disk.reads agent) acts → Any (λ (act : Act). act.run ≡ run) acts → HasRun went.to agent
+  acts-run sure agent is_agent acts are has =
+      let h = holds-filter sure agent is_agent in
+      let same : acts ≡ h.v.acts = same_acts (mid.disk.reads agent) acts h.v.acts are (acts_of_layout (mid.disk.reads agent) h.v.acts h.history.ranges h.holds) in
+      record {
+        v = h.v;
+        there = h.there;
+        has = subst (λ (n : ℕ). Any (λ (act : Act). act.run ≡ n) h.v.acts) (sym (went.sums.given.run ∙ went.begins.of_run)) (subst (λ (l : List Act). Any (λ (act : Act). act.run ≡ run) l) same has);
+      }
+
   -- the file of its filter has an act of the run
   pub record HasUsed (agent : ℕ) : Type 0 where
     pub acts : List Act
@@ -397,6 +429,11 @@ module _ (given : Given) (run most : ℕ) (answers : List OperatorAnswer) (old m
         has = subst (λ (n : ℕ). Any (λ (act : Act). act.run ≡ n) h.v.acts) (went.sums.given.run ∙ went.begins.of_run) first.has.has;
       }
 
+  -- it is the least with one
+  pub first-least : (agent : ℕ) → IsRefusal (error.RunUsed agent) went.to → (lower : ℕ) → IsAgent lower → lower < agent → (acts : List Act) → IsActs (mid.disk.reads lower) acts
+      → Any (λ (act : Act). act.run ≡ run) acts → ⊥
+  first-least agent is lower is_agent lt acts are has = (first-used agent is).least lower is_agent.0 lt (acts-run (used-filters agent is) lower is_agent acts are has)
+
   -- a file without records, and one with an act of the run
   pub record IsUsedRun : Type 0 where
     pub blank : IsRecords (mid.disk.reads 0) []
@@ -410,14 +447,7 @@ module _ (given : Given) (run most : ℕ) (answers : List OperatorAnswer) (old m
   no-records sure blank = same_records (mid.disk.reads 0) went.to.engine.history.records [] (sure-records sure) blank
 
   has-run : AreFiltersSure went.to → (u : IsUsedRun) → HasRun went.to u.agent
-  has-run sure u =
-      let h = holds-filter sure u.agent u.of_agent in
-      let acts : u.acts ≡ h.v.acts = same_acts (mid.disk.reads u.agent) u.acts h.v.acts u.are (acts_of_layout (mid.disk.reads u.agent) h.v.acts h.history.ranges h.holds) in
-      record {
-        v = h.v;
-        there = h.there;
-        has = subst (λ (n : ℕ). Any (λ (act : Act). act.run ≡ n) h.v.acts) (sym (went.sums.given.run ∙ went.begins.of_run)) (subst (λ (l : List Act). Any (λ (act : Act). act.run ≡ run) l) acts u.has);
-      }
+  has-run sure u = acts-run sure u.agent u.of_agent u.acts u.are u.has
 
   not-used : IsJournalSure went.to → AreFiltersSure went.to → (IsEarly went.to.phase → ⊥) → IsUsedRun → ⊥
   not-used journal filters late u = elim (steps-not-used went.start went.to went.begins.phase went.steps) [

@@ -21,7 +21,7 @@ use Rattle.cacao_cli.specs.Files.{Files, NamedText, Reads, ShelfCall, files_of, 
 use Rattle.cacao_cli.specs.Holding.{ClosesSo, RefusesSo, close_end, error_end}
 use Rattle.cacao_cli.specs.Lines.{SaysAtMostALine}
 use Rattle.cacao_cli.specs.OwnSites.{StandsShort}
-use Rattle.cacao_cli.specs.Work.{Start, Work, ends, starts, or_end, start_of, trees_of, trees_wanted, work, work_on}
+use Rattle.cacao_cli.specs.Work.{Start, ends, starts, or_end, start_of, trees_wanted, work, work_on}
 use Rattle.cacao_cli.specs.declared.limit.Limit.TheVariants.{BookCount}
 use Rattle.cacao_cli.proofs.AnswerLemmas.{never}
 use Rattle.cacao_cli.proofs.CauseLemmas.{TreesCase, all_trees, one_treeless, trees_case}
@@ -30,6 +30,7 @@ use Rattle.cacao_cli.proofs.ExactLemmas.{Comes, performs-comes}
 use Rattle.cacao_cli.proofs.JudgedLemmas.{start-settled}
 use Rattle.cacao_cli.proofs.LineLemmas.{IsCutOff}
 use Rattle.cacao_cli.proofs.ReadLemmas.{Read}
+use Rattle.cacao_cli.proofs.StatusLists.{not-among, widen}
 
 -- ---- a session
 
@@ -62,7 +63,7 @@ said-short mid new (inl is) short = subst (λ (s : SiteView). s.clock.now < s.cl
 said-short mid new (inr says) short =
     subst (λ (n : ℕ). n < new.clock.asked) (sym says.time.now) (subst (λ (n : ℕ). mid.clock.now < n) (sym says.time.asked) short)
 
-settled-short : (start : Start) (old new : SiteView) (n : ℕ) → IsSettled start old new n → n ≡ 14 → new.clock.now < new.clock.asked
+pub settled-short : (start : Start) (old new : SiteView) (n : ℕ) → IsSettled start old new n → n ≡ 14 → new.clock.now < new.clock.asked
 settled-short start old new n t e = said-short t.came.between new t.came.behind (go t.came.session.holds.held)
   where
     go : ClosesSo t.came.session.given start.run start.most t.came.session.answers old t.came.between t.last
@@ -72,32 +73,37 @@ settled-short start old new n t e = said-short t.came.between new t.came.behind 
 
 -- ---- run
 
-apart : (n m : ℕ) → IsOneOf m (3 ∷ 4 ∷ 10 ∷ 11 ∷ []) → n ≡ m → n ≡ 14 → ⊥
-apart n m (inl f) is e = omega (arith, f, is, e)
-apart n m (inr (inl f)) is e = omega (arith, f, is, e)
-apart n m (inr (inr (inl f))) is e = omega (arith, f, is, e)
-apart n m (inr (inr (inr (inl f)))) is e = omega (arith, f, is, e)
-apart n m (inr (inr (inr (inr h)))) is e = h
+-- the statuses of a run that came to no session, or was cut off
+abbrev pub unsettled : List ℕ
+unsettled = 1 ∷ 3 ∷ 4 ∷ 5 ∷ 9 ∷ 10 ∷ 11 ∷ []
 
-module _ (wanted : RunRequest) (old new : SiteView) (n : ℕ) (e : n ≡ 14) where
-  texts-short : (texts : List NamedText) → Comes (work_on (runs wanted) texts) old new n → new.clock.now < new.clock.asked
-  texts-short texts h = go (trees_case (trees_wanted wanted texts))
+-- what holds of each session with this status holds of the call
+module _ (wanted : RunRequest) (old new : SiteView) (n : ℕ) (P : Type 0) (apart : IsOneOf n unsettled → ⊥) (by : (start : Start) → IsSettled start old new n → P) where
+  texts-settled : (texts : List NamedText) → Comes (work_on (runs wanted) texts) old new n → P
+  texts-settled texts h = go (trees_case (trees_wanted wanted texts))
     where
-      go : TreesCase (trees_wanted wanted texts) → new.clock.now < new.clock.asked
-      go (one_treeless name reason t f) =
-          let five : n ≡ 5 = subst (λ (r : Result (List Data) End). Comes (or_end r (λ roots. starts (start_of wanted texts))) old new n) f h in absurd (omega (arith, five, e))
+      go : TreesCase (trees_wanted wanted texts) → P
+      go (one_treeless name reason t f) = absurd (apart (inr (inr (inr (inl (subst (λ (r : Result (List Data) End). Comes (or_end r (λ roots. starts (start_of wanted texts))) old new n) f h))))))
       go (all_trees roots t f) =
           let has : HasStatus (starts (start_of wanted texts)) old new n = subst (λ (r : Result (List Data) End). Comes (or_end r (λ roots. starts (start_of wanted texts))) old new n) f h in
-          settled-short (start_of wanted texts) old new n (start-settled (start_of wanted texts) has (λ five. omega (arith, five, e)) (λ one. omega (arith, one, e))) e
+          by (start_of wanted texts) (start-settled (start_of wanted texts) has (λ five. apart (inr (inr (inr (inl five))))) (λ one. apart (inl one)))
 
-  run-short : (told : Option Files) (count : ℕ) (read : Read) → Reads told (files_of (Some (runs wanted))) count read → Comes (work (Some (runs wanted)) read) old new n → new.clock.now < new.clock.asked
-  run-short told count read reads = go (has_too_many (runs wanted)) read (λ end f. read-status told (files_of (Some (runs wanted))) count read end reads f)
+  run-settled : (told : Option Files) (count : ℕ) (read : Read) → Reads told (files_of (Some (runs wanted))) count read → Comes (work (Some (runs wanted)) read) old new n → P
+  run-settled told count read reads = go (has_too_many (runs wanted)) read (λ end f. read-status told (files_of (Some (runs wanted))) count read end reads f)
     where
-      go : (b : Bool) (r : Read) → ((end : End) → r ≡ Err end → IsOneOf (status_of end) (3 ∷ 4 ∷ 10 ∷ 11 ∷ [])) → Comes (if b then ends [] (past BookCount) else or_end r (work_on (runs wanted))) old new n
-          → new.clock.now < new.clock.asked
-      go true r each h = absurd (omega (arith, h, e))
-      go false (Err end) each h = absurd (apart n (status_of end) (each end refl) h e)
-      go false (Ok texts) each h = texts-short texts h
+      go : (b : Bool) (r : Read) → ((end : End) → r ≡ Err end → IsOneOf (status_of end) (3 ∷ 4 ∷ 10 ∷ 11 ∷ [])) → Comes (if b then ends [] (past BookCount) else or_end r (work_on (runs wanted))) old new n → P
+      go true r each h = absurd (apart (inr (inr (inr (inr (inr (inr (inl h))))))))
+      go false (Err end) each h = absurd (apart (subst (λ (k : ℕ). IsOneOf k unsettled) (sym h) (widen (status_of end) (3 ∷ 4 ∷ 10 ∷ 11 ∷ []) unsettled refl (each end refl))))
+      go false (Ok texts) each h = texts-settled texts h
+
+  pub ended-settled : (shelf : ShelfCall) → Ended (Some (runs wanted)) shelf old new n → P
+  ended-settled shelf h = go (performs-comes (work (Some (runs wanted)) h.performed.read) old h.between new h.last n h.performed.performs h.tells)
+    where
+      go : Comes (work (Some (runs wanted)) h.performed.read) old new n ⊎ IsCutOff n → P
+      go (inl c) = run-settled shelf.told h.performed.reads.count h.performed.read h.performed.reads.reads c
+      go (inr (inl f)) = absurd (apart (inr (inr (inr (inr (inl f))))))
+      go (inr (inr (inl f))) = absurd (apart (inr (inr (inr (inr (inr (inl f)))))))
+      go (inr (inr (inr x))) = absurd x
 
 pub short-ended : (asked : Option Asked) (shelf : ShelfCall) (old new : SiteView) (answer : ℕ) → Ended asked shelf old new answer → answer ≡ 14 → StandsShort asked new
 short-ended None shelf old new answer h e = never None shelf old new answer 14 refl h e
@@ -108,11 +114,6 @@ short-ended (Some (lists_rules agent)) shelf old new answer h e = never (Some (l
 short-ended (Some (decides agent packets)) shelf old new answer h e = never (Some (decides agent packets)) shelf old new answer 14 refl h e
 short-ended (Some (shadows agent)) shelf old new answer h e = never (Some (shadows agent)) shelf old new answer 14 refl h e
 short-ended (Some (audits engine filters)) shelf old new answer h e = never (Some (audits engine filters)) shelf old new answer 14 refl h e
-short-ended (Some (runs wanted)) shelf old new answer h e = go (performs-comes (work (Some (runs wanted)) h.performed.read) old h.between new h.last answer h.performed.performs h.tells)
-  where
-    go : Comes (work (Some (runs wanted)) h.performed.read) old new answer ⊎ IsCutOff answer → new.clock.now < new.clock.asked
-    go (inl c) = run-short wanted old new answer e shelf.told h.performed.reads.count h.performed.read h.performed.reads.reads c
-    go (inr (inl f)) = absurd (omega (arith, f, e))
-    go (inr (inr (inl f))) = absurd (omega (arith, f, e))
-    go (inr (inr (inr x))) = absurd x
+short-ended (Some (runs wanted)) shelf old new answer h e = ended-settled wanted old new answer (new.clock.now < new.clock.asked)
+    (λ one. not-among 14 unsettled refl (subst (λ (k : ℕ). IsOneOf k unsettled) e one)) (λ start t. settled-short start old new answer t e) shelf h
 short-ended (Some (rehearses positions)) shelf old new answer h e = never (Some (rehearses positions)) shelf old new answer 14 refl h e

@@ -27,10 +27,10 @@ opened-same a old (and_then {mid} steps step) at = absurd (step_not_opened mid o
 left-same : (old new : World) → new.notes.left ≡ old.notes.left → 1 ≤ old.notes.left → 1 ≤ new.notes.left
 left-same old new same le = omega (arith, same, le)
 
-unlike : (p q : Phase) (what : LimitKind) (lacks : Bool) → (q ≡ refused (past what) lacks → ⊥) → p ≡ q → p ≡ refused (past what) lacks → ⊥
+pub unlike : (p q : Phase) (what : LimitKind) (lacks : Bool) → (q ≡ refused (past what) lacks → ⊥) → p ≡ q → p ≡ refused (past what) lacks → ⊥
 unlike p q what lacks not e at = not (sym e ∙ at)
 
-unlike-cause : (p : Phase) (cause : Cause) (line : Bool) (what : LimitKind) (lacks : Bool) → (cause ≡ past what → ⊥) → p ≡ refused cause line → p ≡ refused (past what) lacks → ⊥
+pub unlike-cause : (p : Phase) (cause : Cause) (line : Bool) (what : LimitKind) (lacks : Bool) → (cause ≡ past what → ⊥) → p ≡ refused cause line → p ≡ refused (past what) lacks → ⊥
 unlike-cause p cause line what lacks not e at = not (same (sym e ∙ at))
   where
     same : refused cause line ≡ refused (past what) lacks → cause ≡ past what

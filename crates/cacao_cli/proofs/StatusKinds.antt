@@ -1,5 +1,5 @@
 -- Which statuses come of which causes.
-use Rattle.std.proofs.Common.{◌≡◌, ℕ, ◌∷◌, Option}
+use Rattle.std.proofs.Common.{◌≡◌, ℕ, List, [], ◌∷◌, Option}
 use Rattle.cacao_site.specs.View.{SiteView}
 use Rattle.cacao_cli.specs.Asked.{Asked}
 use Rattle.cacao_cli.specs.Ends.{End, status_of}
@@ -28,11 +28,11 @@ pub record FileStatuses (asked : Option Asked) (files : Files) (n : ℕ) : Type 
 -- each cause that the disk settles too
 pub record ToldStatuses (asked : Option Asked) (files : Files) (old new : SiteView) (n : ℕ) : Type 0 where
   pub is_done : n ≡ 0 → CanBeDone asked files old new
-  pub done_is : CanBeDone asked files old new → IsOneOf n (0 ∷ stands_for asked)
+  pub done_is : CanBeDone asked files old new → IsOneOf n (0 ∷ stands_for asked old new 0)
   pub is_past : n ≡ 11 → IsPastLimit asked files old new
-  pub past_is : IsPastLimit asked files old new → IsOneOf n (11 ∷ stands_for asked)
+  pub past_is : IsPastLimit asked files old new → IsOneOf n (11 ∷ stands_for asked old new 11)
   pub is_damaged : n ≡ 13 → FindsItDamaged asked files old new
-  pub damaged_is : FindsItDamaged asked files old new → IsOneOf n (13 ∷ stands_for asked)
+  pub damaged_is : FindsItDamaged asked files old new → IsOneOf n (13 ∷ stands_for asked old new 13)
 
 -- a session came to an end with this status
 pub record SessionEnds (asked : Option Asked) (files : Files) (old new : SiteView) (n : ℕ) : Type 0 where
@@ -40,10 +40,15 @@ pub record SessionEnds (asked : Option Asked) (files : Files) (old new : SiteVie
   pub held : EndsAs asked files last old new
   pub is : n ≡ status_of last
 
+-- the statuses that the clauses settle by the end of a session
+abbrev pub settling : List ℕ
+settling = 0 ∷ 6 ∷ 7 ∷ 12 ∷ 13 ∷ 14 ∷ 11 ∷ 15 ∷ 16 ∷ []
+
 -- each status that sessions alone give is that of a session's end
 pub record SessionStatuses (asked : Option Asked) (files : Files) (old new : SiteView) (n : ℕ) : Type 0 where
   pub ends : IsOneOf n session_only → SessionEnds asked files old new n
-  pub among : (last : End) → EndsAs asked files last old new → IsOneOf n (stands_for asked)
+  pub among : (last : End) → IsOneOf (status_of last) settling → EndsAs asked files last old new
+      → IsOneOf n (status_of last ∷ stands_for asked old new (status_of last))
 
 -- all of them, of a command that opens no file of the disk
 pub record Statuses (asked : Option Asked) (files : Files) (old new : SiteView) (n : ℕ) : Type 0 where

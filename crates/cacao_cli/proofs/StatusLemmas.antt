@@ -1,6 +1,6 @@
 -- The clauses on the statuses.
-use Rattle.std.proofs.Common.{◌≡◌, ◌⊎◌, ◌∙◌, inl, inr, refl, sym, subst, arith, ℕ, Bool, true, false, List, [], ◌∷◌, map, Option, Some, None, Ok, Err, Result}
-use Rattle.std.specs.Prelude.{if◌then◌else◌, nat_eq}
+use Rattle.std.proofs.Common.{◌≡◌, ◌⊎◌, ◌∙◌, inl, inr, refl, sym, subst, arith, ℕ, Bool, true, false, List, [], ◌∷◌, ◌++◌, map, Option, Some, None, Ok, Err, Result}
+use Rattle.std.specs.Prelude.{IfSome, if◌then◌else◌, is_some, nat_eq}
 use Rattle.std.specs.List.{list_any}
 use Rattle.oc2_nets.specs.declared.packets.Packet.{Packet}
 use Rattle.filter_reports.specs.PacketFiles.{packets_of}
@@ -14,9 +14,10 @@ use Rattle.cacao_cli.specs.Ends.{End, done, accepted, no_such_file, past, asked_
 use Rattle.cacao_cli.specs.Files.{File, Files, NamedText, ShelfCall, files_of, packet_file, has_too_many, reading}
 use Rattle.cacao_cli.specs.Work.{Work, ends, judges, opens_filter, opens_run, compares, rehearsals, at_decisions, or_end, canon_line, work, work_on, starts, packets_in, packets_or_end, trees_of}
 use Rattle.cacao_cli.specs.Ended.{Ended}
-use Rattle.cacao_cli.specs.Exact.{IsOneOf, ComesExactly, IfFilesTold, IfTold, HasStatus, file_faults, faults_of, session_statuses, stands_for}
+use Rattle.cacao_cli.specs.Exact.{IsOneOf, ComesExactly, ComesFor, IfFilesTold, IfTold, HasStatus, statuses_beside, file_faults, faults_of, disk_failed_if_full, stands_for}
 use Rattle.cacao_cli.specs.Causes.{FindsDisagreement, IsMissing, IsTooLong, IsUnreadable, IsPastLimit, NamesTooMuch, IsRefused, CanBeDone, FindsItDamaged, EndsAs, EndsAsAnother, EndsAsAsked, EndsAsWaiting, HasTexts}
 use Rattle.cacao_cli.specs.declared.limit.Limit.TheVariants.{BookCount}
+use Rattle.cacao_cli.proofs.BudgetLemmas.{HasBudget}
 use Rattle.cacao_cli.proofs.CauseLemmas.{missing-long, ReadingCase, all_within, one_missing, one_long, reading_case, comes, comes-in, TreesCase, all_trees, one_treeless, trees_case}
 use Rattle.cacao_words.specs.Requests.{RunRequest}
 use Rattle.cacao_cli.proofs.CountLemmas.{understood-ended, not_understood-ended}
@@ -25,10 +26,12 @@ use Rattle.cacao_cli.proofs.RunLemmas.{damaged-run, done-run, large-run, run-dam
 use Rattle.cacao_cli.proofs.EndCases.{IsPlainEnd, session-end, session_only}
 use Rattle.cacao_cli.proofs.StatusLists.{not-among}
 use Rattle.cacao_cli.proofs.ReadLemmas.{Read as WasRead}
+use Rattle.cacao_cli.proofs.ReturnedRuns.{ReadsImages}
 use Rattle.cacao_cli.proofs.PacketLemmas.{PacketWork, packet_work, packet_work_case, is_missing, is_too_long, is_bad, is_read, long-apart}
 use Rattle.cacao_cli.proofs.StatusKinds.{Called, FileStatuses, ToldStatuses, SessionEnds, SessionStatuses}
 use Rattle.cacao_cli.proofs.StatusPlain.{canon-statuses, check-by, check-statuses, filter-files, filter-done, done-filter, filter-damaged, damaged-filter, filter-past, decide-files, decide-told, list, audit-statuses, rehearse-files, rehearse-told, rehearse-session}
-use Rattle.cacao_cli.proofs.StatusRuns.{RunCase, run_case, run_many, run_missing, run_long, run_treeless, run_starts, RunList, no-texts, long-texts, run-files, run-told, run-session}
+use Rattle.cacao_cli.proofs.StandRuns.{run-told, run-session}
+use Rattle.cacao_cli.proofs.StatusRuns.{RunCase, run_case, run_many, run_missing, run_long, run_treeless, run_starts, RunList, no-texts, long-texts, run-files}
 
 -- ---- all commands
 
@@ -128,8 +131,8 @@ has-comes (rehearsals positions) old new n h = h
 abbrev Held : Option Asked → Files → SiteView → SiteView → ℕ → Type 0
 Held asked files old new n = HasStatus (work asked (reading files (files_of asked))) old new n
 
-told-statuses : (asked : Option Asked) (files : Files) (old new : SiteView) (n : ℕ) → Held asked files old new n → ToldStatuses asked files old new n
-told-statuses None files old new n held = record {
+told-statuses : (asked : Option Asked) (files : Files) (old new : SiteView) (n : ℕ) → ReadsImages new → IfSome asked HasBudget → Held asked files old new n → ToldStatuses asked files old new n
+told-statuses None files old new n images some held = record {
   is_done = λ e. absurd (omega (arith, e, held));
   done_is = λ h. absurd h;
   is_past = λ e. absurd (omega (arith, e, held));
@@ -137,12 +140,12 @@ told-statuses None files old new n held = record {
   is_damaged = λ e. absurd (omega (arith, e, held));
   damaged_is = λ h. absurd h;
 }
-told-statuses (Some (canonises book)) files old new n held =
+told-statuses (Some (canonises book)) files old new n images some held =
     (canon-statuses book files old new n (has-comes (work (Some (canonises book)) (reading files (files_of (Some (canonises book))))) old new n held)).told
-told-statuses (Some (checks books)) files old new n held =
+told-statuses (Some (checks books)) files old new n images some held =
     (check-statuses books files old new n (has-comes (work (Some (checks books)) (reading files (files_of (Some (checks books))))) old new n held)).told
-told-statuses (Some (runs wanted)) files old new n held = run-told wanted files old new n held
-told-statuses (Some shows) files old new n held = record {
+told-statuses (Some (runs wanted)) files old new n images some held = run-told wanted files old new n images some held
+told-statuses (Some shows) files old new n images some held = record {
   is_done = run-done new n held;
   done_is = λ h. inl (done-run new n held h);
   is_past = run-large new n held;
@@ -150,7 +153,7 @@ told-statuses (Some shows) files old new n held = record {
   is_damaged = run-damaged new n held;
   damaged_is = λ h. inl (damaged-run new n held h);
 }
-told-statuses (Some (lists_rules agent)) files old new n held = record {
+told-statuses (Some (lists_rules agent)) files old new n images some held = record {
   is_done = filter-done agent new n held;
   done_is = λ h. inl (done-filter agent new n held h);
   is_past = λ e. absurd (filter-past agent new n held e);
@@ -158,7 +161,7 @@ told-statuses (Some (lists_rules agent)) files old new n held = record {
   is_damaged = filter-damaged agent new n held;
   damaged_is = λ h. inl (damaged-filter agent new n held h);
 }
-told-statuses (Some (shadows agent)) files old new n held = record {
+told-statuses (Some (shadows agent)) files old new n images some held = record {
   is_done = filter-done agent new n held;
   done_is = λ h. inl (done-filter agent new n held h);
   is_past = λ e. absurd (filter-past agent new n held e);
@@ -166,9 +169,9 @@ told-statuses (Some (shadows agent)) files old new n held = record {
   is_damaged = filter-damaged agent new n held;
   damaged_is = λ h. inl (damaged-filter agent new n held h);
 }
-told-statuses (Some (decides agent packets)) files old new n held = decide-told agent packets files old new n held
-told-statuses (Some (rehearses positions)) files old new n held = rehearse-told positions files old new n held
-told-statuses (Some (audits engine filters)) files old new n held =
+told-statuses (Some (decides agent packets)) files old new n images some held = decide-told agent packets files old new n held
+told-statuses (Some (rehearses positions)) files old new n images some held = rehearse-told positions files old new n held
+told-statuses (Some (audits engine filters)) files old new n images some held =
     (audit-statuses engine filters files old new n (has-comes (work (Some (audits engine filters)) (reading files (files_of (Some (audits engine filters))))) old new n held)).told
 
 -- ---- the statuses that sessions alone give
@@ -245,23 +248,23 @@ sessionless : (asked : Option Asked) (files : Files) (old new : SiteView) (n : �
     → SessionStatuses asked files old new n
 sessionless asked files old new n plain none held = record {
   ends = λ one. absurd (no-session (work asked (reading files (files_of asked))) old new n plain held one);
-  among = λ last h. absurd (none last h);
+  among = λ last one h. absurd (none last h);
 }
 
-session-statuses-of : (asked : Option Asked) (files : Files) (old new : SiteView) (n : ℕ) → Held asked files old new n → SessionStatuses asked files old new n
-session-statuses-of None files old new n held = sessionless None files old new n (not-among 2 session_only refl) (λ last h. h) held
-session-statuses-of (Some (canonises book)) files old new n held = sessionless (Some (canonises book)) files old new n
+session-statuses-of : (asked : Option Asked) (files : Files) (old new : SiteView) (n : ℕ) → ReadsImages new → IfSome asked HasBudget → Held asked files old new n → SessionStatuses asked files old new n
+session-statuses-of None files old new n images some held = sessionless None files old new n (not-among 2 session_only refl) (λ last h. h) held
+session-statuses-of (Some (canonises book)) files old new n images some held = sessionless (Some (canonises book)) files old new n
     (plain-asked (canonises book) files (λ texts. plain-trees texts (λ roots. ends (map canon_line roots) done) (λ roots. not-among 0 session_only refl))) (λ last h. h) held
-session-statuses-of (Some (checks books)) files old new n held = sessionless (Some (checks books)) files old new n
+session-statuses-of (Some (checks books)) files old new n images some held = sessionless (Some (checks books)) files old new n
     (plain-asked (checks books) files (λ texts. plain-trees texts (λ roots. judges roots Reading (ends [] accepted)) (λ roots. not-among 0 session_only refl))) (λ last h. h) held
-session-statuses-of (Some (runs wanted)) files old new n held = run-session wanted files old new n held
-session-statuses-of (Some shows) files old new n held = sessionless (Some shows) files old new n tt (λ last h. h) held
-session-statuses-of (Some (lists_rules agent)) files old new n held = sessionless (Some (lists_rules agent)) files old new n tt (λ last h. h) held
-session-statuses-of (Some (decides agent packets)) files old new n held = sessionless (Some (decides agent packets)) files old new n
+session-statuses-of (Some (runs wanted)) files old new n images some held = run-session wanted files old new n images some held
+session-statuses-of (Some shows) files old new n images some held = sessionless (Some shows) files old new n tt (λ last h. h) held
+session-statuses-of (Some (lists_rules agent)) files old new n images some held = sessionless (Some (lists_rules agent)) files old new n tt (λ last h. h) held
+session-statuses-of (Some (decides agent packets)) files old new n images some held = sessionless (Some (decides agent packets)) files old new n
     (plain-asked (decides agent packets) files (λ texts. plain-packets texts (λ found. opens_filter agent (at_decisions found)) (λ found. tt))) (λ last h. h) held
-session-statuses-of (Some (shadows agent)) files old new n held = sessionless (Some (shadows agent)) files old new n tt (λ last h. h) held
-session-statuses-of (Some (rehearses positions)) files old new n held = rehearse-session positions files old new n held
-session-statuses-of (Some (audits engine filters)) files old new n held = sessionless (Some (audits engine filters)) files old new n
+session-statuses-of (Some (shadows agent)) files old new n images some held = sessionless (Some (shadows agent)) files old new n tt (λ last h. h) held
+session-statuses-of (Some (rehearses positions)) files old new n images some held = rehearse-session positions files old new n held
+session-statuses-of (Some (audits engine filters)) files old new n images some held = sessionless (Some (audits engine filters)) files old new n
     (plain-asked (audits engine filters) files (λ texts. tt)) (λ last h. h) held
 
 -- ---- the clauses
@@ -294,28 +297,28 @@ apart-asked n (Some (decides agent packets)) a f b c (inr (inl e)) = f e
 apart-asked n (Some (decides agent packets)) a f b c (inr (inr h)) = apart n a b c (inr h)
 
 -- what may stand in the place of a status that the files settle, may stand in that of one that a session does
-session-with : (n : ℕ) (list : List File) → IsOneOf n (file_faults list) → IsOneOf n (3 ∷ session_statuses)
-session-with n [] (inl e) = inr (inr (inr (inr (inr (inl e)))))
-session-with n [] (inr (inl e)) = inr (inr (inr (inr (inr (inr (inl e))))))
-session-with n [] (inr (inr h)) = absurd h
-session-with n (file ∷ more) (inl e) = inl e
-session-with n (file ∷ more) (inr (inl e)) = inr (inr (inr (inr (inr (inl e)))))
-session-with n (file ∷ more) (inr (inr (inl e))) = inr (inr (inr (inr (inr (inr (inl e))))))
-session-with n (file ∷ more) (inr (inr (inr h))) = absurd h
+run-with : (n : ℕ) (list : List File) (ms : List ℕ) → IsOneOf n (file_faults list) → IsOneOf n (3 ∷ 9 ∷ 10 ∷ ms)
+run-with n [] ms (inl e) = inr (inl e)
+run-with n [] ms (inr (inl e)) = inr (inr (inl e))
+run-with n [] ms (inr (inr h)) = absurd h
+run-with n (file ∷ more) ms (inl e) = inl e
+run-with n (file ∷ more) ms (inr (inl e)) = inr (inl e)
+run-with n (file ∷ more) ms (inr (inr (inl e))) = inr (inr (inl e))
+run-with n (file ∷ more) ms (inr (inr (inr h))) = absurd h
 
-stands-with : (asked : Option Asked) (n : ℕ) → IsOneOf n (faults_of asked) → IsOneOf n (stands_for asked)
-stands-with None n h = h
-stands-with (Some (canonises book)) n h = h
-stands-with (Some (checks books)) n h = h
-stands-with (Some (runs wanted)) n h = session-with n (files_of (Some (runs wanted))) h
-stands-with (Some shows) n h = h
-stands-with (Some (lists_rules agent)) n h = h
-stands-with (Some (decides agent packets)) n h = h
-stands-with (Some (shadows agent)) n h = h
-stands-with (Some (rehearses positions)) n (inl e) = inr (inr (inr (inr (inl e))))
-stands-with (Some (rehearses positions)) n (inr (inl e)) = inr (inr (inr (inr (inr (inl e)))))
-stands-with (Some (rehearses positions)) n (inr (inr h)) = absurd h
-stands-with (Some (audits engine filters)) n h = h
+stands-with : (asked : Option Asked) (old new : SiteView) (m n : ℕ) → IsOneOf n (faults_of asked) → IsOneOf n (stands_for asked old new m)
+stands-with None old new m n h = h
+stands-with (Some (canonises book)) old new m n h = h
+stands-with (Some (checks books)) old new m n h = h
+stands-with (Some (runs wanted)) old new m n h = run-with n (files_of (Some (runs wanted))) (disk_failed_if_full new.disk ++ statuses_beside new.disk.told (is_some old.link.taken) m) h
+stands-with (Some shows) old new m n h = h
+stands-with (Some (lists_rules agent)) old new m n h = h
+stands-with (Some (decides agent packets)) old new m n h = h
+stands-with (Some (shadows agent)) old new m n h = h
+stands-with (Some (rehearses positions)) old new m n (inl e) = inr (inr (inr (inl e)))
+stands-with (Some (rehearses positions)) old new m n (inr (inl e)) = inr (inr (inr (inr (inl e))))
+stands-with (Some (rehearses positions)) old new m n (inr (inr h)) = absurd h
+stands-with (Some (audits engine filters)) old new m n h = h
 
 widen : (Has : Type 0) (answer : ℕ) (list : List File) → Has ⊎ IsOneOf answer (file_faults list) → Has ⊎ IsOneOf answer (3 ∷ 9 ∷ 10 ∷ [])
 widen Has answer _ (inl h) = inl h
@@ -355,37 +358,38 @@ module _ (asked : Option Asked) (shelf : ShelfCall) (old new : SiteView) (answer
       (apart 18 (λ e. omega (arith, e)) (λ e. omega (arith, e)) (λ e. omega (arith, e)))
       (widen (Called asked files old new answer) answer (files_of asked) (status-seen asked files shelf old new answer seen ended)))
 
-  pub done-ended : IfTold asked shelf.told old (λ files. ComesExactly 0 (stands_for asked) (CanBeDone asked files old new) answer)
-  done-ended = if-asked asked shelf.told old _ (λ disk files seen.
-      comes-in 0 (faults_of asked) (stands_for asked) (Held asked files old new answer) (CanBeDone asked files old new) answer (λ h. (told-statuses asked files old new answer h).is_done) (λ h. (told-statuses asked files old new answer h).done_is)
-      (apart-asked 0 asked (λ e. omega (arith, e)) (λ e. omega (arith, e)) (λ e. omega (arith, e)) (λ e. omega (arith, e))) (stands-with asked answer)
-      (status-told asked files shelf old new answer disk seen ended))
-
-  pub past-ended : IfTold asked shelf.told old (λ files. ComesExactly 11 (stands_for asked) (IsPastLimit asked files old new) answer)
-  past-ended = if-asked asked shelf.told old _ (λ disk files seen.
-      comes-in 11 (faults_of asked) (stands_for asked) (Held asked files old new answer) (IsPastLimit asked files old new) answer (λ h. (told-statuses asked files old new answer h).is_past) (λ h. (told-statuses asked files old new answer h).past_is)
-      (apart-asked 11 asked (λ e. omega (arith, e)) (λ e. omega (arith, e)) (λ e. omega (arith, e)) (λ e. omega (arith, e))) (stands-with asked answer)
-      (status-told asked files shelf old new answer disk seen ended))
-
-  pub damaged-ended : IfTold asked shelf.told old (λ files. ComesExactly 13 (stands_for asked) (FindsItDamaged asked files old new) answer)
-  damaged-ended = if-asked asked shelf.told old _ (λ disk files seen.
-      comes-in 13 (faults_of asked) (stands_for asked) (Held asked files old new answer) (FindsItDamaged asked files old new) answer (λ h. (told-statuses asked files old new answer h).is_damaged) (λ h. (told-statuses asked files old new answer h).damaged_is)
-      (apart-asked 13 asked (λ e. omega (arith, e)) (λ e. omega (arith, e)) (λ e. omega (arith, e)) (λ e. omega (arith, e))) (stands-with asked answer)
-      (status-told asked files shelf old new answer disk seen ended))
-
   pub words-ended : ComesExactly 2 (9 ∷ 10 ∷ []) (asked ≡ None) answer
   words-ended = record { only = understood-ended asked shelf old new answer ended; always = not_understood-ended asked shelf old new answer ended }
 
+module _ (asked : Option Asked) (shelf : ShelfCall) (old new : SiteView) (answer : ℕ) (images : ReadsImages new) (some : IfSome asked HasBudget) (ended : Ended asked shelf old new answer) where
+  pub done-ended : IfTold asked shelf.told old (λ files. ComesFor asked old new 0 (CanBeDone asked files old new) answer)
+  done-ended = if-asked asked shelf.told old _ (λ disk files seen.
+      comes-in 0 (faults_of asked) (stands_for asked old new 0) (Held asked files old new answer) (CanBeDone asked files old new) answer (λ h. (told-statuses asked files old new answer images some h).is_done) (λ h. (told-statuses asked files old new answer images some h).done_is)
+      (apart-asked 0 asked (λ e. omega (arith, e)) (λ e. omega (arith, e)) (λ e. omega (arith, e)) (λ e. omega (arith, e))) (stands-with asked old new 0 answer)
+      (status-told asked files shelf old new answer disk seen ended))
+
+  pub past-ended : IfTold asked shelf.told old (λ files. ComesFor asked old new 11 (IsPastLimit asked files old new) answer)
+  past-ended = if-asked asked shelf.told old _ (λ disk files seen.
+      comes-in 11 (faults_of asked) (stands_for asked old new 11) (Held asked files old new answer) (IsPastLimit asked files old new) answer (λ h. (told-statuses asked files old new answer images some h).is_past) (λ h. (told-statuses asked files old new answer images some h).past_is)
+      (apart-asked 11 asked (λ e. omega (arith, e)) (λ e. omega (arith, e)) (λ e. omega (arith, e)) (λ e. omega (arith, e))) (stands-with asked old new 11 answer)
+      (status-told asked files shelf old new answer disk seen ended))
+
+  pub damaged-ended : IfTold asked shelf.told old (λ files. ComesFor asked old new 13 (FindsItDamaged asked files old new) answer)
+  damaged-ended = if-asked asked shelf.told old _ (λ disk files seen.
+      comes-in 13 (faults_of asked) (stands_for asked old new 13) (Held asked files old new answer) (FindsItDamaged asked files old new) answer (λ h. (told-statuses asked files old new answer images some h).is_damaged) (λ h. (told-statuses asked files old new answer images some h).damaged_is)
+      (apart-asked 13 asked (λ e. omega (arith, e)) (λ e. omega (arith, e)) (λ e. omega (arith, e)) (λ e. omega (arith, e))) (stands-with asked old new 13 answer)
+      (status-told asked files shelf old new answer disk seen ended))
+
   -- a status that sessions alone give comes exactly with this cause
   session-clause : (n : ℕ) (Cause : Files → Type 0) → list_any (nat_eq n) (3 ∷ 8 ∷ 9 ∷ 10 ∷ []) ≡ false → IsOneOf n session_only
-      → ((files : Files) → SessionEnds asked files old new answer → answer ≡ n → Cause files) → ((files : Files) → SessionStatuses asked files old new answer → Cause files → IsOneOf answer (stands_for asked))
-      → IfTold asked shelf.told old (λ files. ComesExactly n (stands_for asked) (Cause files) answer)
+      → ((files : Files) → SessionEnds asked files old new answer → answer ≡ n → Cause files) → ((files : Files) → SessionStatuses asked files old new answer → Cause files → IsOneOf answer (n ∷ stands_for asked old new n))
+      → IfTold asked shelf.told old (λ files. ComesFor asked old new n (Cause files) answer)
   session-clause n Cause other one to from = if-asked asked shelf.told old _ (λ disk files seen.
-      comes-in n (faults_of asked) (stands_for asked) (Held asked files old new answer) (Cause files) answer
-      (λ h e. to files ((session-statuses-of asked files old new answer h).ends (subst (λ (m : ℕ). IsOneOf m session_only) (sym e) one)) e)
-      (λ h c. inr (from files (session-statuses-of asked files old new answer h) c))
+      comes-in n (faults_of asked) (stands_for asked old new n) (Held asked files old new answer) (Cause files) answer
+      (λ h e. to files ((session-statuses-of asked files old new answer images some h).ends (subst (λ (m : ℕ). IsOneOf m session_only) (sym e) one)) e)
+      (λ h c. from files (session-statuses-of asked files old new answer images some h) c)
       (apart-asked n asked (λ e. apart-from 3 e (inl refl)) (λ e. apart-from 8 e (inr (inl refl))) (λ e. apart-from 9 e (inr (inr (inl refl)))) (λ e. apart-from 10 e (inr (inr (inr (inl refl))))))
-      (stands-with asked answer)
+      (stands-with asked old new n answer)
       (status-told asked files shelf old new answer disk seen ended))
     where
       apart-from : (m : ℕ) → n ≡ m → IsOneOf m (3 ∷ 8 ∷ 9 ∷ 10 ∷ []) → ⊥
@@ -394,15 +398,15 @@ module _ (asked : Option Asked) (shelf : ShelfCall) (old new : SiteView) (answer
   ended-as : (files : Files) (end : End) (s : SessionEnds asked files old new answer) → s.last ≡ end → EndsAs asked files end old new
   ended-as files end s e = subst (λ (x : End). EndsAs asked files x old new) e s.held
 
-  pub failed-run-ended : IfTold asked shelf.told old (λ files. ComesExactly 6 (stands_for asked) (EndsAs asked files ended_failed old new) answer)
+  pub failed-run-ended : IfTold asked shelf.told old (λ files. ComesFor asked old new 6 (EndsAs asked files ended_failed old new) answer)
   failed-run-ended = session-clause 6 (λ files. EndsAs asked files ended_failed old new) refl (inl refl)
-      (λ files s e. ended-as files ended_failed s ((session-end s.last).failed (sym s.is ∙ e))) (λ files all c. all.among ended_failed c)
+      (λ files s e. ended-as files ended_failed s ((session-end s.last).failed (sym s.is ∙ e))) (λ files all c. all.among ended_failed (inr (inl refl)) c)
 
-  pub paused-ended : IfTold asked shelf.told old (λ files. ComesExactly 7 (stands_for asked) (EndsAs asked files paused old new) answer)
+  pub paused-ended : IfTold asked shelf.told old (λ files. ComesFor asked old new 7 (EndsAs asked files paused old new) answer)
   paused-ended = session-clause 7 (λ files. EndsAs asked files paused old new) refl (inr (inl refl))
-      (λ files s e. ended-as files paused s ((session-end s.last).pauses (sym s.is ∙ e))) (λ files all c. all.among paused c)
+      (λ files s e. ended-as files paused s ((session-end s.last).pauses (sym s.is ∙ e))) (λ files all c. all.among paused (inr (inr (inl refl))) c)
 
-  pub another-ended : IfTold asked shelf.told old (λ files. ComesExactly 12 (stands_for asked) (EndsAsAnother asked files old new) answer)
+  pub another-ended : IfTold asked shelf.told old (λ files. ComesFor asked old new 12 (EndsAsAnother asked files old new) answer)
   another-ended = session-clause 12 (λ files. EndsAsAnother asked files old new) refl (inr (inr (inl refl)))
       (λ files s e. to files s ((session-end s.last).another (sym s.is ∙ e))) (λ files all c. from files all c)
     where
@@ -412,19 +416,19 @@ module _ (asked : Option Asked) (shelf : ShelfCall) (old new : SiteView) (answer
       to files s (inr (inl h)) = inr (inl (h.0, ended-as files (other_book h.0) s h.1))
       to files s (inr (inr h)) = inr (inr (h.0, ended-as files (run_used h.0) s h.1))
 
-      from : (files : Files) → SessionStatuses asked files old new answer → EndsAsAnother asked files old new → IsOneOf answer (stands_for asked)
-      from files all (inl h) = all.among (other_run h.0 h.1) h.2
-      from files all (inr (inl h)) = all.among (other_book h.0) h.1
-      from files all (inr (inr h)) = all.among (run_used h.0) h.1
+      from : (files : Files) → SessionStatuses asked files old new answer → EndsAsAnother asked files old new → IsOneOf answer (12 ∷ stands_for asked old new 12)
+      from files all (inl h) = all.among (other_run h.0 h.1) (inr (inr (inr (inl refl)))) h.2
+      from files all (inr (inl h)) = all.among (other_book h.0) (inr (inr (inr (inl refl)))) h.1
+      from files all (inr (inr h)) = all.among (run_used h.0) (inr (inr (inr (inl refl)))) h.1
 
-  pub waiting-ended : IfTold asked shelf.told old (λ files. ComesExactly 14 (stands_for asked) (EndsAsWaiting asked files old new) answer)
+  pub waiting-ended : IfTold asked shelf.told old (λ files. ComesFor asked old new 14 (EndsAsWaiting asked files old new) answer)
   waiting-ended = session-clause 14 (λ files. EndsAsWaiting asked files old new) refl (inr (inr (inr (inl refl))))
-      (λ files s e. let w = (session-end s.last).waits (sym s.is ∙ e) in (w.0, ended-as files (waiting w.0) s w.1)) (λ files all c. all.among (waiting c.0) c.1)
+      (λ files s e. let w = (session-end s.last).waits (sym s.is ∙ e) in (w.0, ended-as files (waiting w.0) s w.1)) (λ files all c. all.among (waiting c.0) (inr (inr (inr (inr (inr (inl refl)))))) c.1)
 
-  pub flooded-ended : IfTold asked shelf.told old (λ files. ComesExactly 15 (stands_for asked) (EndsAs asked files flooded old new) answer)
+  pub flooded-ended : IfTold asked shelf.told old (λ files. ComesFor asked old new 15 (EndsAs asked files flooded old new) answer)
   flooded-ended = session-clause 15 (λ files. EndsAs asked files flooded old new) refl (inr (inr (inr (inr (inl refl)))))
-      (λ files s e. ended-as files flooded s ((session-end s.last).floods (sym s.is ∙ e))) (λ files all c. all.among flooded c)
+      (λ files s e. ended-as files flooded s ((session-end s.last).floods (sym s.is ∙ e))) (λ files all c. all.among flooded (inr (inr (inr (inr (inr (inr (inr (inl refl)))))))) c)
 
-  pub asked-ended : IfTold asked shelf.told old (λ files. ComesExactly 16 (stands_for asked) (EndsAsAsked asked files old new) answer)
+  pub asked-ended : IfTold asked shelf.told old (λ files. ComesFor asked old new 16 (EndsAsAsked asked files old new) answer)
   asked-ended = session-clause 16 (λ files. EndsAsAsked asked files old new) refl (inr (inr (inr (inr (inr (inl refl))))))
-      (λ files s e. let w = (session-end s.last).asks (sym s.is ∙ e) in (w.0, ended-as files (asked_for w.0) s w.1)) (λ files all c. all.among (asked_for c.0) c.1)
+      (λ files s e. let w = (session-end s.last).asks (sym s.is ∙ e) in (w.0, ended-as files (asked_for w.0) s w.1)) (λ files all c. all.among (asked_for c.0) (inr (inr (inr (inr (inr (inr (inr (inr (inl refl))))))))) c.1)

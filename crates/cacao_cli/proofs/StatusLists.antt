@@ -5,6 +5,14 @@ use Rattle.std.specs.List.{list_any}
 use Rattle.std.proofs.lemmas.Bool.{true≢false}
 use Rattle.cacao_cli.specs.Exact.{IsOneOf}
 
+-- the statuses of a call that came to its session, but for faults of the shelf
+abbrev pub session_statuses : List ℕ
+session_statuses = 0 ∷ 6 ∷ 7 ∷ 8 ∷ 9 ∷ 10 ∷ 11 ∷ 12 ∷ 13 ∷ 14 ∷ 15 ∷ 16 ∷ []
+
+-- of which the files and the clock do not always tell which came: a limit that would be passed, too many parcels, a question
+abbrev pub parcel_statuses : List ℕ
+parcel_statuses = 11 ∷ 15 ∷ 16 ∷ []
+
 abbrev pub is_among : ℕ → List ℕ → Bool
 is_among n ms = list_any (nat_eq n) ms
 
@@ -44,3 +52,18 @@ widen n (m ∷ ms) ns all h = go (is_among m ns) refl all h (widen n ms ns)
     go true is all (inl e) rest = subst (λ (k : ℕ). IsOneOf k ns) (sym e) (is-there m ns (sym is))
     go true is all (inr h) rest = rest all h
     go false is all h rest = absurd (true≢false (sym all))
+
+-- no number of the first list is in the second
+abbrev pub are_apart : List ℕ → List ℕ → Bool
+are_apart [] ns = true
+are_apart (m ∷ ms) ns = if is_among m ns then false else are_apart ms ns
+
+-- so one of the first is none of the second
+pub apart-lists : (n : ℕ) (ms ns : List ℕ) → are_apart ms ns ≡ true → IsOneOf n ms → IsOneOf n ns → ⊥
+apart-lists n [] ns none h g = h
+apart-lists n (m ∷ ms) ns none h g = go (is_among m ns) refl none h (λ rest one. apart-lists n ms ns rest one g)
+  where
+    go : (b : Bool) → b ≡ is_among m ns → (if b then false else are_apart ms ns) ≡ true → IsOneOf n (m ∷ ms) → (are_apart ms ns ≡ true → IsOneOf n ms → ⊥) → ⊥
+    go true is none h rest = true≢false (sym none)
+    go false is none (inl e) rest = not-among m ns (sym is) (subst (λ (k : ℕ). IsOneOf k ns) e g)
+    go false is none (inr h) rest = rest none h

@@ -9,11 +9,11 @@ use Rattle.cacao_check.specs.declared.breaks.Mode.TheVariants.{Read as Reading}
 use Rattle.cacao_site.specs.View.{SiteView}
 use Rattle.cacao_words.specs.Words.{Text}
 use Rattle.cacao_cli.specs.Asked.{Asked, canonises, checks, decides, rehearses, audits}
-use Rattle.cacao_cli.specs.Ends.{End, done, accepted, most, no_such_file, not_readable, past, damaged, rehearsed}
+use Rattle.cacao_cli.specs.Ends.{End, done, accepted, most, no_such_file, not_readable, past, rehearsed}
 use Rattle.cacao_cli.specs.Files.{File, Files, NamedText, files_of, book_file, packet_file, has_too_many, reading}
 use Rattle.cacao_cli.specs.Work.{Work, ends, judges, opens_filter, at_decisions, or_end, canon_line, run_files, work_on}
-use Rattle.cacao_cli.specs.Audited.{Agree, Disagree, PassTasks}
-use Rattle.cacao_cli.specs.Exact.{HasVerdict, IsOneOf, IsBroken, HasStatus, session_statuses, HasRehearsed, IsRehearsed}
+use Rattle.cacao_cli.specs.Audited.{FilesAgree, Disagree, PassTasks}
+use Rattle.cacao_cli.specs.Exact.{HasVerdict, IsOneOf, IsBroken, HasStatus, run_rehearsal_statuses, HasRehearsed, IsRehearsed}
 use Rattle.cacao_cli.specs.Causes.{AllWithin, FindsDisagreement, IsAuditOf, SomeTreeless, Trees, IsMissing, IsTooLong, IsUnreadable, IsPastLimit, IsRefused, BreaksRule, KeepsRules}
 use Rattle.cacao_cli.specs.Rehearsing.{MayEndSo, RehearsalTo}
 use Rattle.cacao_cli.specs.Openings.{HoldsFilter, IsDamagedFilter}
@@ -26,7 +26,7 @@ use Rattle.cacao_cli.proofs.OpenLemmas.{ComesOpened}
 use Rattle.cacao_cli.proofs.ReadLemmas.{Read}
 use Rattle.cacao_cli.proofs.RehearseLemmas.{broken-rehearsed, came-counted, long-listed, rehearsal-listed, rehearsed-broken, rehearsed-other, rehearsed-ran}
 use Rattle.cacao_cli.proofs.EndCases.{session-end, session_only}
-use Rattle.cacao_cli.proofs.StatusLists.{not-among}
+use Rattle.cacao_cli.proofs.StatusLists.{not-among, session_statuses}
 use Rattle.cacao_cli.proofs.PacketLemmas.{PacketWork, packet_work, packet_work_case, is_missing, is_too_long, is_bad, is_read, missing-apart, long-apart, bad-apart, holds-or-damaged}
 use Rattle.cacao_cli.proofs.StatusKinds.{Called, FileStatuses, ToldStatuses, SessionEnds, SessionStatuses, Statuses}
 
@@ -335,7 +335,7 @@ module _ (engine : Text) (filters : List (ℕ × Text)) (files : Files) (old new
         };
         told = record {
           is_done = λ e. absurd (omega (arith, e, k));
-          done_is = λ h. absurd (none-audited Agree (no_such_file name) is h);
+          done_is = λ h. absurd (none-audited FilesAgree (no_such_file name) is h);
           is_past = λ e. absurd (omega (arith, e, k));
           past_is = ⊎_elim (λ l. absurd (missing-long files list m l)) (λ h. absurd (none-audited PassTasks (no_such_file name) is h));
           is_damaged = λ e. absurd (omega (arith, e, k));
@@ -355,7 +355,7 @@ module _ (engine : Text) (filters : List (ℕ × Text)) (files : Files) (old new
         };
         told = record {
           is_done = λ e. absurd (omega (arith, e, k));
-          done_is = λ h. absurd (none-audited Agree (past limit) is h);
+          done_is = λ h. absurd (none-audited FilesAgree (past limit) is h);
           is_past = λ e. inl l;
           past_is = λ h. inl k;
           is_damaged = λ e. absurd (omega (arith, e, k));
@@ -374,8 +374,8 @@ module _ (engine : Text) (filters : List (ℕ × Text)) (files : Files) (old new
           disagreed_is = λ h. disagree-verdict (run_files filters texts) n v (of-audit Disagree texts is h);
         };
         told = record {
-          is_done = λ e. to-audit Agree texts is (verdict-agree (run_files filters texts) n v e);
-          done_is = λ h. inl (agree-verdict (run_files filters texts) n v (of-audit Agree texts is h));
+          is_done = λ e. to-audit FilesAgree texts is (verdict-agree (run_files filters texts) n v e);
+          done_is = λ h. inl (agree-verdict (run_files filters texts) n v (of-audit FilesAgree texts is h));
           is_past = λ e. inr (to-audit PassTasks texts is (verdict-tasks (run_files filters texts) n v e));
           past_is = ⊎_elim (λ l. absurd (first-within files (λ file. IsSomeAnd (files file.name) (λ bytes. most file.limit < length bytes)) list (long-within files) l (texts-within files list texts t)))
               (λ h. inl (tasks-verdict (run_files filters texts) n v (of-audit PassTasks texts is h)));
@@ -398,7 +398,7 @@ module _ (positions : ℕ) (files : Files) (old new : SiteView) (n : ℕ) where
   rehearse-past (inr (inl h)) e = absurd (omega (arith, e, h.1))
   rehearse-past (inr (inr h)) e = let p = (session-end h.last).passes (sym h.is ∙ e) in inr (p.0, subst (RehearsalTo positions) p.1 h.came)
 
-  pub past-listed : HasRehearsed positions n → IsPastLimit (Some (rehearses positions)) files old new → IsOneOf n session_statuses
+  pub past-listed : HasRehearsed positions n → IsPastLimit (Some (rehearses positions)) files old new → IsOneOf n run_rehearsal_statuses
   past-listed h (inl long) = long-listed positions n h long
   past-listed h (inr (limit, r)) = rehearsal-listed positions n h (past limit) r
 
@@ -425,7 +425,7 @@ module _ (positions : ℕ) (files : Files) (old new : SiteView) (n : ℕ) where
   }
 
   pub rehearse-session : HasRehearsed positions n → SessionStatuses (Some (rehearses positions)) files old new n
-  rehearse-session h = record { ends = by h; among = λ last r. rehearsal-listed positions n h last r }
+  rehearse-session h = record { ends = by h; among = λ last one r. inr (rehearsal-listed positions n h last r) }
     where
       unlike : (m : ℕ) → n ≡ m → list_any (nat_eq m) session_only ≡ false → IsOneOf n session_only → ⊥
       unlike m e none one = not-among m session_only none (subst (λ (k : ℕ). IsOneOf k session_only) e one)

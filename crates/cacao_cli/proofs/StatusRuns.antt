@@ -1,17 +1,16 @@
 -- The statuses of `run`.
 use Rattle.std.proofs.Common.{◌≡◌, ◌∙◌, inl, inr, refl, sym, subst, arith, ℕ, Bool, true, false, List, [], map, Some, Ok, Err, Result, ap}
-use Rattle.std.specs.Prelude.{if◌then◌else◌, nat_eq}
-use Rattle.std.specs.List.{list_any}
+use Rattle.std.specs.Prelude.{if◌then◌else◌}
 use Rattle.std.proofs.lemmas.Bool.{true≢false}
 use Rattle.serde_json.specs.Data.{Data}
 use Rattle.cacao_site.specs.View.{SiteView}
 use Rattle.cacao_words.specs.Words.{Text}
 use Rattle.cacao_cli.specs.Asked.{runs}
-use Rattle.cacao_cli.specs.Ends.{End, no_such_file, not_readable, past, damaged, ended_ok}
+use Rattle.cacao_cli.specs.Ends.{End, no_such_file, not_readable, past}
 use Rattle.cacao_cli.specs.Files.{File, Files, NamedText, files_of, book_file, has_too_many, reading, run_names}
 use Rattle.cacao_cli.specs.Work.{Work, ends, or_end, work, work_on, starts, start_of, trees_wanted}
-use Rattle.cacao_cli.specs.Exact.{IsOneOf, HasStatus, IsSettled, session_statuses}
-use Rattle.cacao_cli.specs.Causes.{AllWithin, IsMissing, IsTooLong, IsUnreadable, IsPastLimit, FindsItDamaged, HasTexts, HasTrees, LacksTree, SessionTo}
+use Rattle.cacao_cli.specs.Exact.{HasStatus}
+use Rattle.cacao_cli.specs.Causes.{AllWithin, IsMissing, IsTooLong, IsUnreadable, HasTexts, HasTrees, LacksTree, SessionTo}
 use Rattle.cacao_cli.specs.declared.limit.Limit.TheVariants.{BookCount}
 use Rattle.cacao_cli.proofs.CauseLemmas.{missing-long, texts-within, ReadingCase, all_within, one_missing, one_long, reading_case, Roots, Treeless, TreesCase, all_trees, one_treeless, trees_case, first-missing, first-long}
 use Rattle.cacao_cli.specs.Holding.{HasBadAnswer, IsAcceptedStart, IsRefusedStart}
@@ -19,11 +18,9 @@ use Rattle.cacao_cli.specs.declared.limit.Limit.{Limit}
 use Rattle.cacao_cli.specs.declared.reason.Reason.{Reason}
 use Rattle.cacao_words.specs.Requests.{RunRequest}
 use Rattle.cacao_cli.proofs.ExactLemmas.{Comes}
-use Rattle.cacao_cli.proofs.JudgedLemmas.{bad-start, came-accepted, came-done, lacks-tree, refused-start, roots-lack, start-among, start-bad, start-listed, start-other, start-refused, start-settled}
-use Rattle.cacao_cli.proofs.EndCases.{session-end, session_only}
-use Rattle.cacao_cli.proofs.StatusLists.{not-among}
+use Rattle.cacao_cli.proofs.JudgedLemmas.{bad-start, came-accepted, lacks-tree, refused-start, roots-lack, start-bad, start-other, start-refused}
 use Rattle.cacao_cli.proofs.ReadLemmas.{Read as WasRead}
-use Rattle.cacao_cli.proofs.StatusKinds.{Called, FileStatuses, ToldStatuses, SessionEnds, SessionStatuses}
+use Rattle.cacao_cli.proofs.StatusKinds.{Called, FileStatuses}
 
 -- ---- run
 
@@ -179,93 +176,3 @@ module _ (wanted : RunRequest) (files : Files) (old new : SiteView) (n : ℕ) wh
 
   pub no-session-of-many : (last : End) → has_too_many (runs wanted) ≡ true → SessionTo wanted files last old new → ⊥
   no-session-of-many last many h = no-texts files wanted h.texts h.has many
-
-  -- no session is held where the files stop the call before
-  pub record NoSession : Type 0 where
-    none : (last : End) → SessionTo wanted files last old new → ⊥
-
-  pub no-past : NoSession → (has_too_many (runs wanted) ≡ true → ⊥) → (IsTooLong files (files_of (Some (runs wanted))) → ⊥) → IsPastLimit (Some (runs wanted)) files old new → ⊥
-  no-past absent many long (inl (inl e)) = many e
-  no-past absent many long (inl (inr l)) = long l
-  no-past absent many long (inr (limit, h)) = absent.none (past limit) h
-
-  pub stopped-told : NoSession → (m : ℕ) → n ≡ m → (m ≡ 0 → ⊥) → (m ≡ 13 → ⊥) → (n ≡ 11 → IsPastLimit (Some (runs wanted)) files old new) → (IsPastLimit (Some (runs wanted)) files old new → n ≡ 11) → ToldStatuses (Some (runs wanted)) files old new n
-  stopped-told absent m is a b past_to to_past = record {
-    is_done = λ e. absurd (a (sym is ∙ e));
-    done_is = λ h. absurd (absent.none ended_ok h);
-    is_past = past_to;
-    past_is = λ h. inl (to_past h);
-    is_damaged = λ e. absurd (b (sym is ∙ e));
-    damaged_is = λ h. absurd (absent.none (damaged h.0 h.1) h.2);
-  }
-
-  pub run-told : HasStatus (work (Some (runs wanted)) (reading files (files_of (Some (runs wanted))))) old new n → ToldStatuses (Some (runs wanted)) files old new n
-  run-told held = go (run_case wanted files)
-    where
-      at : (w : Work) → work (Some (runs wanted)) (reading files (files_of (Some (runs wanted)))) ≡ w → HasStatus w old new n
-      at w is = subst (λ (w : Work). HasStatus w old new n) is held
-
-      go : RunCase wanted files → ToldStatuses (Some (runs wanted)) files old new n
-      go (run_many many is) = let k : n ≡ 11 = at (ends [] (past BookCount)) is in
-          stopped-told (record { none = λ last h. no-session-of-many last many h }) 11 k (λ e. omega (arith, e)) (λ e. omega (arith, e)) (λ e. inl (inl many)) (λ h. k)
-      go (run_missing name m is) = let k : n ≡ 4 = at (ends [] (no_such_file name)) is in
-          let absent : NoSession = record { none = λ last h. missing-texts h.texts h.has m } in
-          stopped-told absent 4 k (λ e. omega (arith, e)) (λ e. omega (arith, e)) (λ e. absurd (omega (arith, e, k)))
-          (λ h. absurd (no-past absent (λ many. subst (λ (b : Bool). IsMissing files (RunList wanted b)) many m) (λ long. missing-long files (files_of (Some (runs wanted))) m long) h))
-      go (run_long limit l is) = let k : n ≡ 11 = at (ends [] (past limit)) is in
-          stopped-told (record { none = λ last h. long-texts h.texts h.has l }) 11 k (λ e. omega (arith, e)) (λ e. omega (arith, e)) (λ e. inl (inr l)) (λ h. k)
-      go (run_treeless texts name reason has within t is) = let k : n ≡ 5 = at (ends [] (not_readable name reason)) is in
-          let absent : NoSession = record { none = λ last h. (session-texts texts has last h).1 (lacks-tree (trees_wanted wanted texts) t) } in
-          stopped-told absent 5 k (λ e. omega (arith, e)) (λ e. omega (arith, e)) (λ e. absurd (omega (arith, e, k)))
-          (λ h. absurd (no-past absent (no-texts files wanted texts has) (long-texts texts has) h))
-      go (run_starts texts roots has within r is) = let s : HasStatus (starts (start_of wanted texts)) old new n = at (starts (start_of wanted texts)) is in record {
-        is_done = λ e. let t = settled-at s e (λ f. omega (arith, f)) (λ f. omega (arith, f)) in subst (λ (x : End). SessionTo wanted files x old new) (came-done (start_of wanted texts) old new t.last t.came (sym t.is ∙ e)) (session-of t);
-        done_is = λ h. inr (start-among (start_of wanted texts) (session-texts texts has ended_ok h).0 s);
-        is_past = λ e. let t = settled-at s e (λ f. omega (arith, f)) (λ f. omega (arith, f)) in by-limit t ((session-end t.last).passes (sym t.is ∙ e));
-        past_is = λ h. inr (start-among (start_of wanted texts) (past-of h) s);
-        is_damaged = λ e. let t = settled-at s e (λ f. omega (arith, f)) (λ f. omega (arith, f)) in by-damage t ((session-end t.last).damage (sym t.is ∙ e));
-        damaged_is = λ h. inr (start-among (start_of wanted texts) (session-texts texts has (damaged h.0 h.1) h.2).0 s);
-      }
-        where
-          settled-at : {m : ℕ} → HasStatus (starts (start_of wanted texts)) old new n → n ≡ m → (5 ≡ m → ⊥) → (1 ≡ m → ⊥) → IsSettled (start_of wanted texts) old new n
-          settled-at s e a b = start-settled (start_of wanted texts) s (λ f. a (sym f ∙ e)) (λ f. b (sym f ∙ e))
-
-          session-of : (t : IsSettled (start_of wanted texts) old new n) → SessionTo wanted files t.last old new
-          session-of t = record { texts = texts; has = has; trees = roots-lack (trees_wanted wanted texts) roots r; came = t.came }
-
-          by-limit : (t : IsSettled (start_of wanted texts) old new n) → (limit : Limit) × (t.last ≡ past limit) → IsPastLimit (Some (runs wanted)) files old new
-          by-limit t h = inr (h.0, subst (λ (x : End). SessionTo wanted files x old new) h.1 (session-of t))
-
-          by-damage : (t : IsSettled (start_of wanted texts) old new n) → (file : ℕ) × (place : ℕ) × (t.last ≡ damaged file place) → FindsItDamaged (Some (runs wanted)) files old new
-          by-damage t h = (h.0, h.1, subst (λ (x : End). SessionTo wanted files x old new) h.2 (session-of t))
-
-          past-of : IsPastLimit (Some (runs wanted)) files old new → IsAcceptedStart (start_of wanted texts)
-          past-of (inl (inl many)) = absurd (no-texts files wanted texts has many)
-          past-of (inl (inr long)) = absurd (long-texts texts has long)
-          past-of (inr (limit, h)) = (session-texts texts has (past limit) h).0
-
-  -- the statuses that sessions alone give
-  pub run-session : HasStatus (work (Some (runs wanted)) (reading files (files_of (Some (runs wanted))))) old new n → SessionStatuses (Some (runs wanted)) files old new n
-  run-session held = record { ends = by (run_case wanted files); among = λ last h. inr (settles (run_case wanted files) last h) }
-    where
-      at : (w : Work) → work (Some (runs wanted)) (reading files (files_of (Some (runs wanted)))) ≡ w → HasStatus w old new n
-      at w is = subst (λ (w : Work). HasStatus w old new n) is held
-
-      unlike : (m : ℕ) → n ≡ m → list_any (nat_eq m) session_only ≡ false → IsOneOf n session_only → ⊥
-      unlike m e none h = not-among m session_only none (subst (λ (k : ℕ). IsOneOf k session_only) e h)
-
-      by : RunCase wanted files → IsOneOf n session_only → SessionEnds (Some (runs wanted)) files old new n
-      by (run_many many is) one = absurd (unlike 11 (at (ends [] (past BookCount)) is) refl one)
-      by (run_missing name m is) one = absurd (unlike 4 (at (ends [] (no_such_file name)) is) refl one)
-      by (run_long limit l is) one = absurd (unlike 11 (at (ends [] (past limit)) is) refl one)
-      by (run_treeless texts name reason has within t is) one = absurd (unlike 5 (at (ends [] (not_readable name reason)) is) refl one)
-      by (run_starts texts roots has within r is) one =
-          let t : IsSettled (start_of wanted texts) old new n = start-settled (start_of wanted texts) (at (starts (start_of wanted texts)) is) (λ e. unlike 5 e refl one) (λ e. unlike 1 e refl one) in
-          record { last = t.last; held = record { texts = texts; has = has; trees = roots-lack (trees_wanted wanted texts) roots r; came = t.came }; is = t.is }
-
-      settles : RunCase wanted files → (last : End) → SessionTo wanted files last old new → IsOneOf n session_statuses
-      settles (run_many many is) last h = absurd (no-session-of-many last many h)
-      settles (run_missing name m is) last h = absurd (missing-texts h.texts h.has m)
-      settles (run_long limit l is) last h = absurd (long-texts h.texts h.has l)
-      settles (run_treeless texts name reason has within t is) last h = absurd ((session-texts texts has last h).1 (lacks-tree (trees_wanted wanted texts) t))
-      settles (run_starts texts roots has within r is) last h = start-listed (start_of wanted texts) (session-texts texts has last h).0 (at (starts (start_of wanted texts)) is)

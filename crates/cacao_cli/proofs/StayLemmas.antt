@@ -9,12 +9,12 @@ use Rattle.cacao_words.specs.Words.{Text}
 use Rattle.cacao_cli.specs.Asked.{Asked, canonises, checks, runs, shows, lists_rules, decides, shadows, rehearses, audits}
 use Rattle.cacao_cli.specs.Ended.{Ended, Performs}
 use Rattle.cacao_cli.specs.Ends.{End}
-use Rattle.cacao_cli.specs.Exact.{IsOneOf, session_statuses}
+use Rattle.cacao_cli.specs.Exact.{IsOneOf}
 use Rattle.cacao_cli.specs.Files.{ShelfCall, has_too_many}
 use Rattle.cacao_cli.specs.Leaves.{LeavesAll, SaysAtMostOnce}
 use Rattle.cacao_cli.specs.Lines.{Tells}
 use Rattle.cacao_cli.specs.Work.{Look, opens_filter, opens_run, at_decisions, at_rules, at_shadows, or_end, packets_or_end, work_on}
-use Rattle.cacao_cli.proofs.StatusLists.{not-among}
+use Rattle.cacao_cli.proofs.StatusLists.{not-among, session_statuses}
 use Rattle.cacao_cli.proofs.ExactLemmas.{Comes, performs-comes}
 use Rattle.cacao_cli.proofs.LeaveLemmas.{RunLeft, leaves-ended, rules-performed, run-left, shadows-performed, show-performed, silent-once}
 use Rattle.cacao_cli.proofs.LineLemmas.{IsCutOff}

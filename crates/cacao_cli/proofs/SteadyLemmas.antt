@@ -23,7 +23,7 @@ same-site old mid e = ap (λ (s : SiteView). s.disk.faults) e
 
 -- ---- the work
 
-held-steady : (given : Given) (run most : ℕ) (answers : List OperatorAnswer) (old mid : SiteView) (last : End)
+pub held-steady : (given : Given) (run most : ℕ) (answers : List OperatorAnswer) (old mid : SiteView) (last : End)
     → ClosesSo given run most answers old mid last ⊎ RefusesSo given run most answers old mid last → (status_of last ≡ 8 → ⊥) → mid.disk.faults ≡ old.disk.faults
 held-steady given run most answers old mid last (inl c) other = closes_steady c.close given run most answers old mid c.closed
 held-steady given run most answers old mid last (inr r) other =

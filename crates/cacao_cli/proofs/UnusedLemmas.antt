@@ -1,5 +1,5 @@
 -- While the journal is empty no filter has an act of the run, but where a session finds that before it asks the clock.
-use Rattle.std.proofs.Common.{◌≡◌, ◌≢◌, ◌⊎◌, inl, inr, ◌∙◌, refl, sym, ap, subst, ℕ, ◌≤◌, ◌-◌, List, [], ◌∷◌, ◌++◌, Bool, false}
+use Rattle.std.proofs.Common.{◌≡◌, ◌⊎◌, inl, inr, ◌∙◌, refl, sym, subst, ℕ, ◌≤◌, ◌-◌, List, [], ◌∷◌, ◌++◌, false}
 use Rattle.std.specs.Prelude.{Any, slice_get, Some, ⊤}
 use Rattle.cacao_site.specs.declared.parcel.Parcel.{Parcel}
 use Rattle.run_records.specs.declared.act.Act.{Act}
@@ -11,7 +11,7 @@ use Rattle.flow_steps.specs.Steps.{HasRun, Step, Steps}
 use Rattle.flow_steps.specs.Steps.Step.{opens_clock, finds_run_used, asks_clock, finds_late, begins, moves, upgrades, tells, expires, says, fails_to_say}
 use Rattle.flow_steps.specs.Steps.Step.{puts_first, resends, takes, finds_none, fails_to_take, drops, replies, ignores_reply, acts_on, repeats_reply, fails_to_act, wants_memory_now}
 use Rattle.flow_steps.specs.Steps.Steps.{nothing, and_then}
-use Rattle.flow_steps.specs.Worlds.{Cause, IsGoing, Phase, World, opened, rests, looked, owes, holds, waits, refused, run_used, wants_memory}
+use Rattle.flow_steps.specs.Worlds.{IsGoing, Phase, World, opened, rests, looked, owes, holds, waits, refused, run_used, wants_memory}
 use Rattle.flow_steps.proofs.Adding.{steps_add, steps_same_given}
 use Rattle.flow_steps.proofs.Ended.{step_going}
 use Rattle.session_laws.specs.Ends.{TurnAt}

@@ -1,5 +1,6 @@
--- Where the disk did not fail, the engine's file keeps its records, and has at most as many more as one session may append.
-use Rattle.std.proofs.Common.{◌≡◌, ◌⊎◌, inl, inr, ◌∙◌, refl, sym, ap, subst, arith, ℕ, ◌+◌, Bool, true, false, List, [], ◌++◌, append-nil, Some, Result, Ok, Err}
+-- Where the disk did not fail, the engine's file keeps its records, and has at most as many more as one session may append; and
+-- each agent's file keeps its acts.
+use Rattle.std.proofs.Common.{◌≡◌, ◌⊎◌, inl, inr, ◌∙◌, refl, sym, ap, subst, arith, ℕ, Bool, true, false, List, [], ◌++◌, append-nil, Some, Result, Ok, Err}
 use Rattle.std.specs.Prelude.{IsTrue, if◌then◌else◌}
 use Rattle.serde_json.specs.Data.{Data}
 use Rattle.cacao_site.specs.Counts.{DidNotRise, Rose}
@@ -24,14 +25,15 @@ use Rattle.cacao_cli.specs.Ends.{End, past}
 use Rattle.cacao_cli.specs.Files.{NamedText, has_too_many}
 use Rattle.cacao_cli.specs.Holding.{ClosesSo, RefusesSo}
 use Rattle.cacao_cli.specs.Lines.{SaysAtMostALine}
-use Rattle.cacao_cli.specs.Returning.{HasMore, KeepsRecords}
+use Rattle.cacao_cli.specs.Returning.{HasMore, KeepsActs, KeepsRecords}
 use Rattle.cacao_cli.specs.Work.{Start, Work, ends, judges, opens_filter, opens_run, compares, rehearsals, starts, or_end, start_of, trees_of, trees_wanted, work, work_on}
 use Rattle.cacao_cli.specs.declared.limit.Limit.TheVariants.{BookCount}
 use Rattle.cacao_cli.proofs.CauseLemmas.{TreesCase, all_trees, one_treeless, trees_case}
 use Rattle.cacao_cli.proofs.ExpireLemmas.{disk-or-not, journal-rose}
+use Rattle.cacao_cli.proofs.KeptActs.{acts-behind, refused-acts, same-acts-kept, went-acts}
 use Rattle.cacao_cli.proofs.LeaveLemmas.{silent-same}
 use Rattle.cacao_cli.proofs.ReadLemmas.{Read}
-use Rattle.cacao_cli.proofs.ReturnedRuns.{gains-added, had-records}
+use Rattle.cacao_cli.proofs.ReturnedRuns.{gains-added, had-records, sound-reads}
 
 rose-not : (old mid : ℕ) → Rose old mid → DidNotRise old mid → ⊥
 rose-not old mid rose still_ = omega (arith, rose, still_.0, still_.1)
@@ -63,6 +65,10 @@ work-of-run wanted read = by (has_too_many (runs wanted)) read
     by false (Err end) = refl
     by false (Ok texts) = texts-of-run wanted texts
 
+-- the records of the engine's file and the acts of each agent's
+abbrev pub Keeps : ℕ → SiteView → SiteView → Type 0
+Keeps most old mid = KeepsRecords most old mid × KeepsActs old mid
+
 -- ---- sessions
 
 module _ (old mid : SiteView) (sound : IsSound mid) (told : IsTrue mid.disk.told) where
@@ -90,7 +96,7 @@ module _ (old mid : SiteView) (sound : IsSound mid) (told : IsTrue mid.disk.told
       first = went.start.engine.history.records
 
       same : first ≡ records
-      same = same_records (old.disk.reads 0) first records (had-records given run most answers old mid sound told went) are
+      same = same_records (old.disk.reads 0) first records (had-records given run most answers old mid (sound-reads mid sound) told went) are
 
       rose : (r : Record) → UnsureByStep went.start went.to r → ⊥
       rose r h =
@@ -104,50 +110,59 @@ module _ (old mid : SiteView) (sound : IsSound mid) (told : IsTrue mid.disk.told
           let budget = went.sums.budget in
           record {
             added = went.sums.adds.added;
-            has = subst (λ (l : List Record). IsRecords (mid.disk.reads 0) (l ++ went.sums.adds.added)) same (gains-added given run most answers old mid sound told went sure).has;
+            has = subst (λ (l : List Record). IsRecords (mid.disk.reads 0) (l ++ went.sums.adds.added)) same (gains-added given run most answers old mid (sound-reads mid sound) told went sure).has;
             within = omega (arith, budget);
           }
       by (inr h) = absurd (rose h.0 h.1)
 
-  refused-session : (why : WorldError) (given : Given) (run most : ℕ) (answers : List OperatorAnswer) → HasRefused why given run most answers old mid → KeepsRecords most old mid
-  refused-session why given run most answers (inl opening) = refused-keeps why given run most opening
-  refused-session why given run most answers (inr later) = went-keeps given run most answers later.went
+  session-keeps : (given : Given) (run most : ℕ) (answers : List OperatorAnswer) → Went given run most answers old mid → Keeps most old mid
+  session-keeps given run most answers went = (went-keeps given run most answers went, went-acts old mid sound told given run most answers went)
 
-  done-nothing : (most : ℕ) → mid ≡ old → KeepsRecords most old mid
-  done-nothing most same = same-keeps most (ap (λ (s : SiteView). s.disk.reads 0) same)
+  refused-session : (why : WorldError) (given : Given) (run most : ℕ) (answers : List OperatorAnswer) → HasRefused why given run most answers old mid → Keeps most old mid
+  refused-session why given run most answers (inl opening) = (refused-keeps why given run most opening, refused-acts why given run old mid opening)
+  refused-session why given run most answers (inr later) = session-keeps given run most answers later.went
+
+  done-nothing : (most : ℕ) → mid ≡ old → Keeps most old mid
+  done-nothing most same = (
+    same-keeps most (ap (λ (s : SiteView). s.disk.reads 0) same),
+    λ still_ agent is before are. same-acts-kept old mid agent (ap (λ (s : SiteView). s.disk.reads agent) same) before are,
+  )
 
   -- ---- and `run`
 
-  started-keeps : (start : Start) (last : End) → Performs (starts start) old mid last → KeepsRecords start.most old mid
+  started-keeps : (start : Start) (last : End) → Performs (starts start) old mid last → Keeps start.most old mid
   started-keeps start last (inl h) = done-nothing start.most h.same
   started-keeps start last (inr (inl h)) = done-nothing start.most h.same
   started-keeps start last (inr (inr (inl h))) = done-nothing start.most h.same
   started-keeps start last (inr (inr (inr (inl h)))) = by h.holds.held
     where
-      by : ClosesSo h.given start.run start.most h.answers old mid last ⊎ RefusesSo h.given start.run start.most h.answers old mid last → KeepsRecords start.most old mid
-      by (inl c) = went-keeps h.given start.run start.most h.answers c.closed.went
+      by : ClosesSo h.given start.run start.most h.answers old mid last ⊎ RefusesSo h.given start.run start.most h.answers old mid last → Keeps start.most old mid
+      by (inl c) = session-keeps h.given start.run start.most h.answers c.closed.went
       by (inr r) = refused-session r.error h.given start.run start.most h.answers r.why
   started-keeps start last (inr (inr (inr (inr h)))) = done-nothing start.most h.same
 
-  work-keeps : (most : ℕ) (w : Work) (last : End) → IsOfRun most w → Performs w old mid last → KeepsRecords most old mid
+  work-keeps : (most : ℕ) (w : Work) (last : End) → IsOfRun most w → Performs w old mid last → Keeps most old mid
   work-keeps most (ends lines end) last is p = done-nothing most (silent-same end old mid last (subst (λ (l : List (List ℕ)). Performs (ends l end) old mid last) is p))
   work-keeps most (judges trees mode accepted) last is p = absurd is
   work-keeps most (opens_filter agent look) last is p = absurd is
   work-keeps most opens_run last is p = absurd is
   work-keeps most (compares files) last is p = absurd is
   work-keeps most (rehearsals positions) last is p = absurd is
-  work-keeps most (starts start) last is p = subst (λ (n : ℕ). KeepsRecords n old mid) is (started-keeps start last p)
+  work-keeps most (starts start) last is p = subst (λ (n : ℕ). Keeps n old mid) is (started-keeps start last p)
 
-  pub run-keeps : (wanted : RunRequest) (read : Read) (last : End) → Performs (work (Some (runs wanted)) read) old mid last → KeepsRecords wanted.most old mid
+  pub run-keeps : (wanted : RunRequest) (read : Read) (last : End) → Performs (work (Some (runs wanted)) read) old mid last → Keeps wanted.most old mid
   run-keeps wanted read last p = work-keeps wanted.most (work (Some (runs wanted)) read) last (work-of-run wanted read) p
 
 -- the last line leaves it so
-pub keeps-behind : (most : ℕ) (old mid new : SiteView) → SaysAtMostALine mid new → KeepsRecords most old mid → KeepsRecords most old new
-keeps-behind most old mid new (inl is) keeps = subst (λ (s : SiteView). KeepsRecords most old s) (sym is) keeps
-keeps-behind most old mid new (inr says) keeps = λ still_ records are.
+records-behind : (most : ℕ) (old mid new : SiteView) → SaysAtMostALine mid new → KeepsRecords most old mid → KeepsRecords most old new
+records-behind most old mid new (inl is) keeps = subst (λ (s : SiteView). KeepsRecords most old s) (sym is) keeps
+records-behind most old mid new (inr says) keeps = λ still_ records are.
     let k = keeps (subst (λ (n : ℕ). DidNotRise old.disk.faults n) says.disk.faults still_) records are in
     record {
       added = k.added;
       has = subst (λ (image : List ℕ). IsRecords image (records ++ k.added)) (sym (says.disk.stays 0).reads) k.has;
       within = k.within;
     }
+
+pub keeps-behind : (most : ℕ) (old mid new : SiteView) → SaysAtMostALine mid new → Keeps most old mid → Keeps most old new
+keeps-behind most old mid new behind keeps = (records-behind most old mid new behind keeps.0, acts-behind old mid new behind keeps.1)

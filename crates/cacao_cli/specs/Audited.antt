@@ -13,7 +13,7 @@ abbrev pub PassTasks : List Text → Type 0
 PassTasks files = (place : ℕ) × PassesTasksAt files place
 
 -- none does, and the files stand for so many records and acts that agree
-pub record Agree (files : List Text) : Type 0 where
+pub record FilesAgree (files : List Text) : Type 0 where
   pub within : ¬ PassTasks files
   pub records : ℕ
   pub acts : ℕ

@@ -10,7 +10,7 @@ use Rattle.oc2_nets.specs.declared.packets.Packet.{Packet}
 use Rattle.filter_reports.specs.PacketFiles.{packets_of}
 use Rattle.cacao_site.specs.View.{SiteView}
 use Rattle.cacao_cli.specs.Asked.{Asked, canonises, checks, shows, lists_rules, decides, shadows, rehearses, audits, runs}
-use Rattle.cacao_cli.specs.Audited.{Agree, Disagree, PassTasks}
+use Rattle.cacao_cli.specs.Audited.{FilesAgree, Disagree, PassTasks}
 use Rattle.cacao_cli.specs.Ends.{most, End, asked_for, damaged, ended_ok, other_book, other_run, past, rehearsed, run_used}
 use Rattle.cacao_cli.specs.Ends.{waiting}
 use Rattle.cacao_words.specs.Requests.{RunRequest}
@@ -204,7 +204,7 @@ CanBeDone (Some (decides agent packets)) files old new = IsPacketFile files (pac
 CanBeDone (Some (shadows agent)) files old new = HoldsFilter agent new
 CanBeDone (Some (rehearses positions)) files old new =
     (records : ℕ) × (acts : ℕ) × (rules : ℕ) × RehearsalTo positions (rehearsed positions records acts rules)
-CanBeDone (Some (audits engine filters)) files old new = IsAuditOf files engine filters Agree
+CanBeDone (Some (audits engine filters)) files old new = IsAuditOf files engine filters FilesAgree
 
 -- The file of the disk that the command opens holds nothing that the program wrote, and nothing else stops the command before.
 -- (The files of the site of a rehearsal are blank.)

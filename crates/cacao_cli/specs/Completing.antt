@@ -49,8 +49,8 @@ pub record AddsNoExpire (old new : SiteView) : Type 0 where
   pub none : (front back : List Record) (r : Record) → added ≡ front ++ r ∷ back → IsNoExpire r
 
 -- file 0 has no record
-abbrev pub HasNoRecord : SiteView → Type 0
-HasNoRecord site = Stands (site.disk.reads 0) []
+abbrev pub FileHasNoRecord : SiteView → Type 0
+FileHasNoRecord site = Stands (site.disk.reads 0) []
 
 -- a Reply of the issue is among the records, and the file of the agent has the act of the run and issue on this command, whose
 -- reply reads as the Reply says
@@ -84,7 +84,7 @@ pub record CompletesSo (start : Start) (old new : SiteView) (answer : ℕ) : Typ
   pub to_end : HasOwnFile start old → IsUndisturbed old new
       → IsOneOf answer (0 ∷ 6 ∷ 7 ∷ 16 ∷ 15 ∷ 11 ∷ 10 ∷ 3 ∷ [])
   pub none_expires : DidNotRise old.clock.mishaps new.clock.mishaps → AddsNoExpire old new
-  pub sends_done : DidNotRise old.clock.mishaps new.clock.mishaps → HasNoRecord old → (answer ≡ 0) ⊎ (answer ≡ 6)
+  pub sends_done : DidNotRise old.clock.mishaps new.clock.mishaps → FileHasNoRecord old → (answer ≡ 0) ⊎ (answer ≡ 6)
       → EachSendIsDone start.run new
 
 -- of `run`, with the texts of its files, each of which has a tree where it wants one

@@ -1,9 +1,12 @@
 -- Which status comes, where the outside tells what it holds.
-use Rattle.std.specs.Prelude.{◌≡◌, ◌⊎◌, ℕ, List, [], ◌∷◌, Option, Some, None, IfSome, IsTrue}
+use Rattle.std.specs.Prelude.{◌≡◌, ◌⊎◌, ℕ, Bool, true, false, nat_eq, nat_lt, if◌then◌else◌, List, [], ◌∷◌, ◌++◌}
+use Rattle.std.specs.Prelude.{Option, Some, None, IfSome, IsTrue, is_some}
+use Rattle.std.specs.List.{list_any}
 use Rattle.serde_json.specs.Data.{Data}
 use Rattle.cacao_check.specs.FirstBreak.{Demand, IsAccepted, Keeps}
 use Rattle.cacao_check.specs.declared.breaks.Mode.{Mode}
-use Rattle.cacao_site.specs.View.{SiteView}
+use Rattle.cacao_site.specs.Counts.{last_count}
+use Rattle.cacao_site.specs.View.{DiskView, SiteView}
 use Rattle.flow_audit.specs.declared.verdict.Verdict17.TheVariants as verdict
 use Rattle.cacao_cli.specs.Asked.{Asked, canonises, checks, shows, lists_rules, decides, shadows, rehearses, audits, runs}
 use Rattle.cacao_cli.specs.Audited.{IsOnlyVerdict, PassTasks}
@@ -52,10 +55,6 @@ abbrev pub file_faults : List File → List ℕ
 file_faults [] = 9 ∷ 10 ∷ []
 file_faults (file ∷ more) = 3 ∷ 9 ∷ 10 ∷ []
 
--- the statuses of a call that came to its session, but for faults of the shelf
-abbrev pub session_statuses : List ℕ
-session_statuses = 0 ∷ 6 ∷ 7 ∷ 8 ∷ 9 ∷ 10 ∷ 11 ∷ 12 ∷ 13 ∷ 14 ∷ 15 ∷ 16 ∷ []
-
 -- the same of a status that rests on all that the command reads
 abbrev pub faults_of : Option Asked → List ℕ
 faults_of None = file_faults []
@@ -69,19 +68,49 @@ faults_of (Some (shadows agent)) = 8 ∷ 9 ∷ 10 ∷ []
 faults_of (Some (rehearses positions)) = file_faults []
 faults_of (Some (audits engine filters)) = file_faults (files_of (Some (audits engine filters)))
 
--- The statuses that may stand in the place of one that a session settles: where several causes hold, the earlier in the order
--- of a session decides.
-abbrev pub stands_for : Option Asked → List ℕ
-stands_for None = faults_of None
-stands_for (Some (canonises book)) = faults_of (Some (canonises book))
-stands_for (Some (checks books)) = faults_of (Some (checks books))
-stands_for (Some (runs wanted)) = 3 ∷ session_statuses
-stands_for (Some shows) = faults_of (Some shows)
-stands_for (Some (lists_rules agent)) = faults_of (Some (lists_rules agent))
-stands_for (Some (decides agent packets)) = faults_of (Some (decides agent packets))
-stands_for (Some (shadows agent)) = faults_of (Some (shadows agent))
-stands_for (Some (rehearses positions)) = session_statuses
-stands_for (Some (audits engine filters)) = faults_of (Some (audits engine filters))
+-- what comes only where the clock came to the moment that it was asked for last
+abbrev pub reached_statuses : List ℕ
+reached_statuses = 0 ∷ 6 ∷ 7 ∷ 15 ∷ 16 ∷ []
+
+-- The statuses of sessions that may stand in the place of this one, by whether the disk tells its files, and the link the parcels
+-- that were taken. Where the disk is told, its files and the clock settle which comes, but that 11 stands for 15 and 16 and each
+-- of them for 11; and where the parcels taken are not told, 15 and 16 for each other. Where the disk is not told, the clock tells
+-- 14 from 0, 6, 7, 15 and 16.
+abbrev pub statuses_beside : Bool → Bool → ℕ → List ℕ
+statuses_beside true taken status =
+    if nat_eq status 11 then 15 ∷ 16 ∷ []
+    else if nat_eq status 15 then 11 ∷ (if taken then [] else 16 ∷ [])
+    else if nat_eq status 16 then 11 ∷ (if taken then [] else 15 ∷ [])
+    else []
+statuses_beside false taken status = 11 ∷ 12 ∷ 13 ∷ (if list_any (nat_eq status) reached_statuses then reached_statuses else
+    if nat_eq status 14 then [] else 14 ∷ reached_statuses)
+
+-- A failed disk may stand in its place only where the count of its faults can't rise any more.
+abbrev pub disk_failed_if_full : DiskView → List ℕ
+disk_failed_if_full disk = if nat_lt disk.faults last_count then [] else 8 ∷ []
+
+-- the statuses of a rehearsal that ran, and of one that is too long
+abbrev pub run_rehearsal_statuses : List ℕ
+run_rehearsal_statuses = 0 ∷ 6 ∷ 8 ∷ 9 ∷ 10 ∷ 11 ∷ 15 ∷ []
+
+-- The statuses that may stand in the place of one that the command settles, from the one view to the other. (A rehearsal has a
+-- site of its own, of which nothing is left to tell.)
+abbrev pub stands_for : Option Asked → SiteView → SiteView → ℕ → List ℕ
+stands_for None old new status = faults_of None
+stands_for (Some (canonises book)) old new status = faults_of (Some (canonises book))
+stands_for (Some (checks books)) old new status = faults_of (Some (checks books))
+stands_for (Some (runs wanted)) old new status =
+    3 ∷ 9 ∷ 10 ∷ (disk_failed_if_full new.disk ++ statuses_beside new.disk.told (is_some old.link.taken) status)
+stands_for (Some shows) old new status = faults_of (Some shows)
+stands_for (Some (lists_rules agent)) old new status = faults_of (Some (lists_rules agent))
+stands_for (Some (decides agent packets)) old new status = faults_of (Some (decides agent packets))
+stands_for (Some (shadows agent)) old new status = faults_of (Some (shadows agent))
+stands_for (Some (rehearses positions)) old new status = run_rehearsal_statuses
+stands_for (Some (audits engine filters)) old new status = faults_of (Some (audits engine filters))
+
+-- the status comes exactly where its cause holds, but that one of these may stand in its place
+abbrev pub ComesFor : Option Asked → SiteView → SiteView → ℕ → Type 0 → ℕ → Type 0
+ComesFor asked old new status cause answer = ComesExactly status (stands_for asked old new status) cause answer
 
 -- a rule of the playbooks with these trees is broken
 abbrev pub IsBroken : List Data → Mode → Type 0
@@ -126,6 +155,6 @@ HasStatus (rehearsals positions) old new answer = HasRehearsed positions answer
 
 -- the status is that of the work that the files call for, or one of the faults that may stand in its place
 
-abbrev pub Answers : Option Asked → Option Files → SiteView → SiteView → ℕ → Type 0
-Answers asked told old new answer = IfTold asked told old (λ files.
+abbrev pub AnswersExactly : Option Asked → Option Files → SiteView → SiteView → ℕ → Type 0
+AnswersExactly asked told old new answer = IfTold asked told old (λ files.
     HasStatus (work asked (reading files (files_of asked))) old new answer ⊎ IsOneOf answer (faults_of asked))

@@ -1,5 +1,6 @@
--- The site of its own on which a rehearsal runs: which of its counts rose. And whose clock stands where a command waits.
-use Rattle.std.specs.Prelude.{ℕ, ◌<◌, Option, Some, None}
+-- The site of its own on which a rehearsal runs: which of its counts rose. And whose clock stands where a command waits, and
+-- where it does not.
+use Rattle.std.specs.Prelude.{ℕ, ◌<◌, ◌≤◌, Option, Some, None, ⊤}
 use Rattle.cacao_site.specs.Counts.{Rose}
 use Rattle.memory_site.specs.MemorySite.{view_of}
 use Rattle.cacao_site.specs.View.{SiteView}
@@ -28,3 +29,16 @@ StandsShort (Some (decides agent packets)) new = ⊥
 StandsShort (Some (shadows agent)) new = ⊥
 StandsShort (Some (rehearses positions)) new = ⊥
 StandsShort (Some (audits engine filters)) new = ⊥
+
+-- The clock came to the moment that it was asked for last. (No other command asks this clock.)
+abbrev pub StandsReached : Option Asked → SiteView → Type 0
+StandsReached None new = ⊤
+StandsReached (Some (canonises book)) new = ⊤
+StandsReached (Some (checks books)) new = ⊤
+StandsReached (Some (runs wanted)) new = new.clock.asked ≤ new.clock.now
+StandsReached (Some shows) new = ⊤
+StandsReached (Some (lists_rules agent)) new = ⊤
+StandsReached (Some (decides agent packets)) new = ⊤
+StandsReached (Some (shadows agent)) new = ⊤
+StandsReached (Some (rehearses positions)) new = ⊤
+StandsReached (Some (audits engine filters)) new = ⊤

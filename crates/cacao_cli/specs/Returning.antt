@@ -1,15 +1,20 @@
--- What the bytes of the files and the status of `run` tell of each other on return.
+-- What the status of `run` and what the files read as, the clock and the parcels taken tell of each other on return.
 use Rattle.std.specs.Prelude.{◌≡◌, ◌≢◌, ◌⊎◌, ℕ, ◌+◌, ◌<◌, ◌≤◌, IsTrue, List, [], ◌∷◌, ◌++◌, length, Any, slice_get}
 use Rattle.std.specs.Prelude.{Option, Some, None, IfSome, IsSome, Bool, true, false, nat_lt, if◌then◌else◌, ⊤}
 use Rattle.std.specs.List.{AllByRecursion}
 use Rattle.std.specs.Option.{option_or}
 use Rattle.cacao_check.specs.Fits.{FitsKind}
 use Rattle.cacao_site.specs.Counts.{DidNotRise}
-use Rattle.cacao_site.specs.DiskCalls.{AllLeft, IsDurable, IsLeft}
+use Rattle.cacao_site.specs.DiskCalls.{AllLeft}
 use Rattle.cacao_site.specs.View.{ClockView, SiteView}
 use Rattle.cacao_site.specs.declared.parcel.Parcel.{Parcel}
+use Rattle.oc2_msg.specs.Responses as responses
+use Rattle.oc2_msg.specs.declared.answers.Answer.{Answer}
+use Rattle.run_journal.specs.Layout.{most_image}
+use Rattle.run_records.specs.Ranges.{last_moment}
 use Rattle.run_records.specs.declared.act.Act.{Act}
 use Rattle.run_records.specs.declared.record.Record.{Record}
+use Rattle.run_records.specs.declared.record.Record.TheVariants as entry
 use Rattle.flow_core.specs.Setups.{AreAccepted}
 use Rattle.flow_core.specs.Views.{passed, taken}
 use Rattle.flow_core.specs.declared.flow_errors.LimitKind.TheVariants as limit
@@ -17,19 +22,21 @@ use Rattle.flow_rules.specs.Accepted.{Accepted}
 use Rattle.flow_rules.specs.Changes.{is_waiting, moment_of, outcome}
 use Rattle.flow_rules.specs.Edits.{Edit}
 use Rattle.flow_rules.specs.Givens.{Given}
-use Rattle.flow_rules.specs.Moves.{asks, due, enabled_move}
+use Rattle.flow_rules.specs.Moves.{asks, due, enabled_move, record_of}
 use Rattle.flow_rules.specs.State.{Shown}
 use Rattle.flow_rules.specs.declared.issues.Issue.{Issue}
+use Rattle.flow_rules.specs.declared.moves.Move.{Move}
 use Rattle.engine_history.specs.HistoryView.{length_with}
 use Rattle.engine_history.specs.Openings.{RefusesAsEntries, RefusesImage}
 use Rattle.operator_answers.specs.declared.answers.OperatorAnswer.{OperatorAnswer}
 use Rattle.engine_history.specs.declared.error.EngineError.TheVariants as refused
 use Rattle.flow_engine.specs.EngineCalls.{IsWaiting}
+use Rattle.flow_engine.specs.OpenIssues.{resend_after}
 use Rattle.flow_laws.specs.Images.{IsActs, IsAgent, IsRecords}
 use Rattle.flow_steps.specs.Grown.{acts_of}
-use Rattle.flow_steps.specs.Handled.{one_reply}
+use Rattle.flow_steps.specs.Handled.{IsBack, IsCommand, one_reply}
 use Rattle.flow_steps.specs.Sums.{total}
-use Rattle.flow_steps.specs.Turns.{answer_for}
+use Rattle.flow_steps.specs.Turns.{answer_for, most_ignored}
 use Rattle.slpf_actuator.specs.ActLists.{IsNew}
 use Rattle.slpf_actuator.specs.ActLists as act_file
 use Rattle.slpf_actuator.specs.ActuatorView.{act_for}
@@ -38,7 +45,7 @@ use Rattle.session_laws.specs.Returned.{ReadsAsRun}
 use Rattle.session_laws.specs.Undamaged.{IsDamagedFor}
 use Rattle.cacao_cli.specs.Asked.{Asked, canonises, checks, runs, shows, lists_rules, decides, shadows, rehearses, audits}
 use Rattle.cacao_cli.specs.Causes.{HasTexts}
-use Rattle.cacao_cli.specs.Exact.{IfFilesTold, IsOneOf}
+use Rattle.cacao_cli.specs.Exact.{IfFilesTold, IsOneOf, reached_statuses}
 use Rattle.cacao_cli.specs.Files.{Files, NamedText, files_of}
 use Rattle.cacao_cli.specs.Holding.{AreAnswers, IsAcceptedStart}
 use Rattle.cacao_cli.specs.Work.{Start, start_of}
@@ -74,19 +81,23 @@ KeepsRecords most old new =
     DidNotRise old.disk.faults new.disk.faults → (records : List Record) → IsRecords (old.disk.reads 0) records
     → HasMore most records new
 
--- It has not more records more than one session may append, and each image that a crash may leave of it holds all that it reads as.
+-- each image that a crash may leave of it holds all the records that it reads as
+abbrev pub LeavesRecords : SiteView → Type 0
+LeavesRecords site = AllLeft 0 site.disk (λ image.
+    (records : List Record) → IsRecords (site.disk.reads 0) records → IsRecords image records)
+
+-- it has not more records more than one session may append, and a crash leaves them all
 pub record KeepsWithin (start : Start) (old new : SiteView) : Type 0 where
   pub many : ℕ
   pub gains : GainsRecords many old new
   pub within : many ≤ start.most
-  pub crash : AllLeft 0 new.disk (λ image.
-      (records : List Record) → IsRecords (new.disk.reads 0) records → IsRecords image records)
+  pub crash : LeavesRecords new
 
 -- it goes on, with as many records more as one session may append
 abbrev pub PausesSo : Start → SiteView → SiteView → Type 0
 PausesSo start old new = ReadsSo start None new × GainsRecords start.most old new
 
--- it has begun and goes on, and one record more may be appended at least
+-- it has begun and goes on, and a record more may be appended
 pub record CanGoOn (start : Start) (old new : SiteView) : Type 0 where
   pub goes_on : ReadsSo start None new
   pub begun : goes_on.reads.records ≢ []
@@ -94,22 +105,27 @@ pub record CanGoOn (start : Start) (old new : SiteView) : Type 0 where
   pub gains : GainsRecords many old new
   pub fewer : many < start.most
 
--- An agent's file has these acts more. What it had is of an image that a crash might have left when the call began.
+-- the acts of an agent's file are those that it had when the call began, and these
 pub record GainsActs (agent : ℕ) (acts : List Act) (old new : SiteView) : Type 0 where
-  pub image : List ℕ
-  pub left : IsLeft old.disk agent old.disk.beat image
   pub before : List Act
-  pub had : IsActs image before
+  pub had : IsActs (old.disk.reads agent) before
   pub has : IsActs (new.disk.reads agent) (before ++ acts)
 
--- and where the parcels taken are told, 1,000,000 were taken beside one for each Reply and each act that was appended
+-- each agent's file keeps its acts, and may have others behind them, where no call of the disk failed
+abbrev pub KeepsActs : SiteView → SiteView → Type 0
+KeepsActs old new =
+    DidNotRise old.disk.faults new.disk.faults → (agent : ℕ) → IsAgent agent → (before : List Act)
+    → IsActs (old.disk.reads agent) before → (acts : List Act) × GainsActs agent acts old new
+
+-- The run can go on; these acts are what the agents' files gained; and where the parcels taken are told, 1,000,000 were taken
+-- beside one for each Reply and each of these acts.
 pub record FloodsSo (start : Start) (old new : SiteView) : Type 0 where
   pub may : CanGoOn start old new
   pub acted : List (ℕ × Act)
   pub of_agents : AllByRecursion (λ e. IsAgent e.0) acted
   pub gained : (agent : ℕ) → IsAgent agent → GainsActs agent (acts_of agent acted) old new
   pub taken : IfSome old.link.taken (λ before. IfSome new.link.taken (λ after.
-      length after ≡ length before + (1_000_000 + total one_reply may.gains.added + length acted)))
+      length after ≡ length before + (most_ignored + total one_reply may.gains.added + length acted)))
 
 -- now no move is enabled, and no issue that waits has an answer among those that the file of answers has for the run
 pub record IsIdleNow (start : Start) (seen : Shown) (now : ℕ) : Type 0 where
@@ -141,7 +157,7 @@ pub record IsResend (seen : Shown) (clock : ClockView) : Type 0 where
   pub issue : ℕ
   pub it : Issue
   pub waiting : IsWaiting seen issue it
-  pub near : clock.asked ≤ clock.now + 5_000
+  pub near : clock.asked ≤ clock.now + resend_after
   pub at : ℕ
   pub due_is : due seen ≡ Some at
   pub early : clock.asked < at
@@ -201,48 +217,125 @@ pub record FindsUsed (start : Start) (site : SiteView) : Type 0 where
   pub are : IsActs (site.disk.reads agent) acts
   pub has : Any (λ (act : Act). act.run ≡ start.run) acts
 
+-- and no file of a lower agent has one
+pub record FindsFirstUsed (start : Start) (site : SiteView) : Type 0 where
+  pub used : FindsUsed start site
+  pub least : (lower : ℕ) → IsAgent lower → lower < used.agent → (acts : List Act) → IsActs (site.disk.reads lower) acts
+      → Any (λ (act : Act). act.run ≡ start.run) acts → ⊥
+
 -- ---- what would pass a limit
 
--- the clock is past the limit on moments, or what is due is
+-- the clock is past the limit on moments
 pub record IsLateSo (start : Start) (new : SiteView) : Type 0 where
   pub how : Option Bool
   pub reads : ReadsSo start how new
-  pub late : (9_000_000_000_000_000 < new.clock.now) ⊎ ((at : ℕ) × (due reads.seen ≡ Some at) × (9_000_000_000_000_000 < at))
+  pub late : last_moment < new.clock.now
 
--- The run goes on, a record more may be appended, and a record that may come next, now, would make too many tasks, send too long
--- a command, or make the file too long.
-pub record NextPasses (start : Start) (old new : SiteView) : Type 0 where
+-- The run goes on, also one that has not begun, and a record more may be appended; and the clock came to the moment that it was
+-- asked for last.
+pub record CouldAppend (start : Start) (old new : SiteView) : Type 0 where
   pub goes_on : ReadsSo start None new
   pub many : ℕ
   pub gains : GainsRecords many old new
   pub fewer : many < start.most
+  pub reached : new.clock.asked ≤ new.clock.now
+
+-- The run could take a record more, and is idle, and what is due is past the limit on moments.
+pub record DuePasses (start : Start) (old new : SiteView) : Type 0 where
+  pub could : CouldAppend start old new
+  pub idle : IsIdleNow start could.goes_on.seen new.clock.now
+  pub at : ℕ
+  pub due_is : due could.goes_on.seen ≡ Some at
+  pub late : last_moment < at
+
+-- the parcel is the last that was taken in between, where those taken are told
+abbrev pub IsTakenLast : Parcel → Option (List (ℕ × Parcel)) → Option (List (ℕ × Parcel)) → Type 0
+IsTakenLast parcel old new = IfSome old (λ before. IfSome new (λ after.
+    (front : List (ℕ × Parcel)) × (beat : ℕ) × (after ≡ before ++ (front ++ (beat, parcel) ∷ []))))
+
+-- the record is that of the enabled move
+abbrev pub IsOfEnabledMove : Shown → ℕ → Record → Type 0
+IsOfEnabledMove seen now next = (move : Move) × (enabled_move seen now ≡ Some move) × (record_of seen now move ≡ Some next)
+
+-- Now no move is enabled, and this is the least issue that waits and has an answer among those that the file of answers has for
+-- the run.
+pub record IsToldNext (start : Start) (seen : Shown) (now issue : ℕ) (told : OperatorAnswer) : Type 0 where
+  pub no_move : enabled_move seen now ≡ None
+  pub answers : List OperatorAnswer
+  pub are : AreAnswers start answers
+  pub it : Issue
+  pub there : slice_get seen.lists.issues issue ≡ Some it
+  pub waits : is_waiting it.phase ≡ true
+  pub first : answer_for answers issue ≡ Some told
+  pub least : (lower : ℕ) (other : Issue) → lower < issue → slice_get seen.lists.issues lower ≡ Some other
+      → is_waiting other.phase ≡ true → answer_for answers lower ≡ None
+
+-- a reply to this issue of the run, which reads so, was taken last
+pub record IsRepliedLast (start : Start) (issue : ℕ) (read : Answer) (before after : Option (List (ℕ × Parcel))) : Type 0 where
+  pub parcel : Parcel
+  pub is_back : IsBack parcel
+  pub of_run : parcel.run ≡ start.run
+  pub of_issue : parcel.issue ≡ issue
+  pub reads : responses.answer parcel.bytes ≡ Some read
+  pub taken_last : IsTakenLast parcel before after
+
+-- The record comes next in a turn: that of the enabled move; where there is none, that of the least issue with an answer, which
+-- may need the Upgrade first; where no issue has one, an Expire; and a Reply as the parcel says that was taken last.
+abbrev pub ComesInTurn : Start → Option (List (ℕ × Parcel)) → Option (List (ℕ × Parcel)) → Shown → ℕ → Record → Type 0
+ComesInTurn start before after seen now (entry.Begin run moment books bind) = ⊤
+ComesInTurn start before after seen now (entry.Walk task moment) = IsOfEnabledMove seen now (entry.Walk task moment)
+ComesInTurn start before after seen now (entry.Send task issue agent moment bytes) =
+    IsOfEnabledMove seen now (entry.Send task issue agent moment bytes)
+ComesInTurn start before after seen now (entry.Reply issue moment status rule text) =
+    IsRepliedLast start issue (record { status = status; rule = rule; text = text }) before after
+ComesInTurn start before after seen now (entry.Expire issue moment) = IsIdleNow start seen now
+ComesInTurn start before after seen now (entry.Upgrade version moment) =
+    IsOfEnabledMove seen now (entry.Upgrade version moment)
+    ⊎ ((issue : ℕ) × (told : OperatorAnswer) × IsToldNext start seen now issue told)
+ComesInTurn start before after seen now (entry.Ask task issue moment bytes) =
+    IsOfEnabledMove seen now (entry.Ask task issue moment bytes)
+ComesInTurn start before after seen now (entry.Told issue moment status text) =
+    (told : OperatorAnswer) × IsToldNext start seen now issue told × (told.status ≡ status) × (told.text ≡ text)
+
+-- The run could take a record more, and the one that comes next, now, would make too many tasks, send too long a command, or make
+-- the file too long.
+pub record NextPasses (start : Start) (old new : SiteView) : Type 0 where
+  pub could : CouldAppend start old new
   pub next : Record
   pub edits : List Edit
   pub now : moment_of next ≡ new.clock.now
-  pub takes : taken (record { count = length goes_on.reads.records; seen = goes_on.seen; plan = None }) next ≡ Some edits
-  pub passes : IsSome (option_or (passed goes_on.seen edits)
-      (if nat_lt 67_108_864 (length_with goes_on.reads.records next) then Some limit.Journal else None))
+  pub takes : taken (record { count = length could.goes_on.reads.records; seen = could.goes_on.seen; plan = None }) next
+      ≡ Some edits
+  pub in_turn : ComesInTurn start old.link.taken new.link.taken could.goes_on.seen new.clock.now next
+  pub passes : IsSome (option_or (passed could.goes_on.seen edits)
+      (if nat_lt most_image (length_with could.goes_on.reads.records next) then Some limit.Journal else None))
 
--- an agent's file would be too long with the act on a command of a new run and issue, now
-pub record ActPasses (site : SiteView) : Type 0 where
+-- The run has begun and could take a record more, and with the act on the command that was taken last, which is of a new run and
+-- issue, the file of its agent would be too long, now.
+pub record NextActPasses (start : Start) (old new : SiteView) : Type 0 where
+  pub could : CouldAppend start old new
+  pub begun : could.goes_on.reads.records ≢ []
   pub parcel : Parcel
-  pub of_agent : IsAgent parcel.agent
+  pub is_command : IsCommand parcel
+  pub taken_last : IsTakenLast parcel old.link.taken new.link.taken
   pub acts : List Act
-  pub are : IsActs (site.disk.reads parcel.agent) acts
+  pub are : IsActs (new.disk.reads parcel.agent) acts
   pub is_new : IsNew acts parcel.run parcel.issue
-  pub past : 67_108_864 < act_file.length_with acts (act_for acts parcel site.clock.now)
+  pub past : most_image < act_file.length_with acts (act_for acts parcel new.clock.now)
 
 -- one of these
-abbrev pub WouldPass : Start → SiteView → SiteView → Type 0
-WouldPass start old new = IsLateSo start new ⊎ (NextPasses start old new ⊎ ActPasses new)
+abbrev pub WouldPassSo : Start → SiteView → SiteView → Type 0
+WouldPassSo start old new =
+    IsLateSo start new ⊎ (DuePasses start old new ⊎ (NextPasses start old new ⊎ NextActPasses start old new))
 
 -- ---- the status, and what the files read as
 
 -- What a status tells: that the run has ended well (0) or failed (6); that it goes on, with as many records more as may be (7),
 -- behind too many parcels (15), or waiting for an operator (16); that the clock stands before a moment that was asked for (14);
 -- that the file is another run's, or the number is used and no filter's file is damaged (12); that it is damaged, or the file of
--- an agent is (13); that its run has too many tasks, or what comes next would pass a limit (11). And where the session closed,
--- its records are within the budget, and a crash leaves them all.
+-- an agent is (13); that its run has too many tasks, the clock is past the limit, or what comes next would pass one (11). And
+-- where the session closed, its records are within the budget, and but for 14 the clock came to the moment that was asked for
+-- last; there, and at 11, 12 and 13, a crash leaves them all.
 pub record StatusTells (start : Start) (old new : SiteView) (answer : ℕ) : Type 0 where
   pub well : answer ≡ 0 → ReadsSo start (Some true) new
   pub failed : answer ≡ 6 → ReadsSo start (Some false) new
@@ -251,9 +344,11 @@ pub record StatusTells (start : Start) (old new : SiteView) (answer : ℕ) : Typ
   pub asks : answer ≡ 16 → AsksSo start old new
   pub waits : answer ≡ 14 → WaitsSo start old new
   pub kept : IsOneOf answer (0 ∷ 6 ∷ 7 ∷ 14 ∷ 15 ∷ 16 ∷ []) → KeepsWithin start old new
-  pub another : answer ≡ 12 → ReadsAsAnother start new ⊎ (FindsUsed start new × (HasDamagedFilter start new → ⊥))
+  pub reached : IsOneOf answer reached_statuses → new.clock.asked ≤ new.clock.now
+  pub another : answer ≡ 12 → ReadsAsAnother start new ⊎ (FindsFirstUsed start new × (HasDamagedFilter start new → ⊥))
   pub damaged : answer ≡ 13 → ReadsAsDamaged start new ⊎ HasDamagedFilter start new
-  pub past : answer ≡ 11 → ReadsTooLarge start new ⊎ WouldPass start old new
+  pub past : answer ≡ 11 → ReadsTooLarge start new ⊎ WouldPassSo start old new
+  pub left : IsOneOf answer (11 ∷ 12 ∷ 13 ∷ []) → LeavesRecords new
 
 -- The statuses that come whatever the files hold: a file could not be read (3), a text has no reading (5), the disk failed (8), a
 -- line was not said (9), memory was wanted (10).
@@ -280,17 +375,16 @@ pub record FileTells (start : Start) (old new : SiteView) (answer : ℕ) : Type 
 -- What a run that may go on, and the clock, tell of the status, but for those that come whatever the files hold. Where the run
 -- may go on, it is 15 or 16, or 11, 13 or 14. Where it waits for an operator alone, and the clock is not before the last record,
 -- it is 16, but for 15, 11 and 13; where a move is enabled now, 11 or 15, but for 13. Where the clock is past the limit, it is
--- 11, but for 12 and 13. Where 1,000,000 parcels changed neither journal, those that were taken are told, and each agent's file
--- had one image when the call began, it is 15, but for 11.
+-- 11, but for 12 and 13. Where 1,000,000 parcels changed neither journal, and those that were taken are told, it is 15, but for
+-- 11.
 pub record TurnTells (start : Start) (old new : SiteView) (answer : ℕ) : Type 0 where
   pub may : CanGoOn start old new → IsOneOf answer (15 ∷ 16 ∷ or_any (11 ∷ 13 ∷ 14 ∷ []))
   pub asks : (a : AsksSo start old new) → a.may.goes_on.seen.moment ≤ new.clock.now
       → IsOneOf answer (16 ∷ 15 ∷ or_any (11 ∷ 13 ∷ []))
   pub moves : (m : CanGoOn start old new) → enabled_move m.goes_on.seen new.clock.now ≢ None
       → IsOneOf answer (11 ∷ 15 ∷ or_any (13 ∷ []))
-  pub late : IsAcceptedStart start → 9_000_000_000_000_000 < new.clock.now → IsOneOf answer (11 ∷ or_any (12 ∷ 13 ∷ []))
-  pub floods : FloodsSo start old new → IsSome old.link.taken → ((agent : ℕ) → IsAgent agent → IsDurable agent old.disk)
-      → IsOneOf answer (15 ∷ or_any (11 ∷ []))
+  pub late : IsAcceptedStart start → last_moment < new.clock.now → IsOneOf answer (11 ∷ or_any (12 ∷ 13 ∷ []))
+  pub floods : FloodsSo start old new → IsSome old.link.taken → IsOneOf answer (15 ∷ or_any (11 ∷ []))
 
 pub record ReturnsSo (start : Start) (old new : SiteView) (answer : ℕ) : Type 0 where
   pub of_status : StatusTells start old new answer
@@ -303,7 +397,8 @@ TellsOnReturn None told old new answer = ⊤
 TellsOnReturn (Some (canonises book)) told old new answer = ⊤
 TellsOnReturn (Some (checks books)) told old new answer = ⊤
 TellsOnReturn (Some (runs wanted)) told old new answer =
-    IsTrue new.disk.told → KeepsRecords wanted.most old new × IfFilesTold (files_of (Some (runs wanted))) told (λ files.
+    IsTrue new.disk.told → KeepsRecords wanted.most old new × KeepsActs old new
+    × IfFilesTold (files_of (Some (runs wanted))) told (λ files.
     (texts : List NamedText) → HasTexts files wanted texts → ReturnsSo (start_of wanted texts) old new answer)
 TellsOnReturn (Some shows) told old new answer = ⊤
 TellsOnReturn (Some (lists_rules agent)) told old new answer = ⊤

@@ -27,5 +27,5 @@ statuses_of (Some (shadows agent)) = filter_statuses
 statuses_of (Some (rehearses positions)) = rehearsal_statuses
 statuses_of (Some (audits engine filters)) = 0 ∷ 3 ∷ 4 ∷ 9 ∷ 10 ∷ 11 ∷ 18 ∷ []
 
-abbrev pub MayAnswer : Option Asked → ℕ → Type 0
-MayAnswer asked answer = IsOneOf answer (statuses_of asked)
+abbrev pub IsOwnStatus : Option Asked → ℕ → Type 0
+IsOwnStatus asked answer = IsOneOf answer (statuses_of asked)

@@ -24,6 +24,3 @@ mod show;
 mod tree;
 
 pub use program::top;
-
-#[cfg(test)]
-mod tests;

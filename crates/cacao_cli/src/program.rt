@@ -11,12 +11,12 @@ ghost use Rattle.cacao_cli.specs.Command.{asked_by, end_of};
 ghost use Rattle.cacao_cli.specs.Completing.{Completes};
 ghost use Rattle.cacao_cli.specs.Ended.{Ended, Performed};
 ghost use Rattle.cacao_cli.specs.Ends.{ended_failed, flooded, paused};
-ghost use Rattle.cacao_cli.specs.Exact.{IsOneOf, Answers, ComesExactly, IfFilesTold, IfTold, stands_for};
+ghost use Rattle.cacao_cli.specs.Exact.{IsOneOf, AnswersExactly, ComesExactly, ComesFor, IfFilesTold, IfTold, reached_statuses};
 ghost use Rattle.cacao_cli.specs.Files.{files_of, shelf_call};
 ghost use Rattle.cacao_cli.specs.Leaves.{Leaves, LeavesAll, NoFault, ReadsAtMost, CountsDisk, CountsUnsaid};
-ghost use Rattle.cacao_cli.specs.OwnSites.{StandsShort};
+ghost use Rattle.cacao_cli.specs.OwnSites.{StandsReached, StandsShort};
 ghost use Rattle.cacao_cli.specs.Returning.{TellsOnReturn};
-ghost use Rattle.cacao_cli.specs.Statuses.{MayAnswer};
+ghost use Rattle.cacao_cli.specs.Statuses.{IsOwnStatus};
 ghost use Rattle.cacao_cli.specs.Usage.{UsesFew};
 
 use crate::audit::audit;
@@ -98,11 +98,11 @@ pub fn top<L: Shelf, S: Site>(alloc: Global, words: &[String], shelf: &mut L, si
         (S.view site.old) (S.view site.new) result }
 
     // The status is the one that the words, the files and the disk call for, or a fault stands in its place.
-    ensures exactly { Answers (asked (map string_bytes words.now)) (L.told shelf.old) (S.view site.old) (S.view site.new) result }
+    ensures exactly { AnswersExactly (asked (map string_bytes words.now)) (L.told shelf.old) (S.view site.old) (S.view site.new) result }
 
     // Status by status, in words of its own.
     ensures done { IfTold (asked (map string_bytes words.now)) (L.told shelf.old) (S.view site.old) (λ files.
-        ComesExactly 0 (stands_for (asked (map string_bytes words.now)))
+        ComesFor (asked (map string_bytes words.now)) (S.view site.old) (S.view site.new) 0
         (CanBeDone (asked (map string_bytes words.now)) files (S.view site.old) (S.view site.new)) result) }
     ensures refused { IfFilesTold (files_of (asked (map string_bytes words.now))) (L.told shelf.old) (λ files.
         ComesExactly 1 (3 ∷ 9 ∷ 10 ∷ []) (IsRefused (asked (map string_bytes words.now)) files) result) }
@@ -120,42 +120,45 @@ pub fn top<L: Shelf, S: Site>(alloc: Global, words: &[String], shelf: &mut L, si
     ensures no_memory { result ≡ 10
         → NoFault (L.faults shelf.old) (L.faults shelf.new) (S.view site.old) (S.view site.new) }
     ensures past_limit { IfTold (asked (map string_bytes words.now)) (L.told shelf.old) (S.view site.old) (λ files.
-        ComesExactly 11 (stands_for (asked (map string_bytes words.now)))
+        ComesFor (asked (map string_bytes words.now)) (S.view site.old) (S.view site.new) 11
         (IsPastLimit (asked (map string_bytes words.now)) files (S.view site.old) (S.view site.new)) result) }
     ensures too_much { IfFilesTold (files_of (asked (map string_bytes words.now))) (L.told shelf.old) (λ files.
         NamesTooMuch (asked (map string_bytes words.now)) files → IsOneOf result (11 ∷ 3 ∷ 9 ∷ 10 ∷ [])) }
     ensures damaged { IfTold (asked (map string_bytes words.now)) (L.told shelf.old) (S.view site.old) (λ files.
-        ComesExactly 13 (stands_for (asked (map string_bytes words.now)))
+        ComesFor (asked (map string_bytes words.now)) (S.view site.old) (S.view site.new) 13
         (FindsItDamaged (asked (map string_bytes words.now)) files (S.view site.old) (S.view site.new)) result) }
     ensures disagreement { IfFilesTold (files_of (asked (map string_bytes words.now))) (L.told shelf.old) (λ files.
         ComesExactly 18 (3 ∷ 9 ∷ 10 ∷ []) (FindsDisagreement (asked (map string_bytes words.now)) files) result) }
 
     ensures failed { IfTold (asked (map string_bytes words.now)) (L.told shelf.old) (S.view site.old) (λ files.
-        ComesExactly 6 (stands_for (asked (map string_bytes words.now)))
+        ComesFor (asked (map string_bytes words.now)) (S.view site.old) (S.view site.new) 6
         (EndsAs (asked (map string_bytes words.now)) files ended_failed (S.view site.old) (S.view site.new)) result) }
     ensures pauses { IfTold (asked (map string_bytes words.now)) (L.told shelf.old) (S.view site.old) (λ files.
-        ComesExactly 7 (stands_for (asked (map string_bytes words.now)))
+        ComesFor (asked (map string_bytes words.now)) (S.view site.old) (S.view site.new) 7
         (EndsAs (asked (map string_bytes words.now)) files paused (S.view site.old) (S.view site.new)) result) }
     ensures another_run { IfTold (asked (map string_bytes words.now)) (L.told shelf.old) (S.view site.old) (λ files.
-        ComesExactly 12 (stands_for (asked (map string_bytes words.now)))
+        ComesFor (asked (map string_bytes words.now)) (S.view site.old) (S.view site.new) 12
         (EndsAsAnother (asked (map string_bytes words.now)) files (S.view site.old) (S.view site.new)) result) }
     ensures waits { IfTold (asked (map string_bytes words.now)) (L.told shelf.old) (S.view site.old) (λ files.
-        ComesExactly 14 (stands_for (asked (map string_bytes words.now)))
+        ComesFor (asked (map string_bytes words.now)) (S.view site.old) (S.view site.new) 14
         (EndsAsWaiting (asked (map string_bytes words.now)) files (S.view site.old) (S.view site.new)) result) }
     ensures floods { IfTold (asked (map string_bytes words.now)) (L.told shelf.old) (S.view site.old) (λ files.
-        ComesExactly 15 (stands_for (asked (map string_bytes words.now)))
+        ComesFor (asked (map string_bytes words.now)) (S.view site.old) (S.view site.new) 15
         (EndsAs (asked (map string_bytes words.now)) files flooded (S.view site.old) (S.view site.new)) result) }
     ensures asks { IfTold (asked (map string_bytes words.now)) (L.told shelf.old) (S.view site.old) (λ files.
-        ComesExactly 16 (stands_for (asked (map string_bytes words.now)))
+        ComesFor (asked (map string_bytes words.now)) (S.view site.old) (S.view site.new) 16
         (EndsAsAsked (asked (map string_bytes words.now)) files (S.view site.old) (S.view site.new)) result) }
 
-    // Where the status says that the run waits, the clock stands before what it was asked for.
+    // Where the status says that the run waits, the clock stands before what it was asked for; where it says that the run ended,
+    // paused, took too many parcels or asks, the clock came to that.
     ensures stands_short { result ≡ 14 → StandsShort (asked (map string_bytes words.now)) (S.view site.new) }
+    ensures stands_reached { IsOneOf result reached_statuses
+        → StandsReached (asked (map string_bytes words.now)) (S.view site.new) }
 
     // Each command answers its own statuses alone, whether the files and the disk are told or not.
-    ensures answers { MayAnswer (asked (map string_bytes words.now)) result }
+    ensures answers { IsOwnStatus (asked (map string_bytes words.now)) result }
 
-    // What the status of `run` tells of the bytes that the engine's file reads as on return, and what they tell of the status.
+    // What the status of `run` tells of what the files read as on return, of the clock and of the parcels taken, and they of it.
     ensures on_return { TellsOnReturn (asked (map string_bytes words.now)) (L.told shelf.old)
         (S.view site.old) (S.view site.new) result }
 

@@ -10,11 +10,13 @@ use Rattle.cacao_cli.specs.Lines.{Tells}
 use Rattle.cacao_cli.proofs.AgreedLemmas.{agrees-ended}
 use Rattle.cacao_cli.proofs.BudgetLemmas.{asked-budget}
 use Rattle.cacao_cli.proofs.AnswerLemmas.{answers-ended, disk-ended}
+use Rattle.cacao_cli.proofs.ClockLemmas.{reached-ended}
 use Rattle.cacao_cli.proofs.CompleteLemmas.{completes-ended, undamaged-ended}
 use Rattle.cacao_cli.proofs.CountLemmas.{failed-ended, steady-ended, unsaid-ended, said-ended, memory-ended}
 use Rattle.cacao_cli.proofs.ExactLemmas.{exact-ended}
 use Rattle.cacao_cli.proofs.LeaveLemmas.{leaves-ended, few-ended}
 use Rattle.cacao_cli.proofs.ReturnLemmas.{returns-ended}
+use Rattle.cacao_cli.proofs.ReturnedRuns.{sound-reads}
 use Rattle.cacao_cli.proofs.ShortLemmas.{short-ended}
 use Rattle.cacao_cli.proofs.StatusLemmas.{damaged-ended, disagreement-ended, done-ended, words-ended, missing-ended, unreadable-ended, past-ended, much-ended, refused-ended, another-ended, asked-ended, failed-run-ended, flooded-ended, paused-ended, waiting-ended}
 use Rattle.cacao_cli.proofs.StayLemmas.{stays-ended}
@@ -29,7 +31,7 @@ pub returns-clause-exactly : goal.returns-clause-exactly
 returns-clause-exactly g c = exact-ended _ _ _ _ _ (came c.perform-end.ensures.performed c.finish.ensures)
 
 pub returns-clause-done : goal.returns-clause-done
-returns-clause-done g c = done-ended _ _ _ _ _ (came c.perform-end.ensures.performed c.finish.ensures)
+returns-clause-done g c = done-ended (asked (map string_bytes c.args.words.now)) _ _ (g.S.Disk.view c.finish.new.site) _ (sound-reads _ (g.met.S.Disk.sound c.finish.new.site)) (asked-budget (map string_bytes c.args.words.now)) (came c.perform-end.ensures.performed c.finish.ensures)
 
 pub returns-clause-not_understood : goal.returns-clause-not_understood
 returns-clause-not_understood g c = words-ended _ _ _ _ _ (came c.perform-end.ensures.performed c.finish.ensures)
@@ -59,7 +61,7 @@ pub returns-clause-no_memory : goal.returns-clause-no_memory
 returns-clause-no_memory g c = memory-ended _ _ _ _ _ (came c.perform-end.ensures.performed c.finish.ensures)
 
 pub returns-clause-past_limit : goal.returns-clause-past_limit
-returns-clause-past_limit g c = past-ended _ _ _ _ _ (came c.perform-end.ensures.performed c.finish.ensures)
+returns-clause-past_limit g c = past-ended (asked (map string_bytes c.args.words.now)) _ _ (g.S.Disk.view c.finish.new.site) _ (sound-reads _ (g.met.S.Disk.sound c.finish.new.site)) (asked-budget (map string_bytes c.args.words.now)) (came c.perform-end.ensures.performed c.finish.ensures)
 
 pub returns-clause-too_much : goal.returns-clause-too_much
 returns-clause-too_much g c = much-ended _ _ _ _ _ (came c.perform-end.ensures.performed c.finish.ensures)
@@ -77,28 +79,28 @@ pub returns-clause-disk_failed : goal.returns-clause-disk_failed
 returns-clause-disk_failed g c = disk-ended _ _ _ _ _ (came c.perform-end.ensures.performed c.finish.ensures)
 
 pub returns-clause-damaged : goal.returns-clause-damaged
-returns-clause-damaged g c = damaged-ended _ _ _ _ _ (came c.perform-end.ensures.performed c.finish.ensures)
+returns-clause-damaged g c = damaged-ended (asked (map string_bytes c.args.words.now)) _ _ (g.S.Disk.view c.finish.new.site) _ (sound-reads _ (g.met.S.Disk.sound c.finish.new.site)) (asked-budget (map string_bytes c.args.words.now)) (came c.perform-end.ensures.performed c.finish.ensures)
 
 pub returns-clause-disagreement : goal.returns-clause-disagreement
 returns-clause-disagreement g c = disagreement-ended _ _ _ _ _ (came c.perform-end.ensures.performed c.finish.ensures)
 
 pub returns-clause-failed : goal.returns-clause-failed
-returns-clause-failed g c = failed-run-ended _ _ _ _ _ (came c.perform-end.ensures.performed c.finish.ensures)
+returns-clause-failed g c = failed-run-ended (asked (map string_bytes c.args.words.now)) _ _ (g.S.Disk.view c.finish.new.site) _ (sound-reads _ (g.met.S.Disk.sound c.finish.new.site)) (asked-budget (map string_bytes c.args.words.now)) (came c.perform-end.ensures.performed c.finish.ensures)
 
 pub returns-clause-pauses : goal.returns-clause-pauses
-returns-clause-pauses g c = paused-ended _ _ _ _ _ (came c.perform-end.ensures.performed c.finish.ensures)
+returns-clause-pauses g c = paused-ended (asked (map string_bytes c.args.words.now)) _ _ (g.S.Disk.view c.finish.new.site) _ (sound-reads _ (g.met.S.Disk.sound c.finish.new.site)) (asked-budget (map string_bytes c.args.words.now)) (came c.perform-end.ensures.performed c.finish.ensures)
 
 pub returns-clause-another_run : goal.returns-clause-another_run
-returns-clause-another_run g c = another-ended _ _ _ _ _ (came c.perform-end.ensures.performed c.finish.ensures)
+returns-clause-another_run g c = another-ended (asked (map string_bytes c.args.words.now)) _ _ (g.S.Disk.view c.finish.new.site) _ (sound-reads _ (g.met.S.Disk.sound c.finish.new.site)) (asked-budget (map string_bytes c.args.words.now)) (came c.perform-end.ensures.performed c.finish.ensures)
 
 pub returns-clause-waits : goal.returns-clause-waits
-returns-clause-waits g c = waiting-ended _ _ _ _ _ (came c.perform-end.ensures.performed c.finish.ensures)
+returns-clause-waits g c = waiting-ended (asked (map string_bytes c.args.words.now)) _ _ (g.S.Disk.view c.finish.new.site) _ (sound-reads _ (g.met.S.Disk.sound c.finish.new.site)) (asked-budget (map string_bytes c.args.words.now)) (came c.perform-end.ensures.performed c.finish.ensures)
 
 pub returns-clause-floods : goal.returns-clause-floods
-returns-clause-floods g c = flooded-ended _ _ _ _ _ (came c.perform-end.ensures.performed c.finish.ensures)
+returns-clause-floods g c = flooded-ended (asked (map string_bytes c.args.words.now)) _ _ (g.S.Disk.view c.finish.new.site) _ (sound-reads _ (g.met.S.Disk.sound c.finish.new.site)) (asked-budget (map string_bytes c.args.words.now)) (came c.perform-end.ensures.performed c.finish.ensures)
 
 pub returns-clause-asks : goal.returns-clause-asks
-returns-clause-asks g c = asked-ended _ _ _ _ _ (came c.perform-end.ensures.performed c.finish.ensures)
+returns-clause-asks g c = asked-ended (asked (map string_bytes c.args.words.now)) _ _ (g.S.Disk.view c.finish.new.site) _ (sound-reads _ (g.met.S.Disk.sound c.finish.new.site)) (asked-budget (map string_bytes c.args.words.now)) (came c.perform-end.ensures.performed c.finish.ensures)
 
 pub returns-clause-stays : goal.returns-clause-stays
 returns-clause-stays g c = stays-ended _ _ _ _ _ (came c.perform-end.ensures.performed c.finish.ensures)
@@ -129,6 +131,9 @@ returns-clause-answers g c = answers-ended _ _ _ _ _ (came c.perform-end.ensures
 
 pub returns-clause-stands_short : goal.returns-clause-stands_short
 returns-clause-stands_short g c = short-ended _ _ _ _ _ (came c.perform-end.ensures.performed c.finish.ensures)
+
+pub returns-clause-stands_reached : goal.returns-clause-stands_reached
+returns-clause-stands_reached g c = reached-ended _ _ _ _ _ (came c.perform-end.ensures.performed c.finish.ensures)
 
 pub returns-clause-uses_few : goal.returns-clause-uses_few
 returns-clause-uses_few g c = uses-ended _ _ _ _ _ (came c.perform-end.ensures.performed c.finish.ensures)
