@@ -3,10 +3,7 @@ use Rattle.std.specs.Prelude.{◌≡◌, ◌↔◌, ℕ, Bool, true, false, zero
 use Rattle.std.specs.List.Sorted.{IsStrictlyIncreasing}
 use Rattle.oc2_nets.specs.declared.flows.Flow.{Flow}
 use Rattle.oc2_nets.specs.declared.flows.Flow.TheVariants.{Net4, Net6, Conn4, Conn6}
-use Rattle.oc2_nets.specs.declared.ipv4_nets.Net4.{Net4 as Ipv4Net}
-use Rattle.oc2_nets.specs.declared.ipv6_nets.Net6.{Net6 as Ipv6Net}
 use Rattle.oc2_nets.specs.declared.packets.Packet.{Packet}
-use Rattle.oc2_nets.specs.declared.packets.Protocol.{Protocol}
 use Rattle.oc2_nets.specs.Nets.{net4_text, net6_text}
 use Rattle.oc2_nets.specs.Packets.{protocol_word}
 use Rattle.oc2_msg.specs.declared.drops.Drop3.{Drop3}
@@ -38,9 +35,11 @@ abbrev pub flow_text : Flow → List ℕ
 flow_text (Net4 net) = words (codes "net4") (net4_text net ∷ [])
 flow_text (Net6 net) = words (codes "net6") (net6_text net ∷ [])
 flow_text (Conn4 protocol src src_port dst dst_port) = words (codes "conn4")
-    (or_hyphen protocol_word protocol ∷ or_hyphen net4_text src ∷ or_hyphen decimal src_port ∷ or_hyphen net4_text dst ∷ or_hyphen decimal dst_port ∷ [])
+    (or_hyphen protocol_word protocol ∷ or_hyphen net4_text src ∷ or_hyphen decimal src_port ∷ or_hyphen net4_text dst
+    ∷ or_hyphen decimal dst_port ∷ [])
 flow_text (Conn6 protocol src src_port dst dst_port) = words (codes "conn6")
-    (or_hyphen protocol_word protocol ∷ or_hyphen net6_text src ∷ or_hyphen decimal src_port ∷ or_hyphen net6_text dst ∷ or_hyphen decimal dst_port ∷ [])
+    (or_hyphen protocol_word protocol ∷ or_hyphen net6_text src ∷ or_hyphen decimal src_port ∷ or_hyphen net6_text dst
+    ∷ or_hyphen decimal dst_port ∷ [])
 
 abbrev pub verdict_word : Bool → List ℕ
 verdict_word true = codes "deny"
@@ -53,7 +52,8 @@ drop_text false drop = codes "-"
 
 -- NUMBER VERDICT DIRECTION FLOW START STOP DROP
 abbrev pub rule_line : Rule → List ℕ
-rule_line rule = line (words (decimal rule.number) (verdict_word rule.deny ∷ direction_word rule.direction ∷ flow_text rule.flow ∷ []))
+rule_line rule =
+    line (words (decimal rule.number) (verdict_word rule.deny ∷ direction_word rule.direction ∷ flow_text rule.flow ∷ []))
     (decimal rule.start ∷ or_hyphen decimal rule.stop ∷ drop_text rule.deny rule.drop ∷ [])
 
 -- the lines of the rules, in order

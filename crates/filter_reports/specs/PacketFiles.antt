@@ -1,5 +1,5 @@
 -- The packets of a file: lines, each with its line feed. An empty file has none.
-use Rattle.std.specs.Prelude.{ℕ, ◌+◌, ◌==◌, List, [], ◌∷◌, ◌++◌, length, Option, Some, None, Result, Ok, Err, if◌then◌else◌}
+use Rattle.std.specs.Prelude.{ℕ, ◌+◌, List, [], ◌∷◌, ◌++◌, Option, Some, None, Result, Ok, Err, if◌then◌else◌}
 use Rattle.std.specs.Str.{is_utf8}
 use Rattle.oc2_nets.specs.declared.packets.Packet.{Packet}
 use Rattle.oc2_nets.specs.Packets.{packet_of}

@@ -7,8 +7,6 @@ mod flows;
 mod packet_files;
 mod rules;
 mod shadows;
-#[cfg(test)]
-mod tests;
 
 pub use decisions::decision_lines;
 pub use packet_files::{PacketsError, read_packets};

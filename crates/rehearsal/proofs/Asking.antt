@@ -1,6 +1,6 @@
 -- A run of playbooks without commands for operators asks none.
-use Rattle.std.proofs.Common.{◌≡◌, ◌⊎◌, inl, inr, ℕ, zero, suc, ◌≤◌, ◌==◌, ◌&&◌, Bool, true, false, cond, List, [], ◌∷◌, ◌++◌, length, Option, Some, None, arith, refl, ap, sym, subst, ◌∙◌, map}
-use Rattle.std.specs.Prelude.{IfSome, IsTrue, not, option_and_then, slice_get, ⊤}
+use Rattle.std.proofs.Common.{◌≡◌, ◌⊎◌, inl, inr, ℕ, zero, suc, ◌==◌, ◌&&◌, Bool, true, false, cond, List, [], ◌∷◌, ◌++◌, length, Option, Some, None, arith, refl, ap, sym, subst, ◌∙◌, map}
+use Rattle.std.specs.Prelude.{IfSome, not, option_and_then, slice_get, ⊤}
 use Rattle.std.specs.List.{AllByRecursion, flat_map, list_all}
 use Rattle.std.specs.Str.{bytes_eq}
 use Rattle.run_records.specs.declared.record.Record.{Record}
@@ -15,14 +15,13 @@ use Rattle.flow_rules.specs.declared.issues.IssuePhase.{IssuePhase}
 use Rattle.flow_rules.specs.declared.issues.IssuePhase.TheVariants as issue_phase
 use Rattle.flow_rules.specs.declared.phases.Phase.{Phase}
 use Rattle.flow_rules.specs.declared.phases.Phase.TheVariants as phase
-use Rattle.flow_rules.specs.declared.tasks.Task.{Task}
 use Rattle.flow_rules.specs.Givens.{Given, step_at}
 use Rattle.flow_rules.specs.State.{State, Shown, shown}
 use Rattle.flow_rules.specs.Edits.{Edit, all_edited, changed_at, closed}
 use Rattle.flow_rules.specs.Earlier.{WasAccepted, has_no_manual}
 use Rattle.flow_rules.specs.Places.{Place, addressees, is_manual, places, places_of, to_filter, to_operator}
 use Rattle.flow_rules.specs.Tasks.{Here}
-use Rattle.flow_rules.specs.Changes.{Issuing, ask, change, edits_of, is_in_time, is_waiting, issuing, next_question, place_at, question_at}
+use Rattle.flow_rules.specs.Changes.{Issuing, ask, change, is_in_time, is_waiting, issuing, next_question, place_at, question_at}
 use Rattle.flow_rules.specs.Moves.{asks, first_question, is_question}
 use Rattle.flow_rules.specs.Runs.{GoesOn, Leads, Next}
 use Rattle.flow_rules.proofs.HereLemmas.{here_of, some_at, some_option}

@@ -1,18 +1,17 @@
 -- How no session of a rehearsal closes.
-use Rattle.std.proofs.Common.{◌≡◌, ◌⊎◌, inl, inr, ℕ, ◌+◌, ◌<◌, ◌≤◌, List, [], ◌∷◌, ◌++◌, length, length-append, Some, None, refl, sym, ◌∙◌, subst, ap, arith}
+use Rattle.std.proofs.Common.{◌≡◌, inl, inr, ℕ, ◌+◌, ◌<◌, ◌≤◌, List, [], ◌∷◌, length, length-append, None, sym, ◌∙◌, subst, ap, arith}
 use Rattle.cacao_site.specs.View.{SiteView}
 use Rattle.run_records.specs.Ranges.{last_moment}
 use Rattle.run_records.specs.declared.record.Record.{Record}
 use Rattle.engine_history.specs.HistoryView.{HistoryView}
 use Rattle.engine_history.specs.Histories.{IsHistory, IsSoFar}
 use Rattle.operator_answers.specs.declared.answers.OperatorAnswer.{OperatorAnswer}
-use Rattle.flow_core.specs.Views.{blank_shown}
 use Rattle.flow_rules.specs.Earlier.{WasAccepted}
 use Rattle.flow_rules.specs.Givens.{Given}
 use Rattle.flow_rules.specs.Moves.{asks}
 use Rattle.flow_rules.specs.State.{Shown}
-use Rattle.flow_steps.specs.Causes.{AskedFirst, AskedLast, IsShort, Shows}
-use Rattle.flow_steps.specs.Worlds.{Phase, World, waits}
+use Rattle.flow_steps.specs.Causes.{IsShort, Shows}
+use Rattle.flow_steps.specs.Worlds.{Phase}
 use Rattle.flow_steps.proofs.Bounded.{records_few}
 use Rattle.flow_world.specs.Sessions.{HasClosed}
 use Rattle.flow_world.specs.declared.close.Close.{Close}

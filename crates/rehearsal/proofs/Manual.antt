@@ -11,7 +11,7 @@ use Rattle.serde_json.specs.Data.{Data, Members, no_members, member, object, put
 use Rattle.serde_json.specs.Find.{get}
 use Rattle.cacao_json.specs.Reading.{tree}
 use Rattle.cacao_vars.specs.declared.kinds.Kind.{Kind}
-use Rattle.cacao_shape.specs.Members.{in_order, members_in, with_member}
+use Rattle.cacao_shape.specs.Members.{members_in, with_member}
 use Rattle.cacao_shape.specs.Shape.{workflow as steps_in}
 use Rattle.cacao_book.specs.Books.{book, kind_at, step_of}
 use Rattle.cacao_book.specs.declared.books.Book.{Book}
@@ -20,7 +20,7 @@ use Rattle.flow_rules.specs.Earlier.{WasAccepted, has_no_manual}
 use Rattle.flow_rules.specs.Accepted.{Accepted}
 use Rattle.flow_rules.specs.Bindings.{agents_in}
 use Rattle.flow_rules.specs.Givens.{Given}
-use Rattle.rehearsal.specs.Books.{after, branch, delete_step, deny_step, ends, head, object_of, parallel_step, placed, put_all, rehearsal, starts, steps_at, steps_to, workflow}
+use Rattle.rehearsal.specs.Books.{after, branch, delete_step, deny_step, ends, head, parallel_step, placed, put_all, rehearsal, starts, steps_at, steps_to, workflow}
 
 -- a member of the workflow whose step asks no operator
 abbrev AsksNone : List ℕ × Data → Type 0

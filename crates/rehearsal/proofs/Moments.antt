@@ -1,11 +1,11 @@
 -- The moment of a run is never past the last one.
-use Rattle.std.proofs.Common.{◌≡◌, ℕ, ◌≤◌, ◌&&◌, Bool, true, false, cond, List, [], ◌∷◌, ◌++◌, Option, Some, None, refl, sym, subst, ap, ◌∙◌, arith, map}
+use Rattle.std.proofs.Common.{◌≡◌, ℕ, ◌≤◌, ◌&&◌, Bool, true, false, cond, List, [], ◌∷◌, ◌++◌, Option, Some, None, refl, sym, subst, ap, map}
 use Rattle.std.specs.Prelude.{nat_le, option_map, slice_get}
 use Rattle.std.proofs.lemmas.Bool.{leb-true}
 use Rattle.run_records.specs.Ranges.{last_moment}
 use Rattle.run_records.specs.declared.record.Record.{Record}
 use Rattle.cacao_book.specs.declared.books.Book.{Book}
-use Rattle.flow_rules.specs.Changes.{change, edits_of, is_in_time, moment_of}
+use Rattle.flow_rules.specs.Changes.{edits_of, is_in_time, moment_of}
 use Rattle.flow_rules.specs.Edits.{Edit}
 use Rattle.flow_rules.specs.Edits.Edit.{opens, writes, makes}
 use Rattle.flow_rules.specs.Givens.{Given}

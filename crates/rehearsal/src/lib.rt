@@ -18,6 +18,3 @@ pub use rehearsing::rehearse;
 pub use setting::new_site;
 pub use site::RehearsalSite;
 pub use summary::Summary;
-
-#[cfg(test)]
-mod tests;

@@ -1,5 +1,5 @@
 -- The first line feed is found.
-use Rattle.std.proofs.Common.{◌≡◌, ◌∙◌, ◌+◌, ◌-◌, length-drop, sym, ap, List, ◌∷◌, take, drop, length, take_all, arith, ℕ, ◌≤◌}
+use Rattle.std.proofs.Common.{◌≡◌, ◌∙◌, ◌+◌, ◌-◌, length-drop, sym, ap, List, ◌∷◌, take, drop, length, take_all, arith, ℕ}
 use Rattle.oc2_nets.specs.Texts.{parts}
 use Rattle.filter_reports.specs.PacketFiles.{line_feed}
 use Rattle.filter_reports.proofs.PacketLemmas.{IsCutAt, cut-some, cut-none}

@@ -1,5 +1,5 @@
 -- A line is read where it is UTF-8.
-use Rattle.std.proofs.Common.{◌≡◌, ◌∙◌, ap}
+use Rattle.std.proofs.Common.{◌∙◌, ap}
 use Rattle.oc2_nets.specs.Packets.{packet_of}
 use Rattle.filter_reports.proofs.PacketLemmas.{read-some, read-none}
 use Rattle.filter_reports.proofs.packet_files.packet_in.Goals as goal

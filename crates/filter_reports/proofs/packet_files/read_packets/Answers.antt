@@ -1,7 +1,6 @@
 -- The lines so far have packets.
-use Rattle.std.proofs.Common.{◌≡◌, ◌∙◌, sym, ap, subst, arith, ℕ, ◌+◌, List, [], ◌++◌, ◌∷◌, Err}
+use Rattle.std.proofs.Common.{◌≡◌, ◌∙◌, sym, ap, subst, arith, ℕ, ◌+◌, List, Err}
 use Rattle.oc2_nets.specs.declared.packets.Packet.{Packet}
-use Rattle.filter_reports.specs.PacketFiles.{packets_of}
 use Rattle.filter_reports.proofs.PacketLemmas.{IsSoFar, so_far-none, so_far-more, so_far-bad}
 use Rattle.filter_reports.proofs.packet_files.read_packets.Goals as goal
 

@@ -1,5 +1,5 @@
 // A rehearsal of a few positions, and the text of its playbook, which was written by Python's `json`.
-use crate::{Summary, new_site, rehearsal_text, rehearse};
+use rehearsal::{Summary, new_site, rehearsal_text, rehearse};
 use std::alloc::{AllocError, Global};
 use std::test::Fail;
 

@@ -1,1 +1,0 @@
-// Lines of filters, against those that the formats show.
