@@ -1,5 +1,5 @@
 -- The name that an argument means is a name.
-use Rattle.std.proofs.Common.{◌≡◌, ◌≢◌, inl, inr, ℕ, suc, ◌+◌, Bool, false, List, [], ◌∷◌, ◌++◌, take, not, cond, ◌==◌, Option, Some, None, refl, sym, ◌∙◌, ap, subst, arith, codes}
+use Rattle.std.proofs.Common.{◌≡◌, ◌≢◌, inl, inr, ℕ, suc, ◌+◌, false, List, [], ◌∷◌, ◌++◌, take, not, cond, ◌==◌, Option, Some, None, refl, sym, ◌∙◌, ap, subst, arith, codes}
 use Rattle.std.specs.List.{before_first, prefix_len}
 use Rattle.std.specs.Prelude.{IsSomeAnd, unwrap_or}
 use Rattle.cacao_vars.specs.Names.{IsName}

@@ -1,7 +1,7 @@
 -- What a step that breaks no rule holds is within the limits.
-use Rattle.std.proofs.Common.{◌≡◌, ℕ, ◌+◌, ◌≤◌, Bool, true, false, ◌||◌, cond, List, [], ◌∷◌, length, map, fold, Ordering, Less, Equal, Greater, nat_cmp, Option, Some, None, codes, refl, subst, ap, arith}
+use Rattle.std.proofs.Common.{◌≡◌, ℕ, ◌+◌, ◌≤◌, Bool, true, false, ◌||◌, List, [], ◌∷◌, length, map, fold, Ordering, Less, Equal, Greater, nat_cmp, Option, Some, None, codes, refl, arith}
 use Rattle.std.specs.List.{slice_index_or}
-use Rattle.std.specs.Prelude.{slice_get, suc, IsSomeAnd, IfSome, IsTrue, unwrap_or, option_and_then, All}
+use Rattle.std.specs.Prelude.{slice_get, suc, IsSomeAnd, IfSome, unwrap_or, option_and_then, All}
 use Rattle.std.specs.Option.{option_map_or}
 use Rattle.std.specs.Ordering.{match_ordering}
 use Rattle.std.specs.Cmp.Lexicographic.{slice_cmp}
@@ -11,14 +11,13 @@ use Rattle.std.proofs.lemmas.List.Elements.{All-map, All-nil, All-cons}
 use Rattle.serde_json.specs.Data.{Data, Members}
 use Rattle.serde_json.specs.Find.{get, as_str, as_array, as_object}
 use Rattle.cacao_ids.specs.Ids.{IsId}
-use Rattle.cacao_book.specs.declared.step_kinds.StepKind.{StepKind}
 use Rattle.cacao_book.specs.declared.step_kinds.StepKind.TheVariants.{Start, End, Parallel}
-use Rattle.cacao_shape.specs.Members.{Has, TextFits, IsText, IsShort, IsObject, items_in, members_in, with_member, in_order, members_at, some_text, items_at, texts_at, text_of}
+use Rattle.cacao_shape.specs.Members.{Has, TextFits, IsText, IsShort, IsObject, items_in, members_in, with_member, in_order, members_at, items_at, texts_at, text_of}
 use Rattle.cacao_shape.specs.Orders.{IsRising}
-use Rattle.cacao_shape.specs.Shape.{ShapeRule, ShapeDemand, KeepsOfStep, k4, k5, k9, k11, k12, K5, IsArgument, is_of_type, IsWellShaped, IsWellShapedStep, workflow}
+use Rattle.cacao_shape.specs.Shape.{ShapeRule, KeepsOfStep, k4, k5, k9, k11, k12, IsArgument, is_of_type, IsWellShaped, IsWellShapedStep, workflow}
 use Rattle.cacao_book.specs.Books.{arguments_at, argument, command_of, case_of, kind_at, action_of, playbook_action_of, if_of, while_of, switch_of, step_of}
 use Rattle.cacao_book.specs.Steps.{KindKeepsLimits, KeepsLimits, AreSteps}
-use Rattle.cacao_shape.proofs.ListLemmas.{items_fit, members_fit, may_have}
+use Rattle.cacao_shape.proofs.ListLemmas.{items_fit, may_have}
 use Rattle.cacao_book.proofs.OrderLemmas.{steps_in_order}
 
 -- ---- how many members stand in order: no more than there are

@@ -5,7 +5,7 @@ use Rattle.std.specs.Str.{bytes_eq}
 use Rattle.cacao_vars.specs.Declarations.{IsBefore}
 use Rattle.cacao_book.specs.declared.steps.Step.{Step}
 use Rattle.cacao_book.specs.declared.step_kinds.StepKind.{StepKind}
-use Rattle.cacao_book.specs.declared.step_kinds.StepKind.TheVariants.{Start, End, Action, PlaybookAction, Parallel, If, While, Switch}
+use Rattle.cacao_book.specs.declared.step_kinds.StepKind.TheVariants.{Action, PlaybookAction, Parallel, If, While, Switch}
 
 -- each key comes before all later ones
 abbrev pub IsInKeyOrder : List Step → Type 0

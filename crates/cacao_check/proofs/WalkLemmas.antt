@@ -8,7 +8,6 @@ use Rattle.cacao_shape.specs.Shape.{place_rank}
 use Rattle.cacao_check.specs.declared.breaks.Mode.{Mode}
 use Rattle.cacao_check.specs.declared.breaks.Break.{Break}
 use Rattle.cacao_check.specs.declared.rules.SenseRule.{SenseRule}
-use Rattle.cacao_check.specs.declared.rules.SenseRule.TheVariants as rule
 use Rattle.cacao_check.specs.Sense.{sense_rank, sense_number, KeepsAt, KeepsIn, KeepsSense}
 use Rattle.cacao_check.specs.Checks.{key_at}
 use Rattle.cacao_check.specs.Walk.{FindsRule, KeptBefore, FindsLeast, FindsAt}

@@ -15,7 +15,9 @@ pub record Checks : Type 0 where
 
 -- the key of the step at a place of a book
 abbrev pub key_at : List Book → ℕ → Option ℕ → Option (List ℕ)
-key_at books n step = option_and_then (λ place. option_and_then (λ book. option_map (λ s. s.key) (slice_get book.steps place)) (slice_get books n)) step
+key_at books n step =
+    option_and_then
+    (λ place. option_and_then (λ book. option_map (λ s. s.key) (slice_get book.steps place)) (slice_get books n)) step
 
 -- the break tells of the demand: its book, the key of its step, and its rule
 pub record TellsBreak (books : List Book) (told : Break) (demand : SenseDemand) : Type 0 where
@@ -25,5 +27,6 @@ pub record TellsBreak (books : List Book) (told : Break) (demand : SenseDemand) 
 
 -- the cause of each refusal: the least break, or memory
 abbrev pub RefusesBooks : List Book → Mode → CheckError → Type 0
-RefusesBooks books mode (check_error.Broken told) = (demand : SenseDemand) × TellsBreak books told demand × IsLeastBreak sense_rank (KeepsSense books mode) demand
+RefusesBooks books mode (check_error.Broken told) =
+    (demand : SenseDemand) × TellsBreak books told demand × IsLeastBreak sense_rank (KeepsSense books mode) demand
 RefusesBooks books mode check_error.Memory = ⊤

@@ -1,5 +1,5 @@
 -- The first break of playbooks, from their trees: the rules of shape of all books come before those of sense.
-use Rattle.std.specs.Prelude.{◌≡◌, ℕ, List, [], ◌∷◌, map, Option, Some, IfSome, option_map, option_and_then, slice_get}
+use Rattle.std.specs.Prelude.{◌≡◌, ℕ, List, ◌∷◌, map, Option, IfSome, option_and_then, slice_get}
 use Rattle.serde_json.specs.Data.{Data}
 use Rattle.cacao_shape.specs.Least.{IsLeastBreak}
 use Rattle.cacao_shape.specs.Shape.{ShapeDemand, shape_rank, shape_number, KeepsShape, IsWellShaped}
@@ -7,7 +7,7 @@ use Rattle.cacao_shape.specs.Refusals.{key_at as key_in}
 use Rattle.cacao_book.specs.Books.{book}
 use Rattle.cacao_check.specs.declared.breaks.Mode.{Mode}
 use Rattle.cacao_check.specs.declared.breaks.Break.{Break}
-use Rattle.cacao_check.specs.Sense.{SenseDemand, sense_rank, sense_number, KeepsSense, IsSound}
+use Rattle.cacao_check.specs.Sense.{SenseDemand, sense_rank, sense_number, KeepsSense}
 use Rattle.cacao_check.specs.Checks.{key_at}
 
 -- a demand of shape on the tree of a book, or one of sense on the books of all trees

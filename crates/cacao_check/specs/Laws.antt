@@ -16,20 +16,25 @@ use Rattle.cacao_steps.specs.Calls.{called, LeadsTo}
 use Rattle.cacao_check.specs.Fits.{FitsKind}
 use Rattle.cacao_regions.specs.Flaws.{may_take}
 use Rattle.cacao_check.specs.Sense.{SenseDemand, sense_rank, IsSound, KeepsSense, KeepsOfBook, KeepsOfStep}
-use Rattle.cacao_check.specs.FirstBreak.{Demand, of_shape, of_sense, IsFirstBroken, IsAccepted, AreWellShaped}
+use Rattle.cacao_check.specs.FirstBreak.{of_shape, of_sense, IsFirstBroken, IsAccepted, AreWellShaped}
 
 -- sound books keep each rule, of each book and of each step
 pub record SoundGives : Type 0 where
-  pub of_step : (books : List Book) (mode : Mode) → IsSound books mode → (n place : ℕ) (book : Book) (step : Step) (rule : SenseRule)
+  pub of_step : (books : List Book) (mode : Mode) → IsSound books mode
+      → (n place : ℕ) (book : Book) (step : Step) (rule : SenseRule)
       → slice_get books n ≡ Some book → slice_get book.steps place ≡ Some step → KeepsOfStep books mode n book place step rule
-  pub of_book : (books : List Book) (mode : Mode) → IsSound books mode → (n : ℕ) (book : Book) (rule : SenseRule) → slice_get books n ≡ Some book → KeepsOfBook books n book rule
+  pub of_book : (books : List Book) (mode : Mode) → IsSound books mode → (n : ℕ) (book : Book) (rule : SenseRule)
+      → slice_get books n ≡ Some book → KeepsOfBook books n book rule
 
 -- from each step of sound books a path can end, no step encloses itself, and no called book leads back
 pub record SoundEnds : Type 0 where
-  pub ends : (books : List Book) (mode : Mode) → IsSound books mode → (n place : ℕ) (book : Book) (step : Step) → slice_get books n ≡ Some book → slice_get book.steps place ≡ Some step → ReachesEnd book place
-  pub apart : (books : List Book) (mode : Mode) → IsSound books mode → (n place : ℕ) (book : Book) (step : Step) → slice_get books n ≡ Some book → slice_get book.steps place ≡ Some step → ¬ Encloses book place place
+  pub ends : (books : List Book) (mode : Mode) → IsSound books mode → (n place : ℕ) (book : Book) (step : Step)
+      → slice_get books n ≡ Some book → slice_get book.steps place ≡ Some step → ReachesEnd book place
+  pub apart : (books : List Book) (mode : Mode) → IsSound books mode → (n place : ℕ) (book : Book) (step : Step)
+      → slice_get books n ≡ Some book → slice_get book.steps place ≡ Some step → ¬ Encloses book place place
   pub no_circle : (books : List Book) (mode : Mode) → IsSound books mode → (n m place : ℕ) (book theirs : Book) (step : Step)
-      → slice_get books n ≡ Some book → slice_get book.steps place ≡ Some step → called books step ≡ Some m → slice_get books m ≡ Some theirs → ¬ LeadsTo books m n
+      → slice_get books n ≡ Some book → slice_get book.steps place ≡ Some step → called books step ≡ Some m
+      → slice_get books m ≡ Some theirs → ¬ LeadsTo books m n
 
 -- What is written for a result fits the kind that takes it: a number in decimal for the first two, any text for the third.
 pub record ResultsFit : Type 0 where
@@ -38,7 +43,9 @@ pub record ResultsFit : Type 0 where
 
 -- The first break of the trees of books: the first of shape in the first book that has one, then the first of sense.
 pub record FirstBreakIs : Type 0 where
-  pub of_shapes : (trees : List Data) (mode : Mode) (n : ℕ) (t : Data) (demand : ShapeDemand) → slice_get trees n ≡ Some t → ((k : ℕ) (earlier : Data) → k < n → slice_get trees k ≡ Some earlier → IsWellShaped earlier)
+  pub of_shapes : (trees : List Data) (mode : Mode) (n : ℕ) (t : Data) (demand : ShapeDemand) → slice_get trees n ≡ Some t
+      → ((k : ℕ) (earlier : Data) → k < n → slice_get trees k ≡ Some earlier → IsWellShaped earlier)
       → IsLeastBreak shape_rank (KeepsShape t) demand → IsFirstBroken trees mode (of_shape n demand)
-  pub of_senses : (trees : List Data) (mode : Mode) (demand : SenseDemand) → AreWellShaped trees → IsLeastBreak sense_rank (KeepsSense (map book trees) mode) demand → IsFirstBroken trees mode (of_sense demand)
+  pub of_senses : (trees : List Data) (mode : Mode) (demand : SenseDemand) → AreWellShaped trees
+      → IsLeastBreak sense_rank (KeepsSense (map book trees) mode) demand → IsFirstBroken trees mode (of_sense demand)
   pub none : (trees : List Data) (mode : Mode) → AreWellShaped trees → IsSound (map book trees) mode → IsAccepted trees mode

@@ -1,5 +1,5 @@
 -- The rules K13 to K25, each as one predicate that holds where the rule is kept. A step stands at a place of a book, and a book has a number.
-use Rattle.std.specs.Prelude.{◌≡◌, ◌⊎◌, not, take, ℕ, ◌<◌, ◌≤◌, ◌&&◌, ◌||◌, Bool, true, false, List, [], ◌∷◌, ◌++◌, length, codes, All, Contains, Option, Some, None, IsSome, IfSome, IsSomeAnd, IsTrue, slice_get}
+use Rattle.std.specs.Prelude.{◌≡◌, ◌⊎◌, not, take, ℕ, ◌≤◌, Bool, true, false, List, ◌++◌, length, codes, All, Contains, Option, Some, IsSome, IfSome, IsSomeAnd, IsTrue, slice_get}
 use Rattle.std.specs.List.{list_all, list_any}
 use Rattle.std.specs.Str.{bytes_eq}
 use Rattle.cacao_json.specs.Reading.{tree}
@@ -97,12 +97,16 @@ K23 book place step =
 -- kind here and there. A step in no region is asked of the names that it declares itself alone.
 abbrev pub IsDeclaredAlike : Book → ℕ → Book → List ℕ → Bool → Type 0
 IsDeclaredAlike book place theirs name as_external =
-    IsSomeAnd (declared theirs.variables name) (λ var. (IsTrue as_external → IsTrue var.external) × ((ours : Var) → Sees book name place (Some ours) → ours.kind ≡ var.kind))
+    IsSomeAnd (declared theirs.variables name)
+    (λ var. (IsTrue as_external → IsTrue var.external)
+    × ((ours : Var) → Sees book name place (Some ours) → ours.kind ≡ var.kind))
 
 abbrev pub K24 : List Book → Book → ℕ → Step → Type 0
 K24 books book place step =
-    (m : ℕ) (theirs : Book) (name : List ℕ) → called books step ≡ Some m → slice_get books m ≡ Some theirs → IsSome (declares book name place) ⊎ IsPlaced book place
-    → (Contains (in_args_of step.kind) name → IsDeclaredAlike book place theirs name true) × (Contains (out_args_of step.kind) name → IsDeclaredAlike book place theirs name false)
+    (m : ℕ) (theirs : Book) (name : List ℕ) → called books step ≡ Some m → slice_get books m ≡ Some theirs
+    → IsSome (declares book name place) ⊎ IsPlaced book place
+    → (Contains (in_args_of step.kind) name → IsDeclaredAlike book place theirs name true)
+    × (Contains (out_args_of step.kind) name → IsDeclaredAlike book place theirs name false)
 
 -- K25 (section 4): from each step a step is reached at which a path can end, and no control step is enclosed by itself.
 abbrev pub K25 : Book → ℕ → Type 0

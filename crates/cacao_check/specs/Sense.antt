@@ -58,7 +58,8 @@ sense_rank demand = demand.book ∷ place_rank demand.step ∷ sense_number dema
 -- a place that is not there asks nothing
 abbrev pub KeepsAt : List Book → Mode → ℕ → Book → Option ℕ → SenseRule → Type 0
 KeepsAt books mode n book None rule = KeepsOfBook books n book rule
-KeepsAt books mode n book (Some place) rule = IfSome (slice_get book.steps place) (λ step. KeepsOfStep books mode n book place step rule)
+KeepsAt books mode n book (Some place) rule =
+    IfSome (slice_get book.steps place) (λ step. KeepsOfStep books mode n book place step rule)
 
 abbrev pub KeepsIn : List Book → Mode → ℕ → Option ℕ → SenseRule → Type 0
 KeepsIn books mode n step rule = IfSome (slice_get books n) (λ book. KeepsAt books mode n book step rule)

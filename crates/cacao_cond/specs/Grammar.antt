@@ -47,7 +47,8 @@ SpellsConstant (Text word) text = IsUtf8 word × (text ≡ 39 ∷ escaped word +
 abbrev pub SpellsConstants : ConstantTree → List ℕ → Type 0
 SpellsConstants (last_constant constant) text = SpellsConstant constant text
 SpellsConstants (more_constants constant rest) text =
-    (first before after others : List ℕ) × SpellsConstant constant first × IsSpaces before × IsSpaces after × SpellsConstants rest others
+    (first before after others : List ℕ) × SpellsConstant constant first × IsSpaces before × IsSpaces after
+    × SpellsConstants rest others
     × (text ≡ first ++ (before ++ (codes "," ++ (after ++ others))))
 
 abbrev mutual
@@ -71,11 +72,14 @@ abbrev mutual
       (before inner after : List ℕ) × IsSpaces before × SpellsAny any inner × IsSpaces after
       × (text ≡ codes "(" ++ (before ++ (inner ++ (after ++ codes ")"))))
   SpellsPrime (compared name op constant) text =
-      (before sign after value : List ℕ) × IsName name × IsSpaces before × SpellsOp op sign × IsSpaces after × SpellsConstant constant value
+      (before sign after value : List ℕ) × IsName name × IsSpaces before × SpellsOp op sign × IsSpaces after
+      × SpellsConstant constant value
       × (text ≡ reference_text name ++ (before ++ (sign ++ (after ++ value))))
   SpellsPrime (among name constants) text =
-      (before open_before open_after list close : List ℕ) × IsName name × IsGap before × IsSpaces open_before × IsSpaces open_after × SpellsConstants constants list × IsSpaces close
-      × (text ≡ reference_text name ++ (before ++ (codes "IN" ++ (open_before ++ (codes "(" ++ (open_after ++ (list ++ (close ++ codes ")"))))))))
+      (before open_before open_after list close : List ℕ) × IsName name × IsGap before × IsSpaces open_before
+      × IsSpaces open_after × SpellsConstants constants list × IsSpaces close
+      × (text ≡ reference_text name
+      ++ (before ++ (codes "IN" ++ (open_before ++ (codes "(" ++ (open_after ++ (list ++ (close ++ codes ")"))))))))
 
 -- a condition: its parts, with spaces before and after
 abbrev pub Spells : AnyTree → List ℕ → Type 0

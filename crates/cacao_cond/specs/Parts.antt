@@ -33,8 +33,11 @@ pub record AreLists {T X : Type 0} (items : T → List X) : Type 0 where
 
 -- what a condition says, by its lists
 pub record SaysByParts : Type 0 where
-  pub any : (cond : AnyTree) (worth : List ℕ → Worth) → holds_by cond worth ≡ list_any (λ part. holds_all part worth) (parts_of cond)
-  pub all : (part : AllTree) (worth : List ℕ → Worth) → holds_all part worth ≡ list_all (λ prime. holds_prime prime worth) (primes_of part)
-  pub among : (constants : ConstantTree) (value : Worth) → is_among value constants ≡ list_any (equals value) (constants_in constants)
+  pub any : (cond : AnyTree) (worth : List ℕ → Worth)
+      → holds_by cond worth ≡ list_any (λ part. holds_all part worth) (parts_of cond)
+  pub all : (part : AllTree) (worth : List ℕ → Worth)
+      → holds_all part worth ≡ list_all (λ prime. holds_prime prime worth) (primes_of part)
+  pub among : (constants : ConstantTree) (value : Worth)
+      → is_among value constants ≡ list_any (equals value) (constants_in constants)
   pub names : (cond : AnyTree) → named cond ≡ flat_map named_all (parts_of cond)
   pub part_names : (part : AllTree) → named_all part ≡ flat_map named_prime (primes_of part)

@@ -50,7 +50,8 @@ op_at [] = None
 op_at (c ∷ cs) =
     if c == 61 then Some (Equal, if begins 61 cs then drop 1 cs else cs)
     else if c == 33 then (if begins 61 cs then Some (Unequal, drop 1 cs) else None)
-    else if c == 60 then (if begins 62 cs then Some (Unequal, drop 1 cs) else if begins 61 cs then Some (AtMost, drop 1 cs) else Some (Less, cs))
+    else if c == 60
+    then (if begins 62 cs then Some (Unequal, drop 1 cs) else if begins 61 cs then Some (AtMost, drop 1 cs) else Some (Less, cs))
     else if c == 62 then (if begins 61 cs then Some (AtLeast, drop 1 cs) else Some (More, cs))
     else None
 
@@ -93,7 +94,8 @@ with_front front read = (front ++ read.0, read.1)
 abbrev pub quoted : Bool → List ℕ → Option (List ℕ × List ℕ)
 quoted is_escaped [] = None
 quoted true (c ∷ cs) = if (c == 39) || (c == 92) then option_map (with_first c) (quoted false cs) else None
-quoted false (c ∷ cs) = if c == 39 then Some ([], cs) else if c == 92 then quoted true cs else option_map (with_first c) (quoted false cs)
+quoted false (c ∷ cs) =
+    if c == 39 then Some ([], cs) else if c == 92 then quoted true cs else option_map (with_first c) (quoted false cs)
 
 abbrev pub text_of : List ℕ × List ℕ → Option (Constant × List ℕ)
 text_of read = if is_utf8 read.0 then Some (Text read.0, read.1) else None
@@ -118,11 +120,14 @@ compared_at name op text = constant_at (skipped text) >>= λ value. Some (compar
 -- behind a name: `IN` and an opening parenthesis
 abbrev pub opening_at : List ℕ → Option (List ℕ)
 opening_at text =
-    if begins 32 text then (behind (codes "IN") (skipped text) >>= λ a. behind (codes "(") (skipped a) >>= λ b. Some (skipped b)) else None
+    if begins 32 text
+    then (behind (codes "IN") (skipped text) >>= λ a. behind (codes "(") (skipped a) >>= λ b. Some (skipped b)) else None
 
 -- and constants, and a closing one
 abbrev pub among_at : ℕ → List ℕ → List ℕ → Option (PrimeTree × List ℕ)
-among_at n name text = opening_at text >>= λ a. constants_at n a >>= λ list. behind (codes ")") (skipped list.1) >>= λ rest. Some (among name list.0, rest)
+among_at n name text =
+    opening_at text >>= λ a. constants_at n a >>= λ list. behind (codes ")") (skipped list.1)
+    >>= λ rest. Some (among name list.0, rest)
 
 abbrev pub comparison_at : ℕ → List ℕ × List ℕ → Option (PrimeTree × List ℕ)
 comparison_at n name = option_map_or (λ op. compared_at name.0 op.0 op.1) (op_at (skipped name.1)) (among_at n name.0 name.1)
@@ -163,7 +168,9 @@ abbrev mutual
   pub prime_at : ℕ → List ℕ → Option (PrimeTree × List ℕ)
   prime_at zero text = None
   prime_at (suc n) text =
-      if begins 40 text then (any_at n (skipped (drop 1 text)) >>= λ inner. behind (codes ")") (skipped inner.1) >>= λ rest. Some (group inner.0, rest))
+      if begins 40 text
+      then (any_at n (skipped (drop 1 text)) >>= λ inner. behind (codes ")") (skipped inner.1)
+      >>= λ rest. Some (group inner.0, rest))
       else reference_at text >>= comparison_at n
 
 -- a whole condition

@@ -1,5 +1,5 @@
 -- The least break: of all rules at all places, the first that is broken.
-use Rattle.std.specs.Prelude.{◌≡◌, ◌⊎◌, ℕ, ◌<◌, List, [], ◌∷◌, Option, Some, None}
+use Rattle.std.specs.Prelude.{◌≡◌, ◌⊎◌, ℕ, ◌<◌, List, ◌∷◌, Option, Some, None}
 
 -- one list of numbers comes before another of the same length: the first number that differs decides
 abbrev pub Before : List ℕ → List ℕ → Type 0

@@ -16,11 +16,13 @@ called books step = option_and_then (book_with books) (call_of step.kind)
 
 -- the list has the books that the steps of a book call
 abbrev pub AreCallsOf : List Book → Book → List ℕ → Type 0
-AreCallsOf books book row = (to : ℕ) → Contains row to ↔ ((step : Step) × Contains book.steps step × (called books step ≡ Some to))
+AreCallsOf books book row =
+    (to : ℕ) → Contains row to ↔ ((step : Step) × Contains book.steps step × (called books step ≡ Some to))
 
 -- one book calls another
 abbrev pub Calls : List Book → ℕ → ℕ → Type 0
-Calls books from to = IsSomeAnd (slice_get books from) (λ book. (step : Step) × Contains book.steps step × (called books step ≡ Some to))
+Calls books from to =
+    IsSomeAnd (slice_get books from) (λ book. (step : Step) × Contains book.steps step × (called books step ≡ Some to))
 
 -- by playbook-actions one book leads to another, or is it
 abbrev pub LeadsTo : List Book → ℕ → ℕ → Type 0

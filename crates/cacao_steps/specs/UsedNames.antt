@@ -1,5 +1,5 @@
 -- The names that a step uses, as a list from what is read of it.
-use Rattle.std.specs.Prelude.{ℕ, List, [], ◌∷◌, ◌++◌, map, zip, Option, option_map, option_to_list}
+use Rattle.std.specs.Prelude.{ℕ, List, [], ◌++◌, Option, option_to_list}
 use Rattle.std.specs.Option.{option_map_or}
 use Rattle.std.specs.List.{flat_map}
 use Rattle.cacao_cond.specs.Trees.{tree_of}

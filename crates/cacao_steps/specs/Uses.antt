@@ -106,8 +106,10 @@ sent_names command =
 
 -- the step uses the name: in its condition, as its switch, as an argument, for a result, or in a command
 pub data Uses (step : Step) (name : List ℕ) : Type 0 where
-  in_condition : (text : List ℕ) (cond : AnyTree) → condition_of step.kind ≡ Some text → Spells cond text → Contains (named cond) name → Uses step name
+  in_condition : (text : List ℕ) (cond : AnyTree) → condition_of step.kind ≡ Some text → Spells cond text
+      → Contains (named cond) name → Uses step name
   in_subject : IsName name → subject_of step.kind ≡ Some (reference_text name) → Uses step name
   as_argument : Contains (in_args_of step.kind) name → Uses step name
   as_result : Contains (out_args_of step.kind) name → Uses step name
-  in_command : (command : StepCommand) → Contains (commands_of step.kind) command → Contains (sent_names command) name → Uses step name
+  in_command : (command : StepCommand) → Contains (commands_of step.kind) command → Contains (sent_names command) name
+      → Uses step name

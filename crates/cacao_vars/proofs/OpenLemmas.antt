@@ -1,5 +1,5 @@
 -- What one more scope changes.
-use Rattle.std.proofs.Common.{◌≡◌, ℕ, zero, suc, ◌<◌, ◌≤◌, Bool, true, false, List, [], ◌∷◌, ◌++◌, length, length-append, Option, Some, None, is_some, arith, inl, inr, refl, sym, ◌∙◌, ap, subst}
+use Rattle.std.proofs.Common.{◌≡◌, ℕ, zero, suc, ◌<◌, Bool, true, false, List, [], ◌∷◌, ◌++◌, length, length-append, Option, Some, None, is_some, arith, inl, inr, refl, sym, ◌∙◌, ap, subst}
 use Rattle.std.specs.Prelude.{IfSome, slice_get, option_and_then}
 use Rattle.std.proofs.lemmas.Bool.{cases_lt, cases_eq}
 use Rattle.std.proofs.lemmas.Option.{slice_get_past}
@@ -7,7 +7,7 @@ use Rattle.cacao_vars.specs.declared.declarations.Var.{Var}
 use Rattle.cacao_vars.specs.declared.scoping.Scope.{Scope}
 use Rattle.cacao_vars.specs.declared.scoping.Write.{Write}
 use Rattle.cacao_vars.specs.Declarations.{declared}
-use Rattle.cacao_vars.specs.Scopes.{HasParentsBefore, parent_of, declaration, home, last_write, written_or_declared, value, ScopesOpen}
+use Rattle.cacao_vars.specs.Scopes.{HasParentsBefore, parent_of, declaration, last_write, written_or_declared, value, ScopesOpen}
 use Rattle.cacao_vars.proofs.ScopeLemmas.{home_here, home_outer, home_none}
 use Rattle.cacao_vars.proofs.LawLemmas.{value_at}
 

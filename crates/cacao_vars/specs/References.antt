@@ -80,7 +80,9 @@ first_reference (c ∷ cs) =
 -- all references of a text, from left to right: the search goes on behind each. What stands behind the last comes beside them
 abbrev pub references_within : ℕ → List ℕ → List Found × List ℕ
 references_within zero text = ([], text)
-references_within (suc n) text = option_map_or (λ found. (found ∷ (references_within n found.rest).0, (references_within n found.rest).1)) (first_reference text) ([], text)
+references_within (suc n) text =
+    option_map_or (λ found. (found ∷ (references_within n found.rest).0, (references_within n found.rest).1))
+    (first_reference text) ([], text)
 
 abbrev pub references : List ℕ → List Found × List ℕ
 references text = references_within (length text) text

@@ -78,12 +78,15 @@ WritesOneValue = (scopes : List Scope) (writes : List Write) (at : ℕ) (name wo
 -- A scope that is opened leaves what each name has in the others. A name has in it what the scope declares of it, else what it has in the scope
 -- around it; nothing was written to it before.
 pub record OpensOneScope (scopes : List Scope) (writes : List Write) (parent : Option ℕ) (vars : List Var) : Type 0 where
-  pub others : (scope : ℕ) (name : List ℕ) → scope < length scopes → value (scopes ++ (record { parent = parent; vars = vars }) ∷ []) writes scope name ≡ value scopes writes scope name
+  pub others : (scope : ℕ) (name : List ℕ) → scope < length scopes
+      → value (scopes ++ (record { parent = parent; vars = vars }) ∷ []) writes scope name ≡ value scopes writes scope name
   pub own : (name : List ℕ) (var : Var) → last_write writes (length scopes) name ≡ None → declared vars name ≡ Some var
       → value (scopes ++ (record { parent = parent; vars = vars }) ∷ []) writes (length scopes) name ≡ var.worth
   pub around : (name : List ℕ) → declared vars name ≡ None
-      → value (scopes ++ (record { parent = parent; vars = vars }) ∷ []) writes (length scopes) name ≡ option_and_then (λ p. value scopes writes p name) parent
+      → value (scopes ++ (record { parent = parent; vars = vars }) ∷ []) writes (length scopes) name
+      ≡ option_and_then (λ p. value scopes writes p name) parent
 
 abbrev pub ScopesOpen : Type 0
-ScopesOpen = (scopes : List Scope) (writes : List Write) (parent : Option ℕ) (vars : List Var) → HasParentsBefore scopes → IfSome parent (λ p. p < length scopes)
+ScopesOpen = (scopes : List Scope) (writes : List Write) (parent : Option ℕ) (vars : List Var) → HasParentsBefore scopes
+    → IfSome parent (λ p. p < length scopes)
     → OpensOneScope scopes writes parent vars

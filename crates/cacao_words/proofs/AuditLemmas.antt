@@ -1,11 +1,11 @@
 -- The words behind `audit`, two by two.
-use Rattle.std.proofs.Common.{◌≡◌, ◌∙◌, ◌==◌, ◌&&◌, ◌||◌, ◌+◌, ◌-◌, ◌≤◌, ◌<◌, ℕ, refl, sym, ap, arith, Bool, true, false, not, Bor, List, [], ◌∷◌, ◌++◌, length, map, take, drop, get_or, Option, Some, None}
+use Rattle.std.proofs.Common.{◌≡◌, ◌∙◌, ◌==◌, ◌&&◌, ◌||◌, ◌+◌, ◌-◌, ◌≤◌, ◌<◌, ℕ, refl, sym, ap, arith, Bool, true, false, not, Bor, List, [], ◌∷◌, ◌++◌, length, map, take, drop, get_or, Some, None}
 use Rattle.std.specs.Prelude.{option_map, option_and_then}
 use Rattle.std.specs.List.{list_any}
 use Rattle.std.proofs.lemmas.Bool.{true≢false}
 use Rattle.std.proofs.lemmas.List.{take_rest, append-nil}
 use Rattle.cacao_words.specs.Commands.{filter_of}
-use Rattle.cacao_words.specs.Requests.{Request, audits, are_apart, audit_asks, has_agent, if_apart, pairs_of}
+use Rattle.cacao_words.specs.Requests.{audits, are_apart, audit_asks, has_agent, if_apart, pairs_of}
 use Rattle.cacao_words.specs.Words.{Text}
 use Rattle.cacao_words.specs.declared.filter_file.FilterFile.{FilterFile}
 

@@ -1,23 +1,23 @@
 -- What clap answers at the words, against the reading of them.
-use Rattle.std.proofs.Common.{◌≡◌, ◌≢◌, ◌∙◌, ◌⊎◌, ◌==◌, ◌&&◌, ◌||◌, ◌+◌, ◌-◌, ◌<◌, ◌≤◌, take, get_or, sub-one, add-one, suc, ℕ, Bool, true, false, not, refl, sym, ap, subst, inl, inr, arith, List, [], ◌∷◌, ◌++◌, map, length, Option, Some, None, codes, if◌then◌else◌, is_some, unwrap_or}
-use Rattle.std.specs.Prelude.{find, option_map, option_and_then, fold, drop, count_by}
+use Rattle.std.proofs.Common.{◌≡◌, ◌≢◌, ◌∙◌, ◌==◌, ◌&&◌, ◌||◌, ◌+◌, ◌-◌, ◌<◌, ◌≤◌, take, get_or, sub-one, add-one, suc, ℕ, Bool, true, false, not, refl, sym, ap, subst, arith, List, [], ◌∷◌, ◌++◌, map, length, Option, Some, None, if◌then◌else◌, is_some}
+use Rattle.std.specs.Prelude.{option_and_then, fold, drop, count_by}
 use Rattle.std.specs.List.{list_any, list_all}
 use Rattle.std.specs.Str.{bytes_eq}
 use Rattle.std.proofs.lemmas.Bool.{true≢false}
 use Rattle.std.proofs.lemmas.List.{take_more, map-append, drop_all}
 use Rattle.std.proofs.Math.Seq.{take-length, drop-cons}
-use Rattle.clap.specs.Walk.{Rule, Row, Held, Walk, walked, settled, settled_rows, nothing_held, walk_from, idle, with_default, is_early_multiple}
+use Rattle.clap.specs.Walk.{Rule, Row, Walk, walked, settled, nothing_held, walk_from, with_default, is_early_multiple}
 use Rattle.clap.specs.Kinds.{or_else, Kinds, IsAmong}
 use Rattle.clap.specs.declared.error.kind.ErrorKind.{ErrorKind}
-use Rattle.clap.specs.Faults.{walk_fault, settle_fault, fault_of, level_fault, built_fault, is_simple_and_free}
-use Rattle.clap.specs.Simple.{App, matches_of, is_simple, argument_words, with_rule}
+use Rattle.clap.specs.Faults.{settle_fault, fault_of, built_fault, is_simple_and_free}
+use Rattle.clap.specs.Simple.{App, matches_of, is_simple, with_rule}
 use Rattle.clap.proofs.FaultLemmas.{leaf_fault}
 use Rattle.cacao_words.specs.Words.{Text, Reading, State, Place, before_dashes, behind_dashes, behind_option, at, nothing_read, begins_hyphen, dashes, is_known, has_value, with_name, with_option, option_in, after_name, after_value, after_option, after_word, next, read_from}
 use Rattle.cacao_words.specs.Hyphens.{begins_two, word_passes, passes}
-use Rattle.cacao_words.specs.ClapCommand.{app, options_of, names_id, names_rule, option_rule, raw_names, raw_option, rules, shape}
+use Rattle.cacao_words.specs.ClapCommand.{app, options_of, raw_names, raw_option, rules, shape}
 use Rattle.cacao_words.proofs.ClapRules.{built_is, filled_is, same, finishes, no_defaults, none_wanted}
 use Rattle.cacao_words.specs.ClapRows.{Shows, IsApart, IsReadAs}
-use Rattle.cacao_words.proofs.ClapSteps.{mk, resting, no_kinds, Kind, is_dashes, is_long, is_plain, classify, option-long}
+use Rattle.cacao_words.proofs.ClapSteps.{no_kinds, Kind, is_dashes, is_long, is_plain, classify, option-long}
 use Rattle.cacao_words.proofs.ClapWalk.{Agrees, agrees, run, end_rows, is_behind}
 
 or_nil : (a : Kinds) → or_else a [] ≡ a

@@ -1,10 +1,9 @@
 -- The rows of the matches, after a use of an option or a name.
-use Rattle.std.proofs.Common.{◌≡◌, ◌∙◌, ◌⊎◌, ◌==◌, ◌&&◌, ◌||◌, ℕ, Bool, true, false, not, refl, sym, ap, subst, inl, inr, arith, List, [], ◌∷◌, ◌++◌, map, length, Option, Some, None, codes, if◌then◌else◌, is_some, unwrap_or}
-use Rattle.std.specs.Prelude.{find, option_map, option_and_then, fold, drop}
-use Rattle.std.specs.List.{list_any, list_all}
+use Rattle.std.proofs.Common.{◌≡◌, ◌∙◌, ◌||◌, Bool, true, false, refl, sym, ap, subst, List, [], ◌∷◌, ◌++◌, Option, Some, None, if◌then◌else◌, is_some, unwrap_or}
+use Rattle.std.specs.Prelude.{find, option_map}
 use Rattle.std.specs.Str.{bytes_eq}
 use Rattle.std.proofs.lemmas.Bool.{true≢false}
-use Rattle.clap.specs.Walk.{Rule, Row, all_of, has_row, with_values, without, at_row, more_values, row_of}
+use Rattle.clap.specs.Walk.{Row, has_row, with_values, without, more_values}
 use Rattle.clap.specs.declared.builder.value_parser.Reading.{Reading as How}
 use Rattle.clap.specs.declared.parser.matches.ValueSource.{ValueSource}
 use Rattle.cacao_words.specs.Words.{Text, Reading, is_known, value_in, has_value, with_name, with_option}

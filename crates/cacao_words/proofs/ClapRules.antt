@@ -1,15 +1,13 @@
 -- The rules of the command, looked up.
-use Rattle.std.proofs.Common.{◌≡◌, ◌∙◌, ◌⊎◌, ◌==◌, ◌&&◌, ◌||◌, ℕ, Bool, true, false, not, refl, sym, ap, subst, inl, inr, arith, List, [], ◌∷◌, ◌++◌, map, length, Option, Some, None, codes, if◌then◌else◌, is_some, unwrap_or}
-use Rattle.std.specs.Prelude.{find, option_map, option_and_then, fold, drop}
-use Rattle.std.specs.List.{list_any, list_all}
+use Rattle.std.proofs.Common.{◌≡◌, ◌∙◌, ◌&&◌, ◌||◌, Bool, true, false, not, refl, ap, List, [], ◌∷◌, ◌++◌, map, Option, Some, None, if◌then◌else◌}
+use Rattle.std.specs.Prelude.{fold}
+use Rattle.std.specs.List.{list_any}
 use Rattle.std.specs.Str.{bytes_eq}
-use Rattle.std.proofs.lemmas.Bool.{true≢false}
 use Rattle.std.proofs.lemmas.Slice.Eq.{bytes_eq-Decides}
-use Rattle.clap.specs.Walk.{Rule, Row, arg_by_id, arg_by_index, arg_by_long, with_default, finished, has_row, default_rows, reading_by}
-use Rattle.clap.specs.Simple.{App, Shape, built, filled_from, built_above}
+use Rattle.clap.specs.Walk.{Rule, Row, arg_by_id, arg_by_index, arg_by_long, with_default, has_row}
+use Rattle.clap.specs.Simple.{built, filled_from}
 use Rattle.clap.specs.Takes.{is_given}
-use Rattle.clap.specs.Kinds.{or_else, Kinds}
-use Rattle.clap.specs.Faults.{check_fault, defaults_fault, default_fault}
+use Rattle.clap.specs.Faults.{check_fault, defaults_fault}
 use Rattle.cacao_words.specs.Words.{Text, is_known}
 use Rattle.cacao_words.specs.ClapCommand.{app, names_id, names_rule, option_rule, raw_names, raw_option, rules, shape}
 

@@ -1,21 +1,20 @@
 -- One word of the walk, against one word of the reading.
-use Rattle.std.proofs.Common.{◌≡◌, ◌≢◌, ◌∙◌, ◌⊎◌, ◌==◌, ◌&&◌, ◌||◌, ℕ, Bool, true, false, not, refl, sym, ap, subst, inl, inr, arith, List, [], ◌∷◌, ◌++◌, map, length, Option, Some, None, codes, if◌then◌else◌, is_some, unwrap_or}
-use Rattle.std.specs.Prelude.{find, option_map, option_and_then, fold, drop}
-use Rattle.std.specs.List.{list_any, list_all}
+use Rattle.std.proofs.Common.{◌≡◌, ◌≢◌, ◌∙◌, ◌==◌, ◌&&◌, ℕ, Bool, true, false, refl, sym, List, [], ◌∷◌, length, Option, Some, None, if◌then◌else◌}
+use Rattle.std.specs.Prelude.{option_and_then}
 use Rattle.std.specs.Str.{bytes_eq}
 use Rattle.std.proofs.lemmas.Bool.{true≢false}
 use Rattle.clap.specs.Lexer.{long_of, long_of_rest, short_of, name_and_value, strip_byte}
-use Rattle.clap.specs.Walk.{Rule, Row, Held, Walk, Waiting, idle, option, positional, has_row, without, with_values, walked, settled, settled_rows, arg_by_long, arg_by_id, arg_by_index, reading_by, values_or_missing, subcommand_met, is_pending}
+use Rattle.clap.specs.Walk.{Row, Held, Walk, Waiting, idle, option, positional, has_row, without, with_values, walked, settled_rows, reading_by, values_or_missing, subcommand_met, is_pending}
 use Rattle.clap.specs.declared.parser.matches.ValueSource.TheVariants.{CommandLine}
 use Rattle.clap.specs.Kinds.{or_else, Kinds, range_kinds}
 use Rattle.clap.specs.declared.error.kind.ErrorKind.{ErrorKind}
 use Rattle.clap.specs.declared.error.kind.ErrorKind.TheVariants as kind
-use Rattle.clap.specs.Faults.{turn_fault, walk_fault, settle_fault, use_fault, set_fault, repeat_fault, values_fault}
+use Rattle.clap.specs.Faults.{turn_fault, settle_fault, use_fault, set_fault, repeat_fault, values_fault}
 use Rattle.cacao_words.specs.Words.{Text, begins_hyphen, dashes, is_known, option_in}
-use Rattle.cacao_words.specs.Hyphens.{begins_two, word_passes}
+use Rattle.cacao_words.specs.Hyphens.{word_passes}
 use Rattle.cacao_words.specs.ClapCommand.{names_id, names_rule, option_rule, rules, shape}
-use Rattle.cacao_words.proofs.ClapRules.{same, bytes_eq-refl, by_long, by_id, by_index}
-use Rattle.cacao_words.proofs.ClapRowLemmas.{Shows, IsApart, row_read, shows_name, shows_option}
+use Rattle.cacao_words.proofs.ClapRules.{bytes_eq-refl, by_long, by_id, by_index}
+use Rattle.cacao_words.proofs.ClapRowLemmas.{IsApart}
 
 -- a walk before the end of the words
 abbrev pub mk : List Row → Option (Text × List Text) → ℕ → Waiting → Bool → Walk

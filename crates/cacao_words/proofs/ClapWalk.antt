@@ -1,19 +1,18 @@
 -- The walk over the words agrees with the reading of them.
-use Rattle.std.proofs.Common.{◌≡◌, ◌≢◌, ◌∙◌, ◌⊎◌, ◌==◌, ◌&&◌, ◌||◌, ℕ, Bool, true, false, not, refl, sym, ap, subst, inl, inr, arith, List, [], ◌∷◌, ◌++◌, map, length, Option, Some, None, codes, if◌then◌else◌, is_some, unwrap_or}
-use Rattle.std.specs.Prelude.{find, option_map, option_and_then, fold, drop}
+use Rattle.std.proofs.Common.{◌≡◌, ◌≢◌, ◌∙◌, ◌&&◌, ◌||◌, ℕ, Bool, true, false, not, refl, sym, ap, subst, List, [], ◌∷◌, Option, Some, None, if◌then◌else◌}
+use Rattle.std.specs.Prelude.{option_and_then, fold}
 use Rattle.std.specs.Str.{bytes_eq}
 use Rattle.std.proofs.lemmas.Bool.{true≢false}
-use Rattle.clap.specs.Lexer.{long_of, short_of}
-use Rattle.clap.specs.Walk.{Rule, Row, Held, Walk, Waiting, idle, option, positional, has_row, without, with_values, walked, settled, settled_rows, reading_by, nothing_held, walk_from}
+use Rattle.clap.specs.Lexer.{long_of}
+use Rattle.clap.specs.Walk.{Row, Walk, Waiting, idle, option, positional, has_row, without, with_values, walked, settled, settled_rows, reading_by}
 use Rattle.clap.specs.declared.parser.matches.ValueSource.TheVariants.{CommandLine}
 use Rattle.clap.specs.Kinds.{or_else, Kinds}
 use Rattle.clap.specs.declared.error.kind.ErrorKind.TheVariants as kind
-use Rattle.clap.specs.Faults.{turn_fault, walk_fault, settle_fault, use_fault, fault_of, level_fault, is_simple_and_free}
-use Rattle.clap.specs.Simple.{matches_of, is_simple, argument_words}
+use Rattle.clap.specs.Faults.{turn_fault, walk_fault, settle_fault, use_fault}
 use Rattle.cacao_words.specs.Words.{Text, Reading, State, Place, before_dashes, behind_dashes, behind_option, at, begins_hyphen, dashes, is_known, has_value, with_name, with_option, option_in, after_name, after_value, after_option, after_word, next, read_from}
 use Rattle.cacao_words.specs.Hyphens.{word_passes, passes}
-use Rattle.cacao_words.specs.ClapCommand.{app, names_id, names_rule, option_rule, rules, shape}
-use Rattle.cacao_words.proofs.ClapRules.{same, bytes_eq-refl, built_is, finishes, no_defaults, none_wanted}
+use Rattle.cacao_words.specs.ClapCommand.{names_id, names_rule, option_rule, rules, shape}
+use Rattle.cacao_words.proofs.ClapRules.{same}
 use Rattle.cacao_words.proofs.ClapRowLemmas.{Shows, IsApart, row_read, shows_name, shows_option}
 use Rattle.cacao_words.proofs.ClapSteps.{mk, held, resting, Kind, is_dashes, is_long, is_plain, classify, option-long, option_fits, option_repeats, option_wants, no_kinds, or_left, or_right, option_settles, name_settles, option_rows, name_rows, dashes_fault, dashes_walk, unknown_fault, waits_fault, waits_walk, takes_fault, takes_walk, ended_fault, ended_walk, plain_fault, plain_walk, value_fault, value_walk}
 

@@ -1,15 +1,15 @@
 -- The values of a reading: each option is one that the command knows, and is given once.
 use Rattle.std.proofs.Common.{◌≡◌, ◌∙◌, refl, sym, ap, ap₂, subst, Bool, true, false, List, [], ◌∷◌, map, Option, Some, None, Bor}
 use Rattle.std.specs.Prelude.{not, ◌&&◌, ◌||◌, if◌then◌else◌, option_map, option_and_then, unwrap_or}
-use Rattle.std.specs.List.{list_all, list_any}
+use Rattle.std.specs.List.{list_all}
 use Rattle.std.specs.Str.{bytes_eq}
 use Rattle.std.proofs.lemmas.Bool.{true≢false}
 use Rattle.clap.specs.Walk.{Row}
 use Rattle.cacao_words.specs.ClapCommand.{names_id}
 use Rattle.cacao_words.specs.ClapRows.{IsReadAs, Shows, found, some_list, one_value}
 use Rattle.cacao_words.specs.Commands.{maybe_text}
-use Rattle.cacao_words.specs.Found.{Parts, parts_of, first_of, maybe_fits, if_all_fit}
-use Rattle.cacao_words.specs.Words.{Text, Reading, State, Place, before_dashes, behind_dashes, behind_option, at, nothing_read, begins_hyphen, dashes, is_known, has_value, value_in, with_name, with_option, option_in, after_name, after_value, after_option, after_word, at_end, next, read_from, fits, if_fits, read}
+use Rattle.cacao_words.specs.Found.{parts_of, first_of, maybe_fits, if_all_fit}
+use Rattle.cacao_words.specs.Words.{Text, Reading, State, Place, before_dashes, behind_dashes, behind_option, at, nothing_read, begins_hyphen, dashes, is_known, has_value, value_in, with_name, with_option, option_in, after_name, after_option, after_word, next, read_from, fits, if_fits, read}
 use Rattle.cacao_words.proofs.ClapRules.{same, bytes_eq-refl}
 
 -- ---- what is given is known, and given once

@@ -1,7 +1,7 @@
 -- The clap command of a list of options and any number of names.
-use Rattle.std.specs.Prelude.{ℕ, Bool, true, false, List, [], ◌∷◌, ◌++◌, Some, codes, map}
+use Rattle.std.specs.Prelude.{true, List, [], ◌∷◌, ◌++◌, Some, codes, map}
 use Rattle.clap.specs.Walk.{Rule}
-use Rattle.clap.specs.Simple.{App, Shape, built, filled, new_rule, new_shape, with_index}
+use Rattle.clap.specs.Simple.{App, Shape, filled, new_rule, new_shape, with_index}
 use Rattle.cacao_words.specs.Words.{Text}
 use Rattle.clap.specs.declared.builder.action.ArgAction.TheVariants.{Set, Append}
 

@@ -1,5 +1,5 @@
 -- The values of the code as those of the definitions.
-use Rattle.std.specs.Prelude.{ℕ, List, Option, map, option_map}
+use Rattle.std.specs.Prelude.{ℕ, Option, map, option_map}
 use Rattle.std.specs.Borrow.{Bor}
 use Rattle.cacao_words.specs.Words.{Text}
 use Rattle.cacao_words.specs.Found.{Parts}

@@ -24,4 +24,5 @@ maybe_fits (Some value) = fits value
 
 -- the parts, if each value and each name fits
 abbrev pub if_all_fit : List (Option Text) → List Text → Option Parts
-if_all_fit values names = if list_all fits names && list_all maybe_fits values then Some (record { values = values; names = names }) else None
+if_all_fit values names =
+    if list_all fits names && list_all maybe_fits values then Some (record { values = values; names = names }) else None

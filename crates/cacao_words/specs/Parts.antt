@@ -1,5 +1,5 @@
 -- The same, as it is read: by the first word, and by the values of the options of `run`.
-use Rattle.std.specs.Prelude.{List, [], ◌∷◌, Option, Some, None, codes, if◌then◌else◌}
+use Rattle.std.specs.Prelude.{List, [], ◌∷◌, Option, None, codes, if◌then◌else◌}
 use Rattle.std.specs.Str.{bytes_eq}
 use Rattle.cacao_words.specs.Words.{Text}
 use Rattle.cacao_words.specs.Found.{Parts}

@@ -59,12 +59,14 @@ check_asks (book ∷ books) = Some (checks (book ∷ books))
 
 -- the same, with `--run`, and with `--steps`, `--bind` and `--answers` or without
 abbrev pub run_of : Option Text → Option Text → ℕ → List Text → ℕ → Option Request
-run_of bind answers run books most = Some (runs (record { run = run; most = most; bind = bind; answers = answers; books = books }))
+run_of bind answers run books most =
+    Some (runs (record { run = run; most = most; bind = bind; answers = answers; books = books }))
 
 abbrev pub run_from : Option Text → Option Text → Option Text → Option Text → List Text → Option Request
 run_from run steps bind answers [] = None
 run_from run steps bind answers (book ∷ books) =
-    option_and_then (λ n. option_and_then (run_of bind answers n (book ∷ books)) (most_records steps)) (option_and_then run_number run)
+    option_and_then (λ n. option_and_then (run_of bind answers n (book ∷ books)) (most_records steps))
+    (option_and_then run_number run)
 
 abbrev pub run_asks : Reading → Option Request
 run_asks r = run_from (value_in (codes "run") r.options) (value_in (codes "steps") r.options)
@@ -92,7 +94,8 @@ decide_asks (agent ∷ packets ∷ other ∷ names) = None
 abbrev pub pairs_of : List Text → Option (List (ℕ × Text))
 pairs_of [] = Some []
 pairs_of (agent ∷ []) = None
-pairs_of (agent ∷ name ∷ names) = option_and_then (λ n. option_map (λ more. (n, name) ∷ more) (pairs_of names)) (agent_number agent)
+pairs_of (agent ∷ name ∷ names) =
+    option_and_then (λ n. option_map (λ more. (n, name) ∷ more) (pairs_of names)) (agent_number agent)
 
 abbrev pub has_agent : ℕ → List (ℕ × Text) → Bool
 has_agent n = list_any (λ filter. filter.0 == n)

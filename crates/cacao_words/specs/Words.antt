@@ -1,5 +1,5 @@
 -- The words behind the command, read from left to right: options, each at most once and with its value, and names.
-use Rattle.std.specs.Prelude.{ℕ, Bool, true, false, not, ◌==◌, ◌&&◌, nat_lt, nat_le, List, [], ◌∷◌, ◌++◌, length, codes}
+use Rattle.std.specs.Prelude.{ℕ, Bool, false, not, ◌==◌, ◌&&◌, nat_lt, nat_le, List, [], ◌∷◌, ◌++◌, length, codes}
 use Rattle.std.specs.Prelude.{Option, Some, None, if◌then◌else◌, option_and_then}
 use Rattle.std.specs.List.{list_any, list_all, before_first, after_first}
 use Rattle.std.specs.Str.{bytes_eq}
@@ -21,7 +21,11 @@ has_equals = list_any (λ c. c == 61)
 -- `--x` or `--x=V`, as x and the V behind the first `=`
 abbrev pub option_in : Text → Option (Text × Option Text)
 option_in (a ∷ b ∷ c ∷ cs) = if (a == 45) && (b == 45)
-    then Some (before_first (λ x. x == 61) (c ∷ cs), if has_equals (c ∷ cs) then Some (after_first (λ x. x == 61) (c ∷ cs)) else None)
+    then Some (
+      before_first (λ x. x == 61) (c ∷ cs),
+      if has_equals (c ∷ cs) then Some (after_first (λ x. x == 61) (c ∷ cs))
+          else None,
+    )
     else None
 option_in (a ∷ b ∷ []) = None
 option_in (a ∷ []) = None
@@ -80,11 +84,13 @@ after_option r x (Some value) = at (with_option x value r) before_dashes
 -- an option of the command that was not given before, else a name
 abbrev pub after_word : List Text → Reading → Text → Option (Text × Option Text) → Option State
 after_word known r word None = after_name before_dashes r word
-after_word known r word (Some o) = if is_known known o.0 && not (has_value o.0 r.options) then Some (after_option r o.0 o.1) else None
+after_word known r word (Some o) =
+    if is_known known o.0 && not (has_value o.0 r.options) then Some (after_option r o.0 o.1) else None
 
 -- the state behind one more word
 abbrev pub next : List Text → Reading → Place → Text → Option State
-next known r before_dashes word = if bytes_eq word dashes then Some (at r behind_dashes) else after_word known r word (option_in word)
+next known r before_dashes word =
+    if bytes_eq word dashes then Some (at r behind_dashes) else after_word known r word (option_in word)
 next known r behind_dashes word = after_name behind_dashes r word
 next known r (behind_option x) word = after_value r x word
 

@@ -27,16 +27,19 @@ spliced at bytes old = take at old ++ replicate (at - length old) 0 ++ bytes ++ 
 
 -- the byte at this place of a file, after these bytes are written at `at`
 abbrev pub byte_after : ℕ → List ℕ → ℕ → ℕ → ℕ
-byte_after at bytes place byte = if nat_le at place && nat_lt place (at + length bytes) then slice_index bytes (place - at) else byte
+byte_after at bytes place byte =
+    if nat_le at place && nat_lt place (at + length bytes) then slice_index bytes (place - at) else byte
 
 -- the file after a write to a range, where it then reads as this
 abbrev pub touch : ℕ → ℕ → List ℕ → FileState → FileState
-touch at size reads file = record { reads = reads; synced = file.synced; longest = max file.longest (at + size); touched = (at, size) ∷ file.touched }
+touch at size reads file =
+    record { reads = reads; synced = file.synced; longest = max file.longest (at + size); touched = (at, size) ∷ file.touched }
 
 -- the file of this number after a call
 abbrev pub after : ℕ → FileState → Call → FileState
 after number file looked = file
-after number file (wrote other at bytes) = if other == number then touch at (length bytes) (spliced at bytes file.reads) file else file
+after number file (wrote other at bytes) =
+    if other == number then touch at (length bytes) (spliced at bytes file.reads) file else file
 after number file (tried other at size) = if other == number then touch at size file.reads file else file
 after number file (flushed other) = if other == number then at_rest file.reads else file
 
@@ -54,11 +57,14 @@ is_touched ranges k = list_any (λ range. nat_le range.0 k && nat_lt k (range.0 
 -- each of the first n bytes is touched, or as synced
 abbrev pub agrees : List (ℕ × ℕ) → List ℕ → List ℕ → ℕ → Bool
 agrees touched synced image zero = true
-agrees touched synced image (suc n) = agrees touched synced image n && (is_touched touched n || (slice_index image n == slice_index synced n))
+agrees touched synced image (suc n) =
+    agrees touched synced image n && (is_touched touched n || (slice_index image n == slice_index synced n))
 
 -- whether a crash may leave this image: its length lies between the synced length and the greatest since, and each byte below the synced length that no write since covers is as synced
 unfoldable pub is_image : FileState → List ℕ → Bool
-is_image file image = nat_le (length file.synced) (length image) && (nat_le (length image) file.longest && agrees file.touched file.synced image (length file.synced))
+is_image file image =
+    nat_le (length file.synced) (length image)
+    && (nat_le (length image) file.longest && agrees file.touched file.synced image (length file.synced))
 
 -- a disk that began at a beat with these contents
 abbrev pub disk_view : List (List ℕ) → List Call → ℕ → ℕ → ℕ → ℕ → DiskView

@@ -7,7 +7,6 @@ use Rattle.std.proofs.lemmas.Option.{none-some}
 use Rattle.run_journal.specs.Layout.{front}
 use Rattle.run_journal.proofs.Headers.{count-le}
 use Rattle.run_records.specs.Layout.{layout}
-use Rattle.run_records.specs.Lists.{records}
 use Rattle.run_records.specs.Ranges.{InRange}
 use Rattle.run_records.specs.declared.record.Record.{Record}
 use Rattle.run_records.proofs.EntryLemmas.{records_are_short, records_read_back}

@@ -1,10 +1,10 @@
 -- An image that is refused holds no run, and it is refused in one way.
-use Rattle.std.proofs.Common.{◌≡◌, ◌≢◌, ◌⊎◌, inl, inr, ℕ, zero, suc, ◌+◌, ◌<◌, ◌≤◌, List, [], ◌∷◌, ◌++◌, map, length, Option, Some, None, slice_get, refl, sym, subst, ap, ap₂, ◌∙◌, arith}
+use Rattle.std.proofs.Common.{◌≡◌, ◌≢◌, ◌⊎◌, inl, inr, ℕ, zero, suc, ◌+◌, ◌<◌, ◌≤◌, List, [], ◌∷◌, ◌++◌, length, Option, Some, None, slice_get, refl, sym, subst, ap, ap₂, ◌∙◌, arith}
 use Rattle.std.specs.Prelude.{count_by}
 use Rattle.std.specs.List.{AllByRecursion}
 use Rattle.std.proofs.lemmas.List.{append-nil}
 use Rattle.std.proofs.lemmas.Option.{none-some}
-use Rattle.run_journal.specs.Layout.{IsDamagedAt, Stands, front}
+use Rattle.run_journal.specs.Layout.{front}
 use Rattle.run_journal.proofs.LayoutLaws.{no_list_where_damaged, one_list}
 use Rattle.run_journal.proofs.PlaceLaws.{one_place}
 use Rattle.run_records.specs.Layout.{layout}
@@ -13,8 +13,8 @@ use Rattle.run_records.specs.Reading.{record_of}
 use Rattle.run_records.specs.declared.record.Record.{Record}
 use Rattle.run_records.specs.declared.record.Record.TheVariants as entry
 use Rattle.run_records.proofs.ReadLemmas.{record_again}
-use Rattle.flow_rules.specs.Changes.{change, moment_of}
-use Rattle.flow_rules.specs.Edits.{Edit, all_shown_edited}
+use Rattle.flow_rules.specs.Changes.{change}
+use Rattle.flow_rules.specs.Edits.{Edit}
 use Rattle.flow_rules.specs.Givens.{Given}
 use Rattle.flow_rules.specs.Laws.{HasPlacedWrites, IsShownAlone}
 use Rattle.flow_rules.specs.Runs.{GoesOn, Leads, Next, begin_of}
@@ -28,8 +28,8 @@ use Rattle.flow_core.proofs.FlowLemmas.{tasks_grow}
 use Rattle.engine_history.specs.Books.{DiffersAt, IsFirstOther}
 use Rattle.engine_history.specs.HistoryView.{entries_of}
 use Rattle.engine_history.specs.Histories.{IsShownAfter, IsSoFar}
-use Rattle.engine_history.specs.Laws.{HoldsRun, NoRunWhereRefused, OneRefusal}
-use Rattle.engine_history.specs.Openings.{BeginsOtherwise, BeginsWith, BreaksOff, GoesOnWith, IsDamaged, Overgrows, RefusesAsEntries, RefusesEntries, RefusesImage, first_gate}
+use Rattle.engine_history.specs.Laws.{NoRunWhereRefused, OneRefusal}
+use Rattle.engine_history.specs.Openings.{BeginsWith, BreaksOff, GoesOnWith, Overgrows, RefusesEntries, first_gate}
 use Rattle.engine_history.specs.declared.error.EngineError.{EngineError}
 use Rattle.engine_history.specs.declared.error.EngineError.TheVariants as refused
 use Rattle.engine_history.proofs.SoFarLemmas.{leads_placed}

@@ -21,7 +21,8 @@ stand_before before (entry.Walk task moment) = option_map (λ one. (one.book, on
 stand_before before other = None
 
 -- that of the record with this number is kept
-pub record IsStand (given : Given) (run : ℕ) (records : List Record) (stands : List (Option (ℕ × ℕ))) (n : ℕ) (r : Record) : Type 0 where
+pub record IsStand (given : Given) (run : ℕ) (records : List Record) (stands : List (Option (ℕ × ℕ))) (n : ℕ)
+    (r : Record) : Type 0 where
   pub before : Shown
   pub shows : IsShownBefore given run (take n records) before
   pub kept : slice_get stands n ≡ Some (stand_before before r)

@@ -33,7 +33,8 @@ pub record BeginsOtherwise (entries : List (List ℕ)) : Type 0 where
   pub first : List ℕ
   pub others : List (List ℕ)
   pub are : entries ≡ first ∷ others
-  pub no_begin : (run moment : ℕ) (books : List (List ℕ)) (bind : List ℕ) → record_of first ≢ Some (entry.Begin run moment books bind)
+  pub no_begin : (run moment : ℕ) (books : List (List ℕ)) (bind : List ℕ)
+      → record_of first ≢ Some (entry.Begin run moment books bind)
 
 -- The records of the front entries are a run of what was given with at most 1,000,000 tasks, and this entry follows them.
 pub record GoesOnWith (given : Given) (run : ℕ) (entries : List (List ℕ)) (records : List Record) (seen : Shown)
@@ -76,11 +77,14 @@ first_gate = 8
 -- Why entries are no run of what was given under this number, in the order in which it is tested.
 abbrev pub RefusesEntries : Given → ℕ → List (List ℕ) → EngineError → Type 0
 RefusesEntries given run entries (refused.Damaged place) =
-    (BeginsOtherwise entries × (place ≡ first_gate)) ⊎ ((BeginsLate given run entries × (place ≡ first_gate)) ⊎ BreaksOff given run entries place)
+    (BeginsOtherwise entries × (place ≡ first_gate))
+    ⊎ ((BeginsLate given run entries × (place ≡ first_gate)) ⊎ BreaksOff given run entries place)
 RefusesEntries given run entries (refused.OtherRun held asked) =
-    ((moment : ℕ) × (books : List (List ℕ)) × (bind : List ℕ) × BeginsWith entries held moment books bind) × (held ≢ run) × (asked ≡ run)
+    ((moment : ℕ) × (books : List (List ℕ)) × (bind : List ℕ) × BeginsWith entries held moment books bind) × (held ≢ run)
+    × (asked ≡ run)
 RefusesEntries given run entries (refused.OtherBook index) =
-    (moment : ℕ) × (books : List (List ℕ)) × (bind : List ℕ) × BeginsWith entries run moment books bind × DiffersAt books bind given index
+    (moment : ℕ) × (books : List (List ℕ)) × (bind : List ℕ) × BeginsWith entries run moment books bind
+    × DiffersAt books bind given index
 RefusesEntries given run entries (refused.Limit what) = (what ≡ limit.Tasks) × Overgrows given run entries
 RefusesEntries given run entries other = ⊥
 

@@ -85,9 +85,11 @@ abbrev pub RefusesBegin : Given → ℕ → Record → EngineError → Type 0
 RefusesBegin given run r (refused.Damaged place) =
     (place ≡ first_gate) × ((held moment : ℕ) (books : List (List ℕ)) (bind : List ℕ) → r ≢ entry.Begin held moment books bind)
 RefusesBegin given run r (refused.OtherRun held asked) =
-    ((moment : ℕ) × (books : List (List ℕ)) × (bind : List ℕ) × (r ≡ entry.Begin held moment books bind)) × (held ≢ run) × (asked ≡ run)
+    ((moment : ℕ) × (books : List (List ℕ)) × (bind : List ℕ) × (r ≡ entry.Begin held moment books bind)) × (held ≢ run)
+    × (asked ≡ run)
 RefusesBegin given run r (refused.OtherBook index) =
-    (moment : ℕ) × (books : List (List ℕ)) × (bind : List ℕ) × (r ≡ entry.Begin run moment books bind) × DiffersAt books bind given index
+    (moment : ℕ) × (books : List (List ℕ)) × (bind : List ℕ) × (r ≡ entry.Begin run moment books bind)
+    × DiffersAt books bind given index
 RefusesBegin given run r other = ⊥
 
 -- the record is the Begin of this run at some moment

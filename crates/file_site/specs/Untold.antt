@@ -5,7 +5,16 @@ use Rattle.cacao_site.specs.declared.parcel.Parcel.{Parcel}
 
 -- a disk that tells its beat and its faults
 abbrev pub untold_disk : ℕ → ℕ → DiskView
-untold_disk beat faults = record { told = false; reads = λ file. []; left = λ file beat image. false; beat = beat; calls = 0; written = 0; faults = faults }
+untold_disk beat faults =
+    record {
+      told = false;
+      reads = λ file. [];
+      left = λ file beat image. false;
+      beat = beat;
+      calls = 0;
+      written = 0;
+      faults = faults;
+    }
 
 -- beside such a disk, the pending parcels and the clock are told
 abbrev pub untold_site : ℕ → ℕ → List Parcel → ClockView → SiteView

@@ -1,19 +1,18 @@
 -- What calls of an engine offer, add and refuse.
-use Rattle.std.proofs.Common.{◌≡◌, ◌≢◌, ℕ, zero, suc, ◌==◌, ◌<◌, Bool, true, false, cond, not, List, [], ◌∷◌, ◌++◌, length, Option, Some, None, Result, Ok, Err, IfErr, OnOk, refl, sym, ap, subst, ◌∙◌, arith}
+use Rattle.std.proofs.Common.{◌≡◌, ℕ, zero, suc, ◌==◌, Bool, false, cond, not, List, [], ◌∷◌, ◌++◌, length, Some, Result, Ok, Err, IfErr, OnOk, refl, sym, ap, subst, ◌∙◌, arith}
 use Rattle.std.specs.Prelude.{slice_get}
-use Rattle.std.proofs.lemmas.Option.{slice_get_within}
 use Rattle.cacao_site.specs.View.{SiteView}
 use Rattle.run_records.specs.declared.record.Record.{Record}
 use Rattle.flow_rules.specs.declared.issues.Issue.{Issue}
 use Rattle.flow_rules.specs.Changes.{change, moment_of}
 use Rattle.flow_rules.specs.Edits.{Edit, all_edited, all_shown_edited, edited, shown_edited, changed_at, closed}
 use Rattle.flow_rules.specs.Edits.Edit.{opens, writes, makes, moves, issues, closes, upgrades}
-use Rattle.flow_rules.specs.Laws.{KeepsIssues, RecordsKeepIssues, ended_by}
+use Rattle.flow_rules.specs.Laws.{KeepsIssues, RecordsKeepIssues}
 use Rattle.flow_rules.specs.declared.moves.Move.{Move}
 use Rattle.flow_rules.specs.Moves.{enabled_move}
 use Rattle.flow_rules.specs.Runs.{Next, after, shown_after}
-use Rattle.flow_rules.specs.State.{Lists, Shown, State, shown}
-use Rattle.flow_core.specs.Flows.{IsReached, IsStateOf}
+use Rattle.flow_rules.specs.State.{Lists, Shown, State}
+use Rattle.flow_core.specs.Flows.{IsReached}
 use Rattle.flow_core.specs.Views.{View, begins, taken}
 use Rattle.engine_history.specs.HistoryCalls.{Adds, Is, IsOfMove, MayCome, Refuses}
 use Rattle.engine_history.specs.HistoryView.{HistoryView, flow_of}

@@ -1,10 +1,9 @@
 -- Records that may come next, and are in range.
-use Rattle.std.proofs.Common.{◌≡◌, ◌≢◌, ◌⊎◌, inl, inr, ℕ, zero, suc, ◌+◌, ◌^◌, ◌<◌, ◌≤◌, ◌==◌, ◌&&◌, ◌||◌, Bool, true, false, cond, not, List, [], ◌∷◌, ◌++◌, length, Option, Some, None, is_some, refl, sym, ap, subst, ◌∙◌, arith, length-append}
-use Rattle.std.specs.Bool.{⊤}
-use Rattle.std.specs.Prelude.{All, IsSome, count_by, nat_eq, nat_le, nat_lt, is_none, map, option_and_then, option_map, slice_get, unwrap_or}
+use Rattle.std.proofs.Common.{◌≡◌, ◌≢◌, ℕ, zero, suc, ◌+◌, ◌^◌, ◌<◌, ◌≤◌, ◌==◌, ◌&&◌, ◌||◌, Bool, true, false, cond, not, List, [], ◌∷◌, ◌++◌, length, Option, Some, None, is_some, refl, sym, ap, subst, ◌∙◌, arith, length-append}
+use Rattle.std.specs.Prelude.{All, IsSome, count_by, nat_eq, nat_le, nat_lt, is_none, map, option_and_then, option_map, slice_get}
 use Rattle.std.specs.Cmp.Lexicographic.{pointwise, lists_equiv, nat_list_eq_equiv}
 use Rattle.std.specs.List.{AllByRecursion, list_any}
-use Rattle.std.specs.Str.{IsUtf8, bytes_eq, is_utf8}
+use Rattle.std.specs.Str.{bytes_eq, is_utf8}
 use Rattle.std.proofs.lemmas.Bool.{and_from}
 use Rattle.std.proofs.lemmas.List.{length-map}
 use Rattle.std.proofs.lemmas.Map.Views.{Contains-from_lookup}
@@ -17,7 +16,7 @@ use Rattle.run_journal.specs.Layout.{entries, front, header, length_field}
 use Rattle.run_records.specs.Layout.{layout}
 use Rattle.run_records.specs.declared.record.Record.{Record}
 use Rattle.run_records.specs.declared.record.Record.TheVariants as entry
-use Rattle.run_records.specs.Ranges.{BeginsInRange, InRange, IsShort, last_moment, most_text}
+use Rattle.run_records.specs.Ranges.{IsShort, last_moment, most_text}
 use Rattle.flow_rules.specs.declared.issues.Issue.{Issue}
 use Rattle.flow_rules.specs.declared.moves.Move.{Move}
 use Rattle.flow_rules.specs.declared.moves.Move.TheVariants as move
@@ -29,18 +28,17 @@ use Rattle.flow_rules.specs.Laws.{EnabledAreInRange, HasFitFields, HasRecord, Mo
 use Rattle.flow_rules.specs.Moves.{deadline_of, enabled_move, record_of}
 use Rattle.flow_rules.specs.Runs.{begin_of, first_edits, first_task}
 use Rattle.flow_rules.specs.Sane.{CanEnd, IsSane}
-use Rattle.flow_rules.specs.State.{Shown, shown}
+use Rattle.flow_rules.specs.State.{Shown}
 use Rattle.flow_rules.proofs.ShapeLemmas.{Issued, Sent, change_shape}
 use Rattle.flow_core.specs.Flows.{HasSizes, IsReached, IsStateOf}
 use Rattle.flow_core.specs.Setups.{IsReadable, IsSetup}
-use Rattle.flow_core.specs.Views.{AsksText, Answers, View, begins, blank_shown, is_long_command, most_tasks, is_makes, passed, taken, taken_by}
+use Rattle.flow_core.specs.Views.{AsksText, View, begins, blank_shown, is_long_command, most_tasks, is_makes, passed, taken, taken_by}
 use Rattle.flow_core.specs.declared.flow_errors.LimitKind.{LimitKind}
 use Rattle.flow_core.specs.declared.flow_errors.LimitKind.TheVariants as limit
 use Rattle.flow_core.proofs.FlowLemmas.{reached_state}
 use Rattle.engine_history.specs.HistoryCalls.{MayMove, with_record}
 use Rattle.engine_history.specs.HistoryView.{HistoryView, entries_of, flow_of}
 use Rattle.engine_history.specs.Histories.{IsHistory}
-use Rattle.flow_engine.specs.declared.puts.Puts.{Puts}
 use Rattle.operator_answers.specs.Answers.{IsOperatorAnswer}
 use Rattle.operator_answers.specs.declared.answers.OperatorAnswer.{OperatorAnswer}
 use Rattle.flow_engine.specs.EngineCalls.{IsComing, IsStanding, IsWaiting}

@@ -1,7 +1,6 @@
 -- Deadlines of issues that were put.
-use Rattle.std.proofs.Common.{◌≡◌, ◌≢◌, ◌⊎◌, inl, inr, ℕ, zero, suc, ◌==◌, ◌<◌, ◌≤◌, ◌&&◌, not, Bool, true, false, cond, List, [], ◌∷◌, length, Option, Some, None, IsSome, nat_eq, true≢false, arith, refl, ap, sym, subst, ◌∙◌}
-use Rattle.std.specs.Prelude.{slice_get, option_and_then, option_map, All, Contains, IfSome}
-use Rattle.std.specs.Option.{option_map_or}
+use Rattle.std.proofs.Common.{◌≡◌, ◌≢◌, ℕ, zero, suc, ◌==◌, ◌≤◌, ◌&&◌, not, Bool, true, false, cond, List, [], ◌∷◌, length, Option, Some, None, IsSome, nat_eq, true≢false, arith, refl, ap, sym, subst, ◌∙◌}
+use Rattle.std.specs.Prelude.{slice_get, option_and_then, option_map, IfSome}
 use Rattle.std.proofs.lemmas.List.Elements.{All-contains}
 use Rattle.std.proofs.lemmas.Map.Views.{Contains-from_lookup}
 use Rattle.flow_rules.proofs.RunLemmas.{some_inner}

@@ -1,6 +1,6 @@
 -- The put of a command.
-use Rattle.std.proofs.Common.{◌≡◌, ◌≢◌, ℕ, zero, suc, ◌==◌, ◌<◌, ◌≤◌, ◌-◌, Bool, true, false, cond, List, [], ◌∷◌, length, get_or, Option, Some, None, nat_eq, arith, refl, ap, sym, subst, ◌∙◌}
-use Rattle.std.specs.Prelude.{slice_get, All, AllPairs, Contains}
+use Rattle.std.proofs.Common.{◌≡◌, ◌≢◌, ℕ, zero, suc, ◌==◌, ◌<◌, ◌≤◌, ◌-◌, Bool, true, false, cond, List, [], ◌∷◌, length, get_or, Some, None, nat_eq, arith, refl, ap, sym, subst, ◌∙◌}
+use Rattle.std.specs.Prelude.{slice_get, AllPairs, Contains}
 use Rattle.std.specs.List.{AllByRecursion, IsDistinct}
 use Rattle.std.specs.Map.{keys_of}
 use Rattle.std.proofs.lemmas.List.Elements.{All-contains, All-contains_itself, All-from_recursion}
@@ -17,9 +17,8 @@ use Rattle.run_journal.proofs.DurableLemmas.{images_stay}
 use Rattle.flow_rules.specs.declared.issues.Issue.{Issue}
 use Rattle.flow_rules.specs.Laws.{HasRecords, IssuesHaveRecords, record_of_issue}
 use Rattle.flow_rules.specs.Runnable.{IsRunnable}
-use Rattle.flow_rules.specs.State.{State, Shown, shown}
+use Rattle.flow_rules.specs.State.{Shown}
 use Rattle.flow_core.specs.SetupLaws.{AcceptedIsRunnable}
-use Rattle.flow_core.specs.Views.{blank_shown}
 use Rattle.engine_history.specs.HistoryView.{HistoryView, IsReady, entries_of}
 use Rattle.engine_history.specs.Histories.{IsHistory, IsSoFar}
 use Rattle.flow_engine.specs.declared.puts.Puts.{Puts}

@@ -69,4 +69,5 @@ abbrev pub IsNextPut : OpenIssues → Option (ℕ × ℕ) → Type 0
 IsNextPut issues None = (issue : ℕ) (puts : Puts) → puts_of issues issue ≡ Some puts → resend_of puts ≡ None
 IsNextPut issues (Some next) =
     ((puts : Puts) × (puts_of issues next.1 ≡ Some puts) × (resend_of puts ≡ Some next.0))
-    × ((issue moment : ℕ) (puts : Puts) → puts_of issues issue ≡ Some puts → resend_of puts ≡ Some moment → IsNoLater next (moment, issue))
+    × ((issue moment : ℕ) (puts : Puts) → puts_of issues issue ≡ Some puts → resend_of puts ≡ Some moment
+    → IsNoLater next (moment, issue))

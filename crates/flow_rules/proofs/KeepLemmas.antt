@@ -1,5 +1,5 @@
 -- What a record does to the issues that were there.
-use Rattle.std.proofs.Common.{◌≡◌, ℕ, zero, suc, ◌<◌, Bool, true, false, List, [], ◌∷◌, ◌++◌, length, Option, Some, None, arith, refl, ap, sym, subst, ◌∙◌}
+use Rattle.std.proofs.Common.{◌≡◌, ℕ, zero, suc, true, List, [], ◌∷◌, ◌++◌, length, Some, None, refl, ap, sym, subst, ◌∙◌}
 use Rattle.std.specs.Prelude.{slice_get}
 use Rattle.run_records.specs.declared.record.Record.{Record}
 use Rattle.run_records.specs.declared.record.Record.TheVariants as entry
@@ -8,13 +8,11 @@ use Rattle.flow_rules.specs.declared.issues.IssuePhase.{IssuePhase}
 use Rattle.flow_rules.specs.declared.issues.IssuePhase.TheVariants as issue_phase
 use Rattle.flow_rules.specs.State.{State, shown}
 use Rattle.flow_rules.specs.Edits.{Edit, all_edited, changed_at, closed}
-use Rattle.flow_rules.specs.Edits.Edit.{upgrades}
-use Rattle.flow_rules.specs.Changes.{moment_of, is_waiting}
-use Rattle.flow_rules.specs.Runs.{Next}
-use Rattle.flow_rules.specs.Laws.{issued_by, ended_by, end_by, KeepsIssues, RecordsKeepIssues}
+use Rattle.flow_rules.specs.Changes.{is_waiting}
+use Rattle.flow_rules.specs.Laws.{issued_by, ended_by, end_by, RecordsKeepIssues}
 use Rattle.flow_rules.proofs.RunLemmas.{some_inner}
 use Rattle.flow_rules.proofs.QuietLemmas.{keeps_issues}
-use Rattle.flow_rules.proofs.ShapeLemmas.{new_issue, Closed, Issued, IssueShape, change_shape}
+use Rattle.flow_rules.proofs.ShapeLemmas.{new_issue, Issued, IssueShape, change_shape}
 use Rattle.flow_rules.proofs.IssueLemmas.{issues-after, issued-after, closed-after}
 
 -- ---- places of lists

@@ -1,5 +1,5 @@
 -- Where no task walks, sends or asks, nor asks after an Upgrade, there is no move; so a sane state waits for something.
-use Rattle.std.proofs.Common.{◌≡◌, ℕ, suc, ◌≤◌, ◌==◌, ◌&&◌, ◌∙◌, Bool, true, false, List, [], ◌∷◌, length, Option, Some, None, is_some, arith, refl, ap}
+use Rattle.std.proofs.Common.{◌≡◌, ℕ, suc, ◌≤◌, ◌==◌, ◌&&◌, ◌∙◌, true, false, List, [], ◌∷◌, length, Option, Some, None, is_some, arith, refl, ap}
 use Rattle.std.specs.Option.{option_or}
 use Rattle.std.specs.Prelude.{nat_le, option_and_then, option_map, slice_get}
 use Rattle.std.specs.Str.{bytes_eq}

@@ -132,7 +132,8 @@ rejoined h from scope (does.While condition on_true) =
     if is_true h.seen.lists scope condition then makes (child h h.task.book scope on_true) ∷ [] else done h true
 -- A playbook-action writes what `out_args` have in the called playbook's scope, from the step's scope, and succeeds.
 rejoined h from scope (does.PlaybookAction playbook version in_args out_args) =
-    flat_map (written h.seen.lists scope) (option_map_or (λ root. valued h.seen.lists root.scope out_args) (slice_get h.seen.lists.tasks from) [])
+    flat_map (written h.seen.lists scope)
+    (option_map_or (λ root. valued h.seen.lists root.scope out_args) (slice_get h.seen.lists.tasks from) [])
     ++ done h true
 -- Any other succeeds.
 rejoined h from scope other = done h true
@@ -192,8 +193,11 @@ abbrev pub Issuing : Type 0
 Issuing = Issue × List Edit
 
 abbrev pub issuing : Here → Issue → Issuing
-issuing h issue =
-    (issue, issues issue ∷ moves h.number (in_phase h.task (phase.Awaiting (place_number h.task.phase) (length h.seen.lists.issues))) ∷ [])
+issuing h issue = (
+  issue,
+  issues issue
+      ∷ moves h.number (in_phase h.task (phase.Awaiting (place_number h.task.phase) (length h.seen.lists.issues))) ∷ [],
+)
 
 -- the command that a task sends next
 abbrev pub next_command : Shown → ℕ → ℕ → Option Issuing
@@ -292,12 +296,14 @@ answered n end status rule text w =
 -- A Reply answers an issue of a filter.
 abbrev pub reply : Shown → ℕ → ℕ → ℕ → ℕ → List ℕ → Option (List Edit)
 reply s now n status rule text =
-    if is_answer status text then option_map (answered n (issue_phase.Answered status) status rule text) (waiting_filter_at s now n) else None
+    if is_answer status text
+    then option_map (answered n (issue_phase.Answered status) status rule text) (waiting_filter_at s now n) else None
 
 -- A Told ends any issue, of a filter or of an operator, once the run is upgraded. It has no rule number.
 abbrev pub tell : Shown → ℕ → ℕ → ℕ → List ℕ → Option (List Edit)
 tell s now n status text =
-    if s.lists.is_upgraded && is_answer status text then option_map (answered n (issue_phase.Told status) status 0 text) (waiting_at s now n) else None
+    if s.lists.is_upgraded && is_answer status text
+    then option_map (answered n (issue_phase.Told status) status 0 text) (waiting_at s now n) else None
 
 -- An Expire fails the step of an issue of a filter, from the step's timeout on.
 abbrev pub expired : ℕ → Waiting → Option (List Edit)

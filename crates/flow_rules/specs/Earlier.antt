@@ -37,12 +37,14 @@ earlier_send s now t number agent bytes = do
   h ← here_at s now t
   place ← earlier_place_at h h.task.phase
   issue ← command_at h place
-  if (number == length s.lists.issues) && (agent == issue.agent) && bytes_eq bytes issue.bytes then Some (issuing h issue).1 else None
+  if (number == length s.lists.issues) && (agent == issue.agent) && bytes_eq bytes issue.bytes then Some (issuing h issue).1
+      else None
 
 abbrev pub earlier_after_answer : Waiting → ℕ → Task
 earlier_after_answer w status =
     if not (status == 200) then finish w.here false
-    else if is_some (slice_get (earlier_places w.here.step.kind) (suc w.place)) then in_phase w.here.task (phase.Sending (suc w.place))
+    else if is_some (slice_get (earlier_places w.here.step.kind) (suc w.place))
+    then in_phase w.here.task (phase.Sending (suc w.place))
     else finish w.here true
 
 abbrev pub earlier_answered : ℕ → ℕ → ℕ → List ℕ → Waiting → List Edit

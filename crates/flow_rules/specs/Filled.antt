@@ -25,7 +25,8 @@ whole_reference text = if begins_with_reference text && (length (behind_run text
 -- whole number of JSON; else its text with references replaced.
 abbrev pub filled_string : Lists → ℕ → List ℕ → Data
 filled_string s scope text =
-    option_map_or (λ z. number (of_integer z)) (option_and_then (number_of s scope) (whole_reference text)) (string (replaced s scope text))
+    option_map_or (λ z. number (of_integer z)) (option_and_then (number_of s scope) (whole_reference text))
+    (string (replaced s scope text))
 
 -- each string value is filled, and no name of a member
 abbrev mutual
@@ -66,7 +67,8 @@ command_id run issue = string (decimal run ++ 46 ∷ decimal issue)
 -- the command's identifier is set, and then `args`, which is an empty object where it is absent
 abbrev pub addressed : ℕ → ℕ → Data → Data
 addressed run issue (object ms) =
-    object (with_member (codes "args") completed (completed (object no_members)) (set_member (codes "command_id") (command_id run issue) ms))
+    object (with_member (codes "args") completed (completed (object no_members))
+    (set_member (codes "command_id") (command_id run issue) ms))
 addressed run issue other = other
 
 -- the bytes of a command by the text of its content, in a scope, for an issue of a run; none where the text has no tree

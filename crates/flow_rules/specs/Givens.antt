@@ -30,4 +30,5 @@ number_of_step given book key = option_map_or (λ b. unwrap_or (place_of b.steps
 
 -- the first playbook with this identifier, and its number
 abbrev pub book_with : Given → List ℕ → Option (ℕ × Book)
-book_with given id = option_and_then (λ n. option_map (λ b. (n, b)) (book_at given n)) (position (λ b. bytes_eq b.id id) given.books)
+book_with given id =
+    option_and_then (λ n. option_map (λ b. (n, b)) (book_at given n)) (position (λ b. bytes_eq b.id id) given.books)

@@ -167,7 +167,8 @@ ended_by other = None
 -- the record that sent a command, or asked a question
 abbrev pub record_of_issue : ℕ → Issue → Record
 record_of_issue n issue =
-    if issue.agent == 0 then entry.Ask issue.task n issue.moment issue.bytes else entry.Send issue.task n issue.agent issue.moment issue.bytes
+    if issue.agent == 0 then entry.Ask issue.task n issue.moment issue.bytes
+    else entry.Send issue.task n issue.agent issue.moment issue.bytes
 
 -- a Send and an Ask have the number of issues so far, which is new: no record before has it
 abbrev pub IssuesAreNew : Type 0
@@ -266,7 +267,8 @@ EnabledAreInRange =
 abbrev pub BeginsAreInRange : Type 0
 BeginsAreInRange =
     (given : Given) (run now : ℕ) (first : State) → Accepted AnyTrees AnyText given.texts given.bind given
-    → begun given run now ≡ Some first → now ≤ last_moment → run < 2 ^ 64 → AllByRecursion IsShort given.texts → IsShort given.bind
+    → begun given run now ≡ Some first → now ≤ last_moment → run < 2 ^ 64 → AllByRecursion IsShort given.texts
+    → IsShort given.bind
     → InRange (begin_of given run now)
 
 -- ---- lines of records

@@ -25,7 +25,8 @@ line (word ∷ words) = 32 ∷ (word ++ line words)
 -- the key of the step at which a task stands
 abbrev pub key_of : Shown → ℕ → List ℕ
 key_of s t =
-    unwrap_or (option_map (λ step. step.key) (option_and_then (λ task. step_at s.given task.book task.step) (slice_get s.lists.tasks t))) []
+    unwrap_or (option_map (λ step. step.key)
+    (option_and_then (λ task. step_at s.given task.book task.step) (slice_get s.lists.tasks t))) []
 
 -- What a record says behind its number and its moment, by what was shown before it: a Walk says the step at which the task stood.
 abbrev pub said : Shown → Record → List (List ℕ)

@@ -75,7 +75,8 @@ delays s = flat_map (λ task. delay_until s task task.phase) s.lists.tasks
 -- the moment of an issue and the timeout of its task's step
 abbrev pub timeout_of : Shown → Issue → ℕ
 timeout_of s issue =
-    option_map_or (λ step. step.timeout) (option_and_then (λ task. step_at s.given task.book task.step) (slice_get s.lists.tasks issue.task)) 0
+    option_map_or (λ step. step.timeout)
+    (option_and_then (λ task. step_at s.given task.book task.step) (slice_get s.lists.tasks issue.task)) 0
 
 abbrev pub deadline_of : Shown → Issue → ℕ
 deadline_of s issue = issue.moment + timeout_of s issue

@@ -21,7 +21,9 @@ pub record Here : Type 0 where
 -- the task with this number, if it stands at a step
 abbrev pub here_at : Shown → ℕ → ℕ → Option Here
 here_at s now t =
-    option_and_then (λ (task : Task). option_map (λ (step : Step). record { seen = s; now = now; number = t; task = task; step = step }) (step_at s.given task.book task.step))
+    option_and_then
+    (λ (task : Task). option_map (λ (step : Step). record { seen = s; now = now; number = t; task = task; step = step })
+    (step_at s.given task.book task.step))
     (slice_get s.lists.tasks t)
 
 abbrev pub in_phase : Task → Phase → Task
@@ -39,7 +41,9 @@ is_call other = false
 -- whether the task with this number stands at a playbook-action
 abbrev pub stands_at_call : Shown → ℕ → Bool
 stands_at_call s t =
-    option_map_or (λ (task : Task). option_map_or (λ (step : Step). is_call step.kind) (step_at s.given task.book task.step) false) (slice_get s.lists.tasks t) false
+    option_map_or
+    (λ (task : Task). option_map_or (λ (step : Step). is_call step.kind) (step_at s.given task.book task.step) false)
+    (slice_get s.lists.tasks t) false
 
 -- The root of a playbook's run: the first task, and the child of a playbook-action. While a child goes on, its parent waits for
 -- it at the step that made it, so the parent's present step tells.
@@ -55,7 +59,8 @@ exception_of s task =
 -- failed.
 abbrev pub fail : Shown → ℕ → Task → Task
 fail s now task =
-    option_map_or (λ key. record (go s.given now task key) { excepted = true }) (exception_of s task) (in_phase task (phase.Ended false))
+    option_map_or (λ key. record (go s.given now task key) { excepted = true }) (exception_of s task)
+    (in_phase task (phase.Ended false))
 
 -- the step to which a step that is done leads
 abbrev pub next_key : Step → Bool → Option (List ℕ)

@@ -31,5 +31,6 @@ whole_number text = integer 9_007_199_254_740_991 9_007_199_254_740_991 text
 -- the whole number that a name of kind `integer` or `long` has
 abbrev pub number_of : Lists → ℕ → List ℕ → Option ℤ
 number_of s scope name =
-    option_and_then (λ (var : Var). if has_numbers var.kind then option_and_then whole_number (value_shown s scope name) else None)
+    option_and_then
+    (λ (var : Var). if has_numbers var.kind then option_and_then whole_number (value_shown s scope name) else None)
     (home_declaration s.scopes scope name)

@@ -4,15 +4,12 @@ use Rattle.std.specs.Prelude.{IfSome, IfNone, IsSomeAnd, option_and_then, option
 use Rattle.std.specs.Option.{option_copied}
 use Rattle.std.specs.List.{All, AllByRecursion}
 use Rattle.std.proofs.lemmas.List.Elements.{recursion_from_All}
-use Rattle.cacao_json.specs.Tree.{data_of}
-use Rattle.cacao_json.specs.declared.tree.Tree.{Tree}
 use Rattle.cacao_cond.specs.Trees.{AnyTree, tree_of}
 use Rattle.cacao_cond.specs.Grammar.{Spells}
 use Rattle.cacao_cond.specs.declared.trees.Cond.{Cond}
 use Rattle.cacao_book.specs.declared.books.Book.{Book}
 use Rattle.cacao_book.specs.declared.steps.Step.{Step}
 use Rattle.cacao_steps.specs.declared.parts.Parts.{Parts}
-use Rattle.cacao_steps.specs.Uses.{commands_of, content_tree}
 use Rattle.cacao_steps.specs.Uses.{condition_of as condition_text}
 use Rattle.flow_rules.specs.Conditions.{condition_of}
 use Rattle.flow_rules.specs.Laws.{ConditionsAreSpelled}

@@ -8,7 +8,8 @@ use Rattle.flow_setup.specs.Setups.{AreAccepted}
 
 -- what is accepted can be run
 abbrev pub AcceptedIsRunnable : Type 0
-AcceptedIsRunnable = (texts : List (List ℕ)) (bind : List ℕ) (given : Given) → Accepted AreAccepted FitsKind texts bind given → IsRunnable given
+AcceptedIsRunnable =
+    (texts : List (List ℕ)) (bind : List ℕ) (given : Given) → Accepted AreAccepted FitsKind texts bind given → IsRunnable given
 
 -- what is accepted is accepted again by its canonical texts, and gives the same
 abbrev pub AcceptedAgain : Type 0

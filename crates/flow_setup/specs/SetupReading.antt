@@ -96,7 +96,8 @@ RefusesBindings vars bindings setup_error.Memory = ⊤
 
 -- the refusal that a break of shape of the playbook with this number gives, and a break of sense
 abbrev pub RefusesShape : ℕ → BookError → SetupError → Type 0
-RefusesShape book (book_error.Shape step rule) refusal = refusal ≡ setup_error.Broken (record { book = book; step = step; rule = rule })
+RefusesShape book (book_error.Shape step rule) refusal =
+    refusal ≡ setup_error.Broken (record { book = book; step = step; rule = rule })
 RefusesShape book book_error.Memory refusal = refusal ≡ setup_error.Memory
 
 abbrev pub RefusesSense : CheckError → SetupError → Type 0

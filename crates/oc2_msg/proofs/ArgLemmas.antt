@@ -1,15 +1,14 @@
 -- Arguments that are written and read.
-use Rattle.std.proofs.Common.{◌≡◌, ◌≤◌, ℕ, suc, Bool, true, false, not, IsTrue, ◌&&◌, ◌||◌, List, [], ◌∷◌, codes, Option, Some, None, option_map, refl, sym, ap, ◌∙◌, arith, lit≤}
-use Rattle.std.specs.Prelude.{option_and_then, unwrap_or, is_some}
-use Rattle.serde_json.specs.Data.{Data, string, object, depth, Members, no_members, member, members_depth}
+use Rattle.std.proofs.Common.{◌≡◌, ◌≤◌, ℕ, suc, Bool, true, List, [], ◌∷◌, codes, Option, Some, None, option_map, refl, ◌∙◌, arith, lit≤}
+use Rattle.serde_json.specs.Data.{Data, object, depth, Members, no_members, member}
 use Rattle.serde_json.specs.Find.{get}
-use Rattle.cacao_json.specs.Profile.{IsFormed, AreFormedMembers}
+use Rattle.cacao_json.specs.Profile.{IsFormed}
 use Rattle.oc2_msg.specs.declared.directions.Direction.{Direction}
 use Rattle.oc2_msg.specs.declared.drops.Drop3.{Drop3}
 use Rattle.oc2_msg.specs.declared.arguments.FilterArgs.{FilterArgs}
 use Rattle.oc2_msg.specs.declared.arguments.Args.{Args}
 use Rattle.oc2_targets.specs.Parts.{optional, whole_data, has_only, object_of, present, is_absent_or, is_object, unless_empty}
-use Rattle.oc2_msg.specs.Args.{time, rule_number, filter_parts, filter_values, filter_args_in, arg_parts, are_times, with_times, arg_values, args_in}
+use Rattle.oc2_msg.specs.Args.{time, filter_parts, filter_args_in, arg_parts, are_times, args_in}
 use Rattle.oc2_targets.specs.Ranges.{Each, IsRuleNumber}
 use Rattle.oc2_msg.specs.Ranges.{IsTime, MayDrop}
 use Rattle.oc2_msg.specs.Least.{direction_part, drop_part, filter_part, args_part}

@@ -1,42 +1,32 @@
 -- Commands read back.
-use Rattle.std.proofs.Common.{◌≡◌, ◌≤◌, ℕ, suc, Bool, true, false, List, [], ◌∷◌, map, codes, Option, Some, None, option_map, Result, Ok, Err, refl, sym, ap, ◌∙◌, arith, lit≤}
-use Rattle.std.specs.Prelude.{unwrap_or, option_and_then}
-use Rattle.serde_json.specs.Data.{Data, null, string, object, array, member, no_members, depth, members_depth}
-use Rattle.serde_json.specs.Find.{as_array}
-use Rattle.serde_json.specs.Read.{max_depth}
+use Rattle.std.proofs.Common.{◌≡◌, ◌≤◌, ℕ, Bool, true, false, List, [], ◌∷◌, map, codes, Option, Some, None, option_map, Ok, refl, ap, ◌∙◌, arith}
+use Rattle.std.specs.Prelude.{unwrap_or}
+use Rattle.serde_json.specs.Data.{Data, null, string, depth}
 use Rattle.cacao_json.specs.Profile.{IsFormed, IsTree}
-use Rattle.cacao_json.specs.Reading.{tree}
-use Rattle.cacao_text.specs.Canon.{canon}
 use Rattle.cacao_text.proofs.LawLemmas.{tree-canon}
 use Rattle.oc2_nets.specs.declared.flows.Flow.{Flow}
 use Rattle.oc2_nets.specs.declared.flows.Flow.TheVariants as flow
-use Rattle.oc2_nets.specs.Nets.{net4_of, net6_of}
 use Rattle.oc2_nets.proofs.RoundTrips.{net4_back, net6_back}
 use Rattle.oc2_targets.specs.declared.actions.Action.{Action}
 use Rattle.oc2_targets.specs.declared.actions.Action.TheVariants as action
 use Rattle.oc2_targets.specs.declared.kinds.TargetKind.{TargetKind}
 use Rattle.oc2_targets.specs.declared.kinds.TargetKind.TheVariants as kind
-use Rattle.oc2_targets.specs.declared.targets.Target.{Target}
 use Rattle.oc2_targets.specs.declared.targets.Target.TheVariants as target
 use Rattle.oc2_msg.specs.declared.directions.Direction.{Direction}
-use Rattle.oc2_msg.specs.declared.directions.Direction.TheVariants as direction
 use Rattle.oc2_msg.specs.declared.drops.Drop3.{Drop3}
-use Rattle.oc2_msg.specs.declared.drops.Drop3.TheVariants as drops
 use Rattle.oc2_targets.specs.declared.features.Feature.{Feature}
-use Rattle.oc2_msg.specs.declared.arguments.Args.{Args}
 use Rattle.oc2_msg.specs.declared.commands.Command.{Command}
 use Rattle.oc2_msg.specs.declared.commands.Command.TheVariants as command
-use Rattle.oc2_msg.specs.declared.refusals.Refusal.{Refusal}
-use Rattle.oc2_targets.specs.Parts.{is_absent_or, is_object, object_of, whole_data, texts, one_member}
-use Rattle.oc2_targets.specs.Words.{kind_word, action_word, feature_word, takes, is_deny, adds_rule, is_flow}
-use Rattle.oc2_targets.specs.Features.{is_distinct, distinct, features_in}
+use Rattle.oc2_targets.specs.Parts.{whole_data, one_member}
+use Rattle.oc2_targets.specs.Words.{kind_word, action_word, feature_word, takes, is_deny, adds_rule}
+use Rattle.oc2_targets.specs.Features.{is_distinct}
 use Rattle.oc2_targets.specs.Targets.{has_part, target_in}
 use Rattle.oc2_msg.specs.Args.{args_in, no_args, is_unserved}
-use Rattle.oc2_msg.specs.Commands.{command_with, answer_to, answer_of, rows, first_row, command_of, is_command, action_of, kind_of, target_of, args_of}
+use Rattle.oc2_msg.specs.Commands.{command_with, answer_to, is_command, action_of, kind_of, target_of, args_of}
 use Rattle.oc2_targets.specs.Ranges.{Each, FlowInRange}
 use Rattle.oc2_msg.specs.Ranges.{RuleInRange, InRange}
-use Rattle.oc2_targets.specs.Least.{net4_data, net6_data, connection_data, flow_kind, flow_value, features_data}
-use Rattle.oc2_msg.specs.Least.{args_part, message, rule_action, command_data, command_text}
+use Rattle.oc2_targets.specs.Least.{flow_kind, flow_value, features_data}
+use Rattle.oc2_msg.specs.Least.{args_part, message, rule_action, command_data}
 use Rattle.oc2_msg.specs.Laws.{HasCommand, CommandsReadBack}
 use Rattle.oc2_targets.proofs.PresentLemmas.{Part, ArePartsOf, IsFormed-object_of, depth-object_of}
 use Rattle.oc2_targets.proofs.ValueLemmas.{whole-whole_data, IsFormed-whole_data, IsUtf8-word, IsUtf8-net4_text, IsUtf8-net6_text, features_in-back, AreFormed-features, items_depth-texts, is_ascii_text}

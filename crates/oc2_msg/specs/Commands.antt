@@ -1,5 +1,5 @@
 -- Commands: which bytes are refused, and what the others ask for.
-use Rattle.std.specs.Prelude.{ℕ, List, [], ◌∷◌, length, Bool, true, false, not, ◌&&◌, nat_le, Option, Some, None, option_map, option_and_then, unwrap_or, is_some, is_none, Result, Ok, Err, codes, if◌then◌else◌}
+use Rattle.std.specs.Prelude.{ℕ, List, [], ◌∷◌, length, Bool, false, not, ◌&&◌, nat_le, Option, Some, None, option_and_then, unwrap_or, is_some, is_none, Result, Err, codes, if◌then◌else◌}
 use Rattle.std.specs.Option.{ok_or, option_map_or}
 use Rattle.std.specs.List.{list_any}
 use Rattle.std.specs.Char.{is_whitespace}

@@ -1,5 +1,5 @@
 -- What is written reads back.
-use Rattle.std.specs.Prelude.{◌≡◌, ◌≤◌, ℕ, List, length, Option, Some, None, Ok, IsSome}
+use Rattle.std.specs.Prelude.{◌≡◌, Some, None, Ok, IsSome}
 use Rattle.serde_json.specs.Data.{Data}
 use Rattle.oc2_msg.specs.declared.commands.Command.{Command}
 use Rattle.oc2_msg.specs.declared.responses.Response.{Response}

@@ -1,6 +1,6 @@
 -- Responses: what is written, and what is read.
-use Rattle.std.specs.Prelude.{◌≡◌, ⊤, Result, Ok, Err, ℕ, List, [], ◌∷◌, length, Bool, true, false, ◌==◌, nat_le, Option, Some, None, option_map, option_and_then, unwrap_or, codes, if◌then◌else◌}
-use Rattle.serde_json.specs.Data.{Data, string, array, object}
+use Rattle.std.specs.Prelude.{◌≡◌, ⊤, Result, Ok, Err, ℕ, List, [], ◌∷◌, length, ◌==◌, nat_le, Option, Some, None, option_map, option_and_then, unwrap_or, codes, if◌then◌else◌}
+use Rattle.serde_json.specs.Data.{Data, string, array}
 use Rattle.serde_json.specs.Find.{get, as_str}
 use Rattle.cacao_json.specs.Reading.{tree}
 use Rattle.cacao_text.specs.Canon.{canon}

@@ -1,12 +1,12 @@
 -- The members of an object, as the code has them.
-use Rattle.std.proofs.Common.{◌≡◌, ◌≢◌, ℕ, Bool, true, false, ◌&&◌, ◌||◌, List, [], ◌∷◌, map, length, get_or, Option, Some, None, refl, sym, ap, ◌∙◌, arith}
+use Rattle.std.proofs.Common.{◌≡◌, ◌≢◌, ℕ, ◌||◌, List, [], ◌∷◌, map, length, get_or, Some, None, refl, sym, ap, ◌∙◌, arith}
 use Rattle.std.specs.Borrow.{Bor}
 use Rattle.std.specs.List.{list_all, list_any}
 use Rattle.std.specs.Str.{bytes_eq}
-use Rattle.serde_json.specs.Data.{Data, object, member}
+use Rattle.serde_json.specs.Data.{Data, object}
 use Rattle.cacao_json.specs.declared.tree.Pair.{Pair}
 use Rattle.cacao_json.specs.Tree.{pair_data, members_of}
-use Rattle.oc2_targets.specs.Parts.{names_of, are_among, has_only, only_member, single}
+use Rattle.oc2_targets.specs.Parts.{names_of, are_among, has_only, single}
 
 pub list_any-now : (name : List ℕ) (words : List (Bor (List ℕ))) → list_any (λ word. bytes_eq name word.now) words ≡ list_any (λ word. bytes_eq name word) (map (λ word. word.now) words)
 list_any-now name [] = refl

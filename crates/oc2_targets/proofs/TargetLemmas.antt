@@ -1,7 +1,6 @@
 -- Targets that are written and read.
-use Rattle.std.proofs.Common.{◌≡◌, ◌≤◌, ℕ, suc, Bool, true, false, IsTrue, ◌&&◌, List, [], ◌∷◌, map, codes, Option, Some, None, option_map, refl, sym, ap, ◌∙◌, arith, lit≤}
-use Rattle.std.specs.Prelude.{option_and_then}
-use Rattle.serde_json.specs.Data.{Data, string, object, depth}
+use Rattle.std.proofs.Common.{◌≡◌, ◌≤◌, ℕ, Bool, true, List, [], ◌∷◌, codes, Option, Some, None, option_map, refl, ap, arith, lit≤}
+use Rattle.serde_json.specs.Data.{Data, depth}
 use Rattle.serde_json.specs.Find.{get}
 use Rattle.cacao_json.specs.Profile.{IsFormed}
 use Rattle.oc2_nets.specs.declared.packets.Protocol.{Protocol}
@@ -10,13 +9,10 @@ use Rattle.oc2_nets.specs.declared.ipv6_nets.Net6.{Net6}
 use Rattle.oc2_nets.specs.declared.flows.Flow.{Flow}
 use Rattle.oc2_nets.specs.declared.flows.Flow.TheVariants as flow
 use Rattle.oc2_targets.specs.declared.kinds.TargetKind.TheVariants as kind
-use Rattle.oc2_targets.specs.declared.targets.Target.{Target}
 use Rattle.oc2_targets.specs.declared.targets.Target.TheVariants as target
-use Rattle.oc2_targets.specs.declared.features.Feature.{Feature}
-use Rattle.oc2_targets.specs.Parts.{optional, whole_data, has_only, object_of}
-use Rattle.oc2_targets.specs.Features.{is_distinct, features_in, distinct}
-use Rattle.oc2_targets.specs.Targets.{net4_in, net6_in, protocol_in, port, connection_parts, has_part, with_part, connection, connection4, connection6, target_in}
-use Rattle.oc2_targets.specs.Ranges.{Each, IsNet4, IsNet6, IsPort, FlowInRange}
+use Rattle.oc2_targets.specs.Parts.{optional, whole_data, has_only}
+use Rattle.oc2_targets.specs.Targets.{port, connection_parts, has_part, connection, connection4, connection6, target_in}
+use Rattle.oc2_targets.specs.Ranges.{Each, IsPort, FlowInRange}
 use Rattle.oc2_targets.specs.Least.{net4_data, net6_data, protocol_data, connection_data}
 use Rattle.oc2_targets.proofs.PresentLemmas.{Part, get_member-present, are_among-present, ArePartsOf, IsFormed-object_of, depth-object_of}
 use Rattle.oc2_targets.proofs.ValueLemmas.{optional_whole-back, optional_protocol-back, optional_net4-back, optional_net6-back, Each-whole_data, Each-protocol_data, Each-net4_data, Each-net6_data, IsUtf8-word}

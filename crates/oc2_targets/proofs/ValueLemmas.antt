@@ -1,28 +1,25 @@
 -- Values that are written and read.
-use Rattle.std.proofs.Common.{◌≡◌, ◌≤◌, ◌<◌, ◌^◌, ℕ, zero, suc, Bool, true, false, IsTrue, List, [], ◌∷◌, ◌++◌, map, codes, Option, Some, None, option_map, refl, sym, ap, ◌∙◌, arith, decimal, lit≤, leb, eq-eqb}
-use Rattle.std.specs.Prelude.{nat_le, nat_lt, ◌&&◌, if◌then◌else◌, option_and_then, unwrap_or, max}
+use Rattle.std.proofs.Common.{◌≡◌, ◌≤◌, ◌<◌, ◌^◌, ℕ, zero, suc, Bool, true, false, List, [], ◌∷◌, ◌++◌, map, codes, Option, Some, None, option_map, refl, ap, arith, decimal, lit≤}
+use Rattle.std.specs.Prelude.{nat_lt, ◌&&◌}
 use Rattle.std.specs.Str.{IsUtf8, IsAscii}
 use Rattle.std.specs.Char.{digit_value}
 use Rattle.std.specs.Str.Parse.{AllDigits}
-use Rattle.std.specs.List.{list_all, join_with_byte}
-use Rattle.std.specs.Net.Text.{dotted_text}
+use Rattle.std.specs.List.{list_all}
 use borrow.Author.Tests.{ltb-true}
 use Rattle.std.proofs.lemmas.Str.{IsUtf8-from_ascii, IsAscii-append}
 use Rattle.std.proofs.lemmas.Bool.Decides.{nat_tests}
 use Rattle.std.proofs.lemmas.Fmt.{IsAscii-decimal, digits_is_IsNumeral}
-use Rattle.serde_json.specs.Data.{Data, string, array, Items, no_items, item, depth, items_depth}
-use Rattle.cacao_json.specs.Counts.{is_whole}
+use Rattle.serde_json.specs.Data.{string, depth, items_depth}
 use Rattle.cacao_json.specs.Profile.{IsFormed, AreFormed}
 use Rattle.oc2_nets.specs.declared.packets.Protocol.{Protocol}
 use Rattle.oc2_nets.specs.declared.packets.Protocol.TheVariants as protocol
 use Rattle.oc2_nets.specs.declared.ipv4_nets.Net4.{Net4}
 use Rattle.oc2_nets.specs.declared.ipv6_nets.Net6.{Net6}
-use Rattle.oc2_nets.specs.Packets.{protocol_word}
 use Rattle.oc2_nets.specs.Nets.{net4_text, net6_text, groups_text, groups_of, hex}
 use Rattle.oc2_nets.proofs.RoundTrips.{net4_back, net6_back}
 use Rattle.oc2_targets.specs.declared.features.Feature.{Feature}
 use Rattle.oc2_targets.specs.declared.features.Feature.TheVariants as feature
-use Rattle.oc2_targets.specs.Parts.{between, whole, optional, whole_data, texts}
+use Rattle.oc2_targets.specs.Parts.{whole, optional, whole_data, texts}
 use Rattle.oc2_targets.specs.Words.{feature_word}
 use Rattle.oc2_targets.specs.Features.{feature_in, features_in}
 use Rattle.oc2_targets.specs.Targets.{net4_in, net6_in, protocol_in}

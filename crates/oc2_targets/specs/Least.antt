@@ -23,7 +23,8 @@ net6_data net = string (net6_text net)
 abbrev pub protocol_data : Protocol → Data
 protocol_data protocol = string (protocol_word protocol)
 
-abbrev pub connection_data : {Net : Type 0} → (Net → Data) → Option Protocol → Option Net → Option ℕ → Option Net → Option ℕ → Data
+abbrev pub connection_data : {Net : Type 0} → (Net → Data) → Option Protocol → Option Net → Option ℕ → Option Net → Option ℕ
+    → Data
 connection_data net protocol source source_port destination destination_port = object_of (
     (codes "dst_addr", option_map net destination) ∷ (codes "dst_port", option_map whole_data destination_port)
     ∷ (codes "protocol", option_map protocol_data protocol) ∷ (codes "src_addr", option_map net source)

@@ -5,7 +5,8 @@ use Rattle.operator_answers.specs.declared.answers.OperatorAnswer.{OperatorAnswe
 
 -- what a text tells of a run is one list
 abbrev pub AnswersAreOne : Type 0
-AnswersAreOne = (text : List ℕ) (run : ℕ) (one other : List OperatorAnswer) → Answers text run one → Answers text run other → one ≡ other
+AnswersAreOne =
+    (text : List ℕ) (run : ℕ) (one other : List OperatorAnswer) → Answers text run one → Answers text run other → one ≡ other
 
 -- the first bad line of a text has one number
 abbrev pub FirstBadLineIsOne : Type 0
@@ -13,8 +14,11 @@ FirstBadLineIsOne = (text : List ℕ) (one other : ℕ) → IsFirstBadLine text 
 
 -- a text with a bad line tells nothing, of no run
 abbrev pub BadLinesTellNothing : Type 0
-BadLinesTellNothing = (text : List ℕ) (run number : ℕ) (answers : List OperatorAnswer) → IsFirstBadLine text number → Answers text run answers → ⊥
+BadLinesTellNothing =
+    (text : List ℕ) (run number : ℕ) (answers : List OperatorAnswer) → IsFirstBadLine text number → Answers text run answers → ⊥
 
 -- a text tells something of a run, or has a first bad line
 abbrev pub EachTextIsOneOfBoth : Type 0
-EachTextIsOneOfBoth = (text : List ℕ) (run : ℕ) → ((answers : List OperatorAnswer) × Answers text run answers) ⊎ ((number : ℕ) × IsFirstBadLine text number)
+EachTextIsOneOfBoth =
+    (text : List ℕ) (run : ℕ)
+    → ((answers : List OperatorAnswer) × Answers text run answers) ⊎ ((number : ℕ) × IsFirstBadLine text number)

@@ -42,7 +42,8 @@ joined lines = flat_map (λ line. line ++ 10 ∷ []) lines
 pub record AreTold (lines : List (List ℕ)) (told : List (ℕ × OperatorAnswer)) : Type 0 where
   pub many : length lines ≡ length told
   pub whole : All IsOneLine lines
-  pub each : (n : ℕ) (line : List ℕ) (it : ℕ × OperatorAnswer) → slice_get lines n ≡ Some line → slice_get told n ≡ Some it → Tells line it.0 it.1
+  pub each : (n : ℕ) (line : List ℕ) (it : ℕ × OperatorAnswer) → slice_get lines n ≡ Some line → slice_get told n ≡ Some it
+      → Tells line it.0 it.1
 
 -- what the lines of one run tell
 abbrev pub of_run : ℕ → List (ℕ × OperatorAnswer) → List OperatorAnswer
@@ -65,4 +66,5 @@ pub record IsFirstBadLine (text : List ℕ) (number : ℕ) : Type 0 where
   pub are : AreTold lines told
   pub at : number ≡ length lines + 1
   pub some : rest ≢ []
-  pub bad : (line after : List ℕ) (run : ℕ) (it : OperatorAnswer) → rest ≡ line ++ 10 ∷ after → IsOneLine line → Tells line run it → ⊥
+  pub bad : (line after : List ℕ) (run : ℕ) (it : OperatorAnswer) → rest ≡ line ++ 10 ∷ after → IsOneLine line → Tells line run it
+      → ⊥

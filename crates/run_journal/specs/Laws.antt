@@ -20,4 +20,6 @@ OnePlace = (image : List ℕ) (p q : ℕ) → IsDamagedAt image p → IsDamagedA
 
 -- each image, a list of bytes, stands for a list or is damaged at a place
 abbrev pub StandsOrDamaged : Type 0
-StandsOrDamaged = (image : List ℕ) → All (λ b. b < 256) image → ((items : List (List ℕ)) × Stands image items) ⊎ ((place : ℕ) × IsDamagedAt image place)
+StandsOrDamaged =
+    (image : List ℕ) → All (λ b. b < 256) image
+    → ((items : List (List ℕ)) × Stands image items) ⊎ ((place : ℕ) × IsDamagedAt image place)

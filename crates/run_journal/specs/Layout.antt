@@ -101,5 +101,6 @@ pub record BreaksAt (image : List ℕ) (place : ℕ) : Type 0 where
 abbrev pub IsDamagedAt : List ℕ → ℕ → Type 0
 IsDamagedAt image place =
     ((most_image < length image) × (place ≡ most_image))
-    ⊎ (((9 < length image) × (length image ≤ most_image) × (place < 8) × (take place image ≡ take place header) × (slice_index image place ≢ slice_index header place))
+    ⊎ (((9 < length image) × (length image ≤ most_image) × (place < 8) × (take place image ≡ take place header)
+    × (slice_index image place ≢ slice_index header place))
     ⊎ ((9 < length image) × (length image ≤ most_image) × BreaksAt image place))

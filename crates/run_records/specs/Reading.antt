@@ -55,7 +55,8 @@ expire_at bytes = do
 -- the one version is 2
 unfoldable pub upgrade_at : List ℕ → Option Record
 upgrade_at [] = None
-upgrade_at (version ∷ bytes) = if version == 2 then (number_at w64 bytes >>= λ moment. at_end moment.1 (Upgrade version moment.0)) else None
+upgrade_at (version ∷ bytes) =
+    if version == 2 then (number_at w64 bytes >>= λ moment. at_end moment.1 (Upgrade version moment.0)) else None
 
 unfoldable pub ask_at : List ℕ → Option Record
 ask_at bytes = do

@@ -23,12 +23,12 @@ use Rattle.flow_world.specs.Closes.{refusal_of}
 use Rattle.flow_world.specs.Errors.{opening_refusal}
 use Rattle.flow_world.specs.Openings.{IsFileCause, RefusesOpening}
 use Rattle.flow_world.specs.declared.error.WorldError.TheVariants as error
-use Rattle.session_laws.specs.Undamaged.{GoodIsUndamaged, IsAccepted, IsDamagedFor, NoneFindsDamage}
+use Rattle.session_laws.specs.Undamaged.{ComesOfTexts, GoodIsUndamaged, IsDamagedFor, NoneFindsDamage}
 use Rattle.session_laws.proofs.Opening.{OnlyOpens, opens_refused}
 use Rattle.session_laws.proofs.WholeActs.{acts_undamaged}
 use Rattle.session_laws.proofs.WholeRuns.{report_undamaged, run_undamaged}
 
-pub accepted_as_given : AcceptedAgain → (given : Given) → IsAccepted given → Accepted AreAccepted FitsKind given.texts given.bind given
+pub accepted_as_given : AcceptedAgain → (given : Given) → ComesOfTexts given → Accepted AreAccepted FitsKind given.texts given.bind given
 accepted_as_given again given is = again is.texts is.bind given is.accepted
 
 -- ---- images that agree

@@ -19,8 +19,8 @@ use Rattle.flow_world.specs.declared.close.Close.{Close}
 use Rattle.flow_world.specs.declared.close.Close.TheVariants as close
 use Rattle.flow_world.specs.declared.error.WorldError.{WorldError}
 use Rattle.flow_world.specs.declared.error.WorldError.TheVariants as error
-use Rattle.session_laws.specs.Complete.{Completes, EndsSo, IsForThisRun, IsUndisturbed, StopsSo}
-use Rattle.session_laws.specs.Undamaged.{IsAccepted}
+use Rattle.session_laws.specs.Complete.{EndsSo, IsForThisRun, IsUndisturbed, StopsSo, UndisturbedCompletes}
+use Rattle.session_laws.specs.Undamaged.{ComesOfTexts}
 use Rattle.session_laws.proofs.Closing.{steps_count_shorts}
 use Rattle.session_laws.proofs.NoOther.{none_finds_another}
 use Rattle.session_laws.proofs.Opening.{opens_all}
@@ -110,7 +110,7 @@ module _ (given : Given) (run most : ℕ) (answers : List OperatorAnswer) (old n
 
   -- ---- refusals
 
-  module _ (again : AcceptedAgain) (accepted : IsAccepted given) (start : IsStart old run) (this : IsForThisRun given run old) (sound : IsSound new) where
+  module _ (again : AcceptedAgain) (accepted : ComesOfTexts given) (start : IsStart old run) (this : IsForThisRun given run old) (sound : IsSound new) where
     refuses_so : (error : WorldError) → HasRefused error given run most answers old new → StopsSo error
     refuses_so error.Memory r = tt
     refuses_so (error.Limit what) r = tt
@@ -123,6 +123,6 @@ module _ (given : Given) (run most : ℕ) (answers : List OperatorAnswer) (old n
     refuses_so (error.OtherBook index) r = none_finds_another (error.OtherBook index) given run most answers old new tt start.told start.fresh this sound r
     refuses_so (error.RunUsed agent) r = none_finds_another (error.RunUsed agent) given run most answers old new tt start.told start.fresh this sound r
 
-pub completes : AcceptedAgain → Completes
+pub completes : AcceptedAgain → UndisturbedCompletes
 completes again given run most answers old new accepted start this sound calm =
     (closes_so given run most answers old new calm, refuses_so given run most answers old new calm again accepted start this sound)

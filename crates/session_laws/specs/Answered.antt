@@ -89,7 +89,7 @@ EachReplyHasItsAct =
 
 -- the filter of the agent has an act of the run and issue on this command, and a Reply of the issue is what the act's reply
 -- reads as
-pub record IsActedOn (w : World) (issue agent : ℕ) (bytes : List ℕ) : Type 0 where
+pub record HasActAndReply (w : World) (issue agent : ℕ) (bytes : List ℕ) : Type 0 where
   pub moment : ℕ
   pub status : ℕ
   pub rule : ℕ
@@ -111,4 +111,4 @@ EachSendIsActedOn =
     → IsSome old.link.pending → DidNotRise old.clock.mishaps new.clock.mishaps → AgreedSince plain old new → IsSound new
     → (task issue agent moment : ℕ) (bytes : List ℕ)
     → Contains closed.went.to.engine.history.records (entry.Send task issue agent moment bytes)
-    → IsActedOn closed.went.to issue agent bytes
+    → HasActAndReply closed.went.to issue agent bytes

@@ -14,7 +14,7 @@ use Rattle.flow_world.specs.declared.close.Close.{Close}
 use Rattle.flow_world.specs.declared.close.Close.TheVariants as close
 use Rattle.flow_world.specs.declared.error.WorldError.{WorldError}
 use Rattle.flow_world.specs.declared.error.WorldError.TheVariants as error
-use Rattle.session_laws.specs.Undamaged.{IsAccepted}
+use Rattle.session_laws.specs.Undamaged.{ComesOfTexts}
 
 -- ---- no other run
 
@@ -67,9 +67,9 @@ StopsSo other = ⊥
 
 -- Of texts that are accepted, from a start whose file 0 is empty or holds this run, where nothing disturbs it: a session closes
 -- so, or refuses so.
-abbrev pub Completes : Type 0
-Completes =
-    (given : Given) (run most : ℕ) (answers : List OperatorAnswer) (old new : SiteView) → IsAccepted given → IsStart old run
+abbrev pub UndisturbedCompletes : Type 0
+UndisturbedCompletes =
+    (given : Given) (run most : ℕ) (answers : List OperatorAnswer) (old new : SiteView) → ComesOfTexts given → IsStart old run
     → IsForThisRun given run old → IsSound new → IsUndisturbed old new
     → ((how : Close) → HasClosed how given run most answers old new → EndsSo how)
     × ((error : WorldError) → HasRefused error given run most answers old new → StopsSo error)

@@ -18,7 +18,7 @@ use Rattle.flow_world.specs.Sessions.{HasRefused}
 use Rattle.flow_world.specs.declared.error.WorldError.TheVariants as error
 
 -- some texts that are accepted give this
-pub record IsAccepted (given : Given) : Type 0 where
+pub record ComesOfTexts (given : Given) : Type 0 where
   pub texts : List (List ℕ)
   pub bind : List ℕ
   pub accepted : Accepted AreAccepted FitsKind texts bind given
@@ -38,7 +38,7 @@ IsDamagedFor given run image place = RefusesImage given run image (engine_error.
 pub record IsUndamaged (site : SiteView) (beat : ℕ) : Type 0 where
   pub filters : (agent : ℕ) → IsAgent agent → NoneDamaged filter_file.IsDamaged site agent beat
   pub reports : NoneDamaged run_file.IsDamaged site 0 beat
-  pub opens : (given : Given) (run : ℕ) → IsAccepted given → NoneDamaged (IsDamagedFor given run) site 0 beat
+  pub opens : (given : Given) (run : ℕ) → ComesOfTexts given → NoneDamaged (IsDamagedFor given run) site 0 beat
 
 -- so it is at each beat at which all that a crash may leave agrees
 abbrev pub GoodIsUndamaged : Type 0
@@ -50,6 +50,6 @@ GoodIsUndamaged = (site : SiteView) (beat : ℕ) → IsTrue site.disk.told → I
 -- No session tells damage that began where all agreed.
 abbrev pub NoneFindsDamage : Type 0
 NoneFindsDamage =
-    (given : Given) (run most : ℕ) (answers : List OperatorAnswer) (old new : SiteView) (file place : ℕ) → IsAccepted given
+    (given : Given) (run most : ℕ) (answers : List OperatorAnswer) (old new : SiteView) (file place : ℕ) → ComesOfTexts given
     → IsTrue old.disk.told → IsGood old old.disk.beat → IsSound new
     → HasRefused (error.Damaged file place) given run most answers old new → ⊥

@@ -1,5 +1,5 @@
 // How far a session comes that nothing disturbs.
-ghost use Rattle.session_laws.specs.Complete.{Completes, NoneFindsAnother};
+ghost use Rattle.session_laws.specs.Complete.{NoneFindsAnother, UndisturbedCompletes};
 ghost use Rattle.session_laws.specs.Undamaged.{GoodIsUndamaged, NoneFindsDamage};
 
 use flow_core::accepted_again;
@@ -11,7 +11,7 @@ pub fn complete_laws()
     ensures undamaged { GoodIsUndamaged }
     ensures no_damage { NoneFindsDamage }
     ensures no_other_run { NoneFindsAnother }
-    ensures completes { Completes }
+    ensures completes { UndisturbedCompletes }
 {
     accepted_again();
 }

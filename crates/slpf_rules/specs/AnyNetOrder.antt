@@ -7,7 +7,8 @@ use Rattle.slpf_rules.specs.declared.any_nets.AnyNet.{AnyNet}
 use Rattle.slpf_rules.specs.AnyNets.{family, bits, width, net_cmp}
 
 pub net_cmp_total : IsTotalOrder net_cmp
-net_cmp_total = then_total (on_total family nat_cmp_total) (then_total (on_total bits nat_cmp_total) (on_total width nat_cmp_total))
+net_cmp_total =
+    then_total (on_total family nat_cmp_total) (then_total (on_total bits nat_cmp_total) (on_total width nat_cmp_total))
 
 pub net_eq_equiv : IsEquivalence (eq_by_cmp net_cmp)
 net_eq_equiv = eq_by_cmp_equiv net_cmp_total

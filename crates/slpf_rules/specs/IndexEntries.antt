@@ -21,4 +21,5 @@ Puts old new net number = (other : AnyNet) → at new other
 -- a number was taken from under a net
 abbrev pub Takes : List (AnyNet × List ℕ) → List (AnyNet × List ℕ) → AnyNet → ℕ → Type 0
 Takes old new net number = (other : AnyNet) → at new other
-    ≡ (if is_at (net_cmp net) other then listed (remove_key (is_at (nat_cmp number)) (unwrap_or (at old net) [])) else at old other)
+    ≡ (if is_at (net_cmp net) other then listed (remove_key (is_at (nat_cmp number)) (unwrap_or (at old net) []))
+    else at old other)

@@ -1,4 +1,4 @@
-use Rattle.std.proofs.Common.{sym, subst, arith, ◌∙◌, map}
+use Rattle.std.proofs.Common.{sym, subst}
 use Rattle.std.specs.Prelude.{All}
 use Rattle.cacao_json.specs.Tree.{data_of}
 use Rattle.cacao_shape.specs.Members.{TextFits}

@@ -1,6 +1,10 @@
-use Rattle.std.proofs.Common.{subst, sym, ap, length, arith}
+use Rattle.std.proofs.Common.{subst, sym, ap, length, arith, ◌<◌}
 use Rattle.cacao_check.proofs.WalkLemmas.{found_at, PlacesKept, PlacesKept-all}
+use Rattle.cacao_shape.specs.Shape.{place_rank}
 use Rattle.cacao_check.proofs.walking.break_of_book.Goals as goal
+
+pub loop-rank-init : goal.loop-rank-init
+loop-rank-init c = (λ step r lt. absurd (let l : place_rank step < 0 = lt in omega arith), c.new-memory.ensures c.args.book.now)
 
 pub returns-in-Some : goal.returns-in-Some
 returns-in-Some c =

@@ -1,4 +1,4 @@
-use Rattle.std.proofs.Common.{lit<, None, Some, sym, subst, ap, ◌∙◌}
+use Rattle.std.proofs.Common.{lit<, None, Some, sym, ◌∙◌}
 use Rattle.std.proofs.lemmas.Bool.{false≢true}
 use Rattle.std.proofs.lemmas.Str.Pattern.{split_parts}
 use Rattle.cacao_shape.proofs.ArgumentLemmas.{argument_alone, argument_parts}

@@ -1,4 +1,4 @@
-use Rattle.std.proofs.Common.{map, length, sym, arith, ◌≤◌}
+use Rattle.std.proofs.Common.{map, length, arith}
 use Rattle.std.proofs.lemmas.List.{length-map}
 use Rattle.serde_json.specs.Find.{as_object}
 use Rattle.cacao_json.specs.Tree.{data_of, pair_data}

@@ -1,7 +1,6 @@
 use Rattle.std.proofs.Common.{sym, subst, ◌∙◌}
 use Rattle.serde_json.specs.Find.{get}
 use Rattle.cacao_json.specs.Tree.{data_of}
-use Rattle.cacao_shape.specs.Members.{members_in}
 use Rattle.cacao_shape.specs.Orders.{IsRising}
 use Rattle.cacao_shape.proofs.ListLemmas.{members_found}
 use Rattle.cacao_shape.proofs.lists.members_at.Goals as goal

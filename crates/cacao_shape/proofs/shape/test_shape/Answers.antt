@@ -1,4 +1,4 @@
-use Rattle.std.proofs.Common.{Some, None, length, slice_get, sym, subst, ap, ◌∙◌, map, arith, ◌≤◌}
+use Rattle.std.proofs.Common.{Some, length, slice_get, sym, subst, ap, ◌∙◌, map, ◌≤◌}
 use Rattle.cacao_json.specs.Tree.{data_of, pair_data}
 use Rattle.cacao_shape.specs.Least.{FirstRule}
 use Rattle.cacao_shape.specs.Shape.{shape_number, KeepsOfBook, KeepsOfStep}

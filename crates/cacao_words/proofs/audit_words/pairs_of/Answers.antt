@@ -1,5 +1,5 @@
 -- Fewer than two words are left.
-use Rattle.std.proofs.Common.{◌≡◌, ◌∙◌, sym, subst, map, Option}
+use Rattle.std.proofs.Common.{◌≡◌, ◌∙◌, sym, subst, map}
 use Rattle.std.specs.Prelude.{option_map}
 use Rattle.cacao_words.specs.Commands.{filter_of}
 use Rattle.cacao_words.specs.Requests.{pairs_of}

@@ -2,7 +2,7 @@
 use Rattle.std.proofs.Common.{◌≡◌, ◌∙◌, refl, sym, ap, ap₂, Bool, true, false, List, map, Option, Some, None, Bor}
 use Rattle.std.specs.Prelude.{◌&&◌, if◌then◌else◌}
 use Rattle.std.specs.List.{list_all}
-use Rattle.cacao_words.specs.Commands.{found_parts, maybe_text}
+use Rattle.cacao_words.specs.Commands.{maybe_text}
 use Rattle.cacao_words.specs.Found.{Parts, maybe_fits}
 use Rattle.cacao_words.specs.Words.{Text, fits}
 use Rattle.cacao_words.proofs.OptionLemmas.{all-names, all-values}

@@ -1,5 +1,5 @@
 -- What clap answers is the reading of the words.
-use Rattle.std.proofs.Common.{◌≡◌, ◌∙◌, ◌<◌, refl, sym, ap, subst, map, drop, length, false, true, List, [], ⊎_elim, string_bytes, Bor}
+use Rattle.std.proofs.Common.{◌≡◌, ◌∙◌, ◌<◌, sym, ap, subst, map, drop, length, false, true, List, [], ⊎_elim, string_bytes, Bor}
 use Rattle.std.proofs.lemmas.List.{length-map}
 use Rattle.clap.specs.Words.{App, app_of, found_of, rows_of, is_simple, is_simple_and_free, fault_of, matches_of, IsAmong, kind_of}
 use Rattle.cacao_words.specs.ClapCommand.{app}

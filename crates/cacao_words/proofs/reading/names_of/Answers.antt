@@ -1,5 +1,5 @@
 -- The names that clap gives are those of the row.
-use Rattle.std.proofs.Common.{◌≡◌, ◌∙◌, ap, List, [], Bor, map}
+use Rattle.std.proofs.Common.{◌∙◌, ap, [], Bor, map}
 use Rattle.std.specs.Prelude.{unwrap_or}
 use Rattle.clap.specs.Words.{found_of}
 use Rattle.clap.proofs.WalkLemmas.{raw_values-rows}

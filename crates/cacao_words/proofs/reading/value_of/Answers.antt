@@ -1,5 +1,5 @@
 -- The first value that clap gives is that of the row.
-use Rattle.std.proofs.Common.{◌≡◌, ◌∙◌, ap, List, Option}
+use Rattle.std.proofs.Common.{◌∙◌, ap}
 use Rattle.clap.specs.Words.{found_of}
 use Rattle.clap.proofs.WalkLemmas.{raw_values-rows}
 use Rattle.cacao_words.specs.Found.{first_of}

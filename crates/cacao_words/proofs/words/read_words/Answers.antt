@@ -1,5 +1,5 @@
 -- The first word is `run`, or it is not.
-use Rattle.std.proofs.Common.{◌≡◌, ◌∙◌, refl, sym, ap, subst, false, List, [], ◌∷◌, map, drop, String, Global, Option, Some, None, codes, string_bytes, Bor, IfOk}
+use Rattle.std.proofs.Common.{◌≡◌, ◌∙◌, sym, ap, subst, false, List, [], ◌∷◌, map, drop, String, Global, Option, Some, codes, string_bytes, Bor, IfOk}
 use Rattle.std.specs.Prelude.{option_map, option_and_then, slice_get}
 use Rattle.std.specs.Str.{bytes_eq}
 use Rattle.cacao_words.specs.Commands.{request_by}

@@ -1,4 +1,3 @@
-use Rattle.std.proofs.Common.{◌≡◌, ◌++◌, drop, map}
 use Rattle.cacao_json.specs.Size.{size, items_size, members_size}
 use Rattle.cacao_json.specs.Tree.{data_of, pair_data}
 use Rattle.flow_texts.specs.Contents.{content_data, entry_data}

@@ -1,4 +1,3 @@
-use Rattle.std.proofs.Common.{sym}
 use Rattle.oc2_targets.proofs.FeatureLemmas.{repeated_stops, one_more}
 use Rattle.oc2_targets.proofs.feature_lists.read_items.Goals as goal
 

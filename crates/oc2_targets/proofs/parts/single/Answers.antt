@@ -1,4 +1,4 @@
-use Rattle.std.proofs.Common.{◌≡◌, ◌≢◌, length, sym, ap, ◌∙◌, Some, arith}
+use Rattle.std.proofs.Common.{◌≡◌, ◌≢◌, length, ap, ◌∙◌, Some, arith}
 use Rattle.oc2_targets.proofs.PartLemmas.{single-one, single-other}
 use Rattle.oc2_targets.proofs.parts.single.Goals as goal
 

@@ -1,5 +1,4 @@
 use Rattle.std.proofs.Common.{◌≡◌, ◌<◌, ◌^◌, ◌∙◌, ap, arith}
-use Rattle.flow_rules.specs.State.{Shown}
 use Rattle.flow_engine.specs.EngineView.{EngineView}
 use Rattle.flow_engine.proofs.ComingLemmas.{begin_made}
 use Rattle.flow_engine.proofs.engine.Engine.beginning.Goals as goal

@@ -1,4 +1,4 @@
-use Rattle.std.proofs.Common.{◌≡◌, ℕ, List, None, Some, Option, IsSome, sym, subst, ap, ◌∙◌}
+use Rattle.std.proofs.Common.{List, None, Some, Option, IsSome, sym, subst, ap, ◌∙◌}
 use Rattle.flow_dues.specs.Pairs.{Due, at, rising, IsFirstBy}
 use Rattle.flow_rules.specs.Moves.{deadlines}
 use Rattle.flow_rules.specs.State.{Shown}

@@ -1,10 +1,10 @@
-use Rattle.std.proofs.Common.{◌≡◌, ◌<◌, length, true, false, refl, sym, subst, ap, ap₂, ◌∙◌, arith}
+use Rattle.std.proofs.Common.{◌≡◌, false, sym, subst, ap, ap₂, ◌∙◌, arith}
 use Rattle.cacao_site.specs.declared.parcel.Parcel.{Parcel}
 use Rattle.cacao_site.specs.SiteCalls.{Puts as PutsParcel}
 use Rattle.engine_history.specs.HistoryView.{HistoryView, IsReady}
 use Rattle.engine_history.specs.Histories.{IsHistory}
 use Rattle.engine_history.proofs.HistoryLemmas.{get_within}
-use Rattle.flow_engine.specs.EngineCalls.{IsOpen, IsWaiting, Sends}
+use Rattle.flow_engine.specs.EngineCalls.{IsWaiting}
 use Rattle.flow_engine.specs.EngineView.{EngineView}
 use Rattle.flow_engine.specs.OpenIssues.{OpenIssues, with_put}
 use Rattle.flow_engine.proofs.SendLemmas.{is_open, puts_more, ready_after_put}

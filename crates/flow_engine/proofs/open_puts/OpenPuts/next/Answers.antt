@@ -1,5 +1,4 @@
 use Rattle.std.proofs.Common.{subst, sym}
-use Rattle.std.specs.Prelude.{slice_get}
 use Rattle.flow_engine.specs.OpenIssues.{IsNextPut}
 use Rattle.flow_engine.proofs.NextLemmas.{first_is}
 use Rattle.flow_engine.proofs.open_puts.OpenPuts.next.Goals as goal
