@@ -1,9 +1,10 @@
 #!/usr/bin/env python3
 """Writes a playbook that is long or costly to check, of at most 1 MiB, to standard output.
 
-usage: make_hostile.py plain | arguments | nested | branches [NUMBER]
+usage: make_hostile.py plain | arguments | names | nested | branches [NUMBER]
   plain       4,096 steps, nearly all actions one after another
   arguments   playbook-actions with 64 different arguments each, at the end of a deep chain of control steps
+  names       control steps that each declare a name, all of them arguments at the end of their chain
   nested      4,096 steps, nearly all parallel steps, each in the region of the one before it
   branches    a chain of parallel steps with 64 equal branches each
 NUMBER is that of the playbook, 1 if it is not given: playbooks with different numbers have different identifiers.
@@ -69,6 +70,19 @@ def arguments(depth, calls):
     return steps
 
 
+def names(count):
+    steps = nested(count)
+    declared = [f"__{n:x}__" for n in range(count)]
+    for n, name in enumerate(declared):
+        steps[identifier("p", n)]["step_variables"] = {name: {"type": "x"}}
+    taken = [declared[at : at + 64] for at in range(0, count, 64)]
+    keys = [identifier("q", n) for n in range(len(taken))] + [END]
+    steps[identifier("p", count - 1)]["next_steps"] = [keys[0]]
+    for n, these in enumerate(taken):
+        steps[keys[n]] = {"type": "playbook-action", "playbook_id": identifier("playbook", 999), "in_args": these, "on_completion": keys[n + 1]}
+    return steps
+
+
 def plain(count):
     keys = [identifier("a", n) for n in range(count)] + [END]
     steps = {START: {"type": "start", "on_completion": keys[0]}}
@@ -84,6 +98,7 @@ Kind = collections.namedtuple("Kind", "what steps variables")
 KINDS = {
     "plain": Kind("4,096 steps one after another", lambda part: plain(4094 // part), {"__x__": {"type": "string"}, "__y__": {"type": "string"}}),
     "arguments": Kind("16,000 arguments below 1,500 control steps", lambda part: arguments(1500 // part, 250 // part), {}),
+    "names": Kind("3,400 control steps that each declare a name, all asked for at the end", lambda part: names(3400 // part), {}),
     "nested": Kind("4,096 steps, each in the branch of the one before", lambda part: nested(4094 // part), {}),
     "branches": Kind("280 steps of 64 equal branches", lambda part: branches(280 // part, 64), {}),
 }
