@@ -80,8 +80,8 @@ other-status (compares files) old new n h is = (
   λ e. has-other files n 3 is e (λ f. omega (arith, f)) (λ f. omega (arith, f)) (λ f. omega (arith, f)),
 )
 other-status (rehearsals positions) old new n h is = (
-  λ e. rehearsed-other positions n 2 is e (λ f. omega (arith, f)) (λ f. omega (arith, f)) refl,
-  λ e. rehearsed-other positions n 3 is e (λ f. omega (arith, f)) (λ f. omega (arith, f)) refl,
+  λ e. rehearsed-other positions n 2 is e (λ f. omega (arith, f)) refl,
+  λ e. rehearsed-other positions n 3 is e (λ f. omega (arith, f)) refl,
 )
 other-status (starts start) old new n h (inl is) = (λ e. omega (arith, e, is.1), λ e. omega (arith, e, is.1))
 other-status (starts start) old new n h (inr (inl is)) = (λ e. omega (arith, e, is.1), λ e. omega (arith, e, is.1))

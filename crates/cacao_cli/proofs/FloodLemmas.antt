@@ -174,7 +174,7 @@ one-number None p a b some more f g = absurd (false≢true some)
 one-number (Some xs) None a b some more f g = absurd (false≢true more)
 one-number (Some xs) (Some ys) a b some more f g = omega (arith, f, g)
 
-some-after : (o p : Option (List (ℕ × Parcel))) (more : List (ℕ × Parcel)) → IsSome o → GainsAll o more p → IsSome p
+pub some-after : (o p : Option (List (ℕ × Parcel))) (more : List (ℕ × Parcel)) → IsSome o → GainsAll o more p → IsSome p
 some-after None p more some g = absurd (false≢true some)
 some-after (Some xs) None more some g = absurd g
 some-after (Some xs) (Some ys) more some g = refl
@@ -189,11 +189,11 @@ same-not start old mid same f some = by old.link.taken some (subst (λ (o : Opti
     by (Some xs) some g = omega (arith, g)
 
 module _ (given : Given) (run most : ℕ) (answers : List OperatorAnswer) (old mid : SiteView) (sound : ReadsImages mid) (told : IsTrue mid.disk.told) (went : Went given run most answers old mid) where
-  none-acted : went.start.notes.acted ≡ []
+  pub none-acted : went.start.notes.acted ≡ []
   none-acted = ap (λ (n : Notes). n.acted) went.begins.notes
 
   -- the acts that were appended
-  acted-is : went.to.notes.acted ≡ went.sums.grow.acted
+  pub acted-is : went.to.notes.acted ≡ went.sums.grow.acted
   acted-is = went.sums.grow.acts ∙ ap (λ (l : List (ℕ × Act)). l ++ went.sums.grow.acted) none-acted
 
   pub acted-agents : AreOfAgents went.sums.grow.acted
@@ -231,12 +231,16 @@ module _ (given : Given) (run most : ℕ) (answers : List OperatorAnswer) (old m
   pub hand-empty : (phase : Phase) → went.to.phase ≡ phase → (IsAtHand phase went.sums.handles.at_hand → went.sums.handles.at_hand ≡ []) → went.sums.handles.at_hand ≡ []
   hand-empty phase is none = none (subst (λ (p : Phase). IsAtHand p went.sums.handles.at_hand) is went.sums.handles.open_one)
 
-  takes-all : GainsAll old.link.taken (went.sums.handles.handled ++ went.sums.handles.at_hand) mid.link.taken
+  pub takes-all : GainsAll old.link.taken (went.sums.handles.handled ++ went.sums.handles.at_hand) mid.link.taken
   takes-all =
       let handles = went.sums.handles in
       let link : went.start.site.link ≡ old.link = went.files.others.rest.link ∙ went.files.journal.opens.only.rest.link in
       subst (λ (s : SiteView). GainsAll old.link.taken (handles.handled ++ handles.at_hand) s.link.taken) went.to_is
       (subst (λ (l : LinkView). GainsAll l.taken (handles.handled ++ handles.at_hand) went.to.site.link.taken) link handles.takes)
+
+  -- the parcels are told where they were before
+  pub taken-told : IsSome old.link.taken → IsSome mid.link.taken
+  taken-told some = some-after old.link.taken mid.link.taken (went.sums.handles.handled ++ went.sums.handles.at_hand) some takes-all
 
   -- parcels that were taken, where none is in hand
   pub many-taken : went.sums.handles.at_hand ≡ [] → IfSome old.link.taken (λ before. IfSome mid.link.taken (λ after.
@@ -254,18 +258,24 @@ module _ (given : Given) (run most : ℕ) (answers : List OperatorAnswer) (old m
       taken-exactly old.link.taken mid.link.taken (handles.handled ++ handles.at_hand) (went.to.notes.ignored + total one_reply went.sums.adds.added + length went.sums.grow.acted)
       (omega (arith, none, at_hand, counted, replied, acted, before, length-append handles.handled handles.at_hand, length-append went.start.notes.acted handles.acted)) takes-all
 
-  -- where 1,000,000 parcels changed neither journal by what the files show, they did by what the session counted
-  pub flooded-exactly : (start : Start) → IsJournalSure went.to → AreFiltersSure went.to → went.sums.handles.at_hand ≡ [] → (f : FloodsSo start old mid) → IsSome old.link.taken
-      → went.to.notes.ignored ≡ 1_000_000
-  flooded-exactly start sure filters empty f some =
+  -- So many did, where 1,000,000 parcels changed neither journal by what the files show, and they gained what the session appended.
+  pub flooded-so : (start : Start) → IsJournalSure went.to → ((agent : ℕ) → IsAgent agent → GainsActs agent (acts_of agent went.sums.grow.acted) old mid) → (n : ℕ)
+      → IfSome old.link.taken (λ before. IfSome mid.link.taken (λ after. length after ≡ length before + (n + total one_reply went.sums.adds.added + length went.sums.grow.acted)))
+      → FloodsSo start old mid → IsSome old.link.taken → n ≡ 1_000_000
+  flooded-so start sure gained n told_so f some =
       let g = gains-added given run most answers old mid sound told went sure in
       let before : f.may.gains.before ≡ g.before = same_records (old.disk.reads 0) f.may.gains.before g.before f.may.gains.had g.had in
       let all : f.may.gains.before ++ f.may.gains.added ≡ g.before ++ g.added = same_records (mid.disk.reads 0) (f.may.gains.before ++ f.may.gains.added) (g.before ++ g.added) f.may.gains.has g.has in
       let added : f.may.gains.added ≡ g.added = same-added g.before f.may.gains.added g.added (subst (λ (l : List Record). l ++ f.may.gains.added ≡ g.before ++ g.added) before all) in
       let replied : total one_reply f.may.gains.added ≡ total one_reply g.added = ap (λ (l : List Record). total one_reply l) added in
       let acted : length f.acted ≡ length went.sums.grow.acted = same-many f.acted went.sums.grow.acted f.of_agents acted-agents
-      (λ agent is. one-gain agent (acts_of agent f.acted) (acts_of agent went.sums.grow.acted) old mid (f.gained agent is) (gained-acts filters agent is)) in
-      let taken : 1_000_000 + total one_reply f.may.gains.added + length f.acted ≡ went.to.notes.ignored + total one_reply g.added + length went.sums.grow.acted =
-      one-number old.link.taken mid.link.taken (1_000_000 + total one_reply f.may.gains.added + length f.acted) (went.to.notes.ignored + total one_reply g.added + length went.sums.grow.acted)
-      some (some-after old.link.taken mid.link.taken _ some takes-all) f.taken (many-taken empty) in
+      (λ agent is. one-gain agent (acts_of agent f.acted) (acts_of agent went.sums.grow.acted) old mid (f.gained agent is) (gained agent is)) in
+      let taken : 1_000_000 + total one_reply f.may.gains.added + length f.acted ≡ n + total one_reply g.added + length went.sums.grow.acted =
+      one-number old.link.taken mid.link.taken (1_000_000 + total one_reply f.may.gains.added + length f.acted) (n + total one_reply g.added + length went.sums.grow.acted)
+      some (some-after old.link.taken mid.link.taken _ some takes-all) f.taken told_so in
       omega (arith, replied, acted, taken)
+
+  -- so the session counted as many, where no parcel is in hand
+  pub flooded-exactly : (start : Start) → IsJournalSure went.to → AreFiltersSure went.to → went.sums.handles.at_hand ≡ [] → FloodsSo start old mid → IsSome old.link.taken
+      → went.to.notes.ignored ≡ 1_000_000
+  flooded-exactly start sure filters empty f some = flooded-so start sure (gained-acts filters) went.to.notes.ignored (many-taken empty) f some

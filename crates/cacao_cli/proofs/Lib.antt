@@ -1,9 +1,13 @@
+pub mod ActedLemmas
 pub mod AgreeLemmas
 pub mod AgreedLemmas
+pub mod AlikeLemmas
 pub mod AnswerLemmas
+pub mod ApartLemmas
 pub mod AuditLemmas
 pub mod BeginLemmas
 pub mod BudgetLemmas
+pub mod CameLemmas
 pub mod CauseLemmas
 pub mod ClockLemmas
 pub mod CompleteLemmas
@@ -15,6 +19,7 @@ pub mod ExactLemmas
 pub mod ExpireLemmas
 pub mod FilterLemmas
 pub mod FloodLemmas
+pub mod HandLemmas
 pub mod HoldLemmas
 pub mod IdleLemmas
 pub mod JudgeLemmas
@@ -34,9 +39,11 @@ pub mod ReadLemmas
 pub mod RehearseLemmas
 pub mod ReportLines
 pub mod ReportWords
-pub mod ReturnCases
-pub mod ReturnTells
+pub mod ReturnCloses
+pub mod ReturnFiles
 pub mod ReturnLemmas
+pub mod ReturnRefusals
+pub mod ReturnTells
 pub mod ReturnTurns
 pub mod ReturnedRuns
 pub mod RunFileLemmas
@@ -57,7 +64,9 @@ pub mod StatusRuns
 pub mod StayLemmas
 pub mod SteadyLemmas
 pub mod StepLemmas
+pub mod TakenLemmas
 pub mod TreeLemmas
+pub mod UndamagedLemmas
 pub mod UnsaidLemmas
 pub mod UnusedLemmas
 pub mod UsageLemmas

@@ -12,6 +12,7 @@ use Rattle.run_records.specs.declared.record.Record.{Record}
 use Rattle.flow_core.specs.Setups.{AreAccepted}
 use Rattle.flow_core.specs.Views.{taken}
 use Rattle.flow_core.specs.declared.flow_errors.LimitKind.{LimitKind}
+use Rattle.flow_core.specs.declared.flow_errors.LimitKind.TheVariants as limit
 use Rattle.flow_rules.specs.Accepted.{Accepted}
 use Rattle.flow_rules.specs.Changes.{is_waiting, moment_of, outcome}
 use Rattle.flow_rules.specs.Edits.{Edit}
@@ -29,15 +30,17 @@ use Rattle.flow_laws.proofs.OneList.{acts_of_layout}
 use Rattle.slpf_actuator.specs.ActLists.{IsNew, length_with}
 use Rattle.slpf_actuator.specs.ActuatorCalls.{Overflows}
 use Rattle.slpf_actuator.specs.ActuatorView.{ActuatorView, act_for}
+use Rattle.slpf_actuator.specs.declared.error.ActError.TheVariants as act_error
 use Rattle.flow_steps.specs.Appends.{HasPassedLimit}
 use Rattle.flow_steps.specs.Handled.{Handles, IsAtHand, IsCommand}
-use Rattle.flow_steps.specs.Steps.{FindsLate, Steps}
+use Rattle.flow_steps.specs.Steps.{FailsToAct, FindsLate, Replies, Steps}
 use Rattle.flow_steps.specs.Turns.{IsToBeTold, IsUntold, answer_for}
 use Rattle.flow_steps.specs.Unbroken.{IsJournalSure}
 use Rattle.flow_steps.specs.Worlds.{Cause, Notes, Phase, World, holds, opened, past, refused}
 use Rattle.flow_steps.proofs.Adding.{begins_now, moves_now, of_option, replies_now}
 use Rattle.flow_steps.proofs.Filters.{get_set}
 use Rattle.flow_steps.proofs.Handling.{steps_handle}
+use Rattle.flow_engine.specs.EngineCalls.{IsReply}
 use Rattle.flow_engine.specs.EngineView.{EngineView}
 use Rattle.flow_world.specs.Closes.{IsRefusal}
 use Rattle.flow_world.specs.Sessions.{Went}
@@ -56,33 +59,33 @@ use Rattle.cacao_cli.proofs.WaitLemmas.{answers-given, none-answers}
 -- ---- the last step
 
 -- the record that came next would pass a limit, and nothing changed
-record TriedNext (Turn : Record → Type 0) (o w : World) : Type 0 where
-  next : Record
-  turn : Turn next
-  edits : List Edit
-  now : moment_of next ≡ o.site.clock.now
-  takes : taken (flow_of o.engine.history) next ≡ Some edits
-  what : LimitKind
-  passes : limit_of o.engine.history next edits ≡ Some what
-  same : w.engine.history ≡ o.engine.history
-  site : w.site ≡ o.site
+pub record TriedNext (Turn : Record → Type 0) (o w : World) : Type 0 where
+  pub next : Record
+  pub turn : Turn next
+  pub edits : List Edit
+  pub now : moment_of next ≡ o.site.clock.now
+  pub takes : taken (flow_of o.engine.history) next ≡ Some edits
+  pub what : LimitKind
+  pub passes : limit_of o.engine.history next edits ≡ Some what
+  pub same : w.engine.history ≡ o.engine.history
+  pub site : w.site ≡ o.site
 
 -- the act on the command in hand would pass the limit of its filter's file
-record TriedAct (o w : World) : Type 0 where
-  beat : ℕ
-  parcel : Parcel
-  in_hand : o.phase ≡ holds beat parcel
-  is_command : IsCommand parcel
-  engine : w.engine ≡ o.engine
-  v : ActuatorView
-  next : ActuatorView
-  needed : ℕ
-  passes : Overflows v parcel o.site.clock.now needed
-  site : w.site ≡ o.site
-  acts : next.acts ≡ v.acts
-  filters : w.filters ≡ slice_set o.filters (parcel.agent - 1) next
+pub record TriedAct (o w : World) : Type 0 where
+  pub beat : ℕ
+  pub parcel : Parcel
+  pub in_hand : o.phase ≡ holds beat parcel
+  pub is_command : IsCommand parcel
+  pub engine : w.engine ≡ o.engine
+  pub v : ActuatorView
+  pub next : ActuatorView
+  pub needed : ℕ
+  pub passes : Overflows v parcel o.site.clock.now needed
+  pub site : w.site ≡ o.site
+  pub acts : next.acts ≡ v.acts
+  pub filters : w.filters ≡ slice_set o.filters (parcel.agent - 1) next
 
-tried-next : (IsNext Turn : Record → Type 0) (what : LimitKind) (o w : World) → ((next : Record) → IsNext next → moment_of next ≡ o.site.clock.now) → ((next : Record) → IsNext next → Turn next)
+pub tried-next : (IsNext Turn : Record → Type 0) (what : LimitKind) (o w : World) → ((next : Record) → IsNext next → moment_of next ≡ o.site.clock.now) → ((next : Record) → IsNext next → Turn next)
     → HasPassedLimit IsNext what o w → TriedNext Turn o w
 tried-next IsNext Turn what o w now turn h =
     let p = h.refuses.0.0 in
@@ -106,7 +109,7 @@ last-taken (Some xs) None front beat parcel g = tt
 last-taken (Some xs) (Some ys) front beat parcel g = (front, beat, g)
 
 -- it was taken last
-hand-last : (a o : World) (beat : ℕ) (parcel : Parcel) → a.phase ≡ opened → Steps a o → o.phase ≡ holds beat parcel → IsTakenLast parcel a.site.link.taken o.site.link.taken
+pub hand-last : (a o : World) (beat : ℕ) (parcel : Parcel) → a.phase ≡ opened → Steps a o → o.phase ≡ holds beat parcel → IsTakenLast parcel a.site.link.taken o.site.link.taken
 hand-last a o beat parcel first before here =
     last-taken a.site.link.taken o.site.link.taken h.handled beat parcel
     (subst (λ (l : List (ℕ × Parcel)). GainsAll a.site.link.taken (h.handled ++ l) o.site.link.taken) (subst (λ (p : Phase). IsAtHand p h.at_hand) here h.open_one) h.takes)
@@ -136,7 +139,7 @@ module _ (start : Start) (old mid : SiteView) (sound : ReadsImages mid) (told : 
     outcome_is = is;
   }
 
-  now-is : (o : World) → went.to.site ≡ o.site → o.site.clock.now ≡ mid.clock.now
+  pub now-is : (o : World) → went.to.site ≡ o.site → o.site.clock.now ≡ mid.clock.now
   now-is o same = ap (λ (s : SiteView). s.clock.now) (sym same ∙ went.to_is)
 
   -- the run goes on, and a record more may be appended
@@ -149,7 +152,7 @@ module _ (start : Start) (old mid : SiteView) (sound : ReadsImages mid) (told : 
     reached = subst (λ (s : SiteView). s.clock.asked ≤ s.clock.now) went.to_is stopped.reached;
   }
 
-  some-kind : (o : Option LimitKind) (what : LimitKind) → o ≡ Some what → IsSome o
+  pub some-kind : (o : Option LimitKind) (what : LimitKind) → o ≡ Some what → IsSome o
   some-kind o what e = subst (λ (p : Option LimitKind). IsSome p) (sym e) refl
 
   -- ---- what came next in its turn
@@ -196,30 +199,28 @@ module _ (start : Start) (old mid : SiteView) (sound : ReadsImages mid) (told : 
       subst (λ (l : LinkView). IsTakenLast parcel l.taken o.site.link.taken) (went.files.others.rest.link ∙ went.files.journal.opens.only.rest.link)
       (hand-last went.start o beat parcel went.begins.phase before here)
 
-  abbrev Turn : World → Record → Type 0
+  abbrev pub Turn : World → Record → Type 0
   Turn o next = ComesInTurn start old.link.taken o.site.link.taken o.engine.history.seen o.site.clock.now next
 
-  tried : (o : World) (what : LimitKind) → Steps went.start o → PassesAt o went.to what → TriedNext (Turn o) o went.to ⊎ TriedAct o went.to
-  tried o what before (by_begin other is p) =
-      inl (tried-next _ (Turn o) other o went.to (begins_now o.engine.history o.site.clock.now) (λ next e. subst (Turn o) (sym e.is) tt) p)
-  tried o what before (by_move other is p) = inl (tried-next _ (Turn o) other o went.to (moves_now o.engine.history o.site.clock.now)
-      (λ next e. of-move start old.link.taken o.site.link.taken o.engine.history.seen o.site.clock.now e.move next e.is (e.move, e.enabled, e.is)) p)
-  tried o what before (by_upgrade other issue told is p) = inl (tried-next _ (Turn o) other o went.to (λ next e. ap moment_of e)
-      (λ next e. subst (Turn o) (sym e) (inr (issue, told, told-at o issue told p.notes is.to_be_told))) p)
-  tried o what before (by_told other issue told is p) = inl (tried-next _ (Turn o) other o went.to (λ next e. ap moment_of e)
-      (λ next e. subst (Turn o) (sym e) (told, told-at o issue told p.notes is.to_be_told, refl, refl)) p)
-  tried o what before (by_expire other issue is p) = inl (tried-next _ (Turn o) other o went.to (λ next e. ap moment_of e)
-      (λ next e. subst (Turn o) (sym e) (idle-at o p.notes is.overdue.untold)) p)
-  tried o what before (by_reply other beat parcel is p) = inl (tried-next _ (Turn o) other o went.to (replies_now o.engine.history parcel o.site.clock.now)
-      (λ next e. subst (Turn o) (sym e.is) (record {
-        parcel = parcel;
-        is_back = record { addressed = is.holds_reply.addressed; back = is.holds_reply.back };
-        of_run = e.to.sent_back.of_run ∙ sym (ap (λ (h : HistoryView). h.seen.run) p.refuses.0.1) ∙ went.sums.given.run ∙ went.begins.of_run;
-        of_issue = refl;
-        reads = e.to.read_is.reads;
-        taken_last = hand-since o beat parcel before is.holds_reply.phase;
-      })) p)
-  tried o what before (by_act beat parcel v next needed is) = inr (record {
+  -- the Reply of the parcel in hand
+  pub reply-turn : (o : World) (what : LimitKind) (beat : ℕ) (parcel : Parcel) → Steps went.start o → Replies beat parcel o went.to
+      → HasPassedLimit (IsReply o.engine.history parcel o.site.clock.now) what o went.to → (next : Record) → IsReply o.engine.history parcel o.site.clock.now next → Turn o next
+  reply-turn o what beat parcel before is p next e = subst (Turn o) (sym e.is) (record {
+    parcel = parcel;
+    is_back = record { addressed = is.holds_reply.addressed; back = is.holds_reply.back };
+    of_run = e.to.sent_back.of_run ∙ sym (ap (λ (h : HistoryView). h.seen.run) p.refuses.0.1) ∙ went.sums.given.run ∙ went.begins.of_run;
+    of_issue = refl;
+    it = e.to.sent_back.it;
+    waiting = e.to.sent_back.waiting;
+    of_agent = e.to.sent_back.of_agent;
+    reads = e.to.read_is.reads;
+    final = e.to.read_is.final;
+    taken_last = hand-since o beat parcel before is.holds_reply.phase;
+  })
+
+  -- and the act on it
+  pub tried-act : (o : World) (beat : ℕ) (parcel : Parcel) (v next : ActuatorView) (needed : ℕ) → FailsToAct beat parcel v next (act_error.Full needed) (past limit.Journal) o went.to → TriedAct o went.to
+  tried-act o beat parcel v next needed is = record {
     beat = beat;
     parcel = parcel;
     in_hand = is.holds_command.phase;
@@ -232,9 +233,23 @@ module _ (start : Start) (old mid : SiteView) (sound : ReadsImages mid) (told : 
     site = is.refuses.site;
     acts = ap (λ (x : ActuatorView). x.acts) is.refuses.view;
     filters = is.filters;
-  })
+  }
 
-  next-so : IsStopped went.to → (o : World) → TriedNext (Turn o) o went.to → NextPasses start old mid
+  tried : (o : World) (what : LimitKind) → Steps went.start o → PassesAt o went.to what → TriedNext (Turn o) o went.to ⊎ TriedAct o went.to
+  tried o what before (by_begin other is p) =
+      inl (tried-next _ (Turn o) other o went.to (begins_now o.engine.history o.site.clock.now) (λ next e. subst (Turn o) (sym e.is) tt) p)
+  tried o what before (by_move other is p) = inl (tried-next _ (Turn o) other o went.to (moves_now o.engine.history o.site.clock.now)
+      (λ next e. of-move start old.link.taken o.site.link.taken o.engine.history.seen o.site.clock.now e.move next e.is (e.move, e.enabled, e.is)) p)
+  tried o what before (by_upgrade other issue told is p) = inl (tried-next _ (Turn o) other o went.to (λ next e. ap moment_of e)
+      (λ next e. subst (Turn o) (sym e) (inr (issue, told, told-at o issue told p.notes is.to_be_told))) p)
+  tried o what before (by_told other issue told is p) = inl (tried-next _ (Turn o) other o went.to (λ next e. ap moment_of e)
+      (λ next e. subst (Turn o) (sym e) (told, told-at o issue told p.notes is.to_be_told, refl, refl)) p)
+  tried o what before (by_expire other issue is p) = inl (tried-next _ (Turn o) other o went.to (λ next e. ap moment_of e)
+      (λ next e. subst (Turn o) (sym e) (idle-at o p.notes is.overdue.untold)) p)
+  tried o what before (by_reply other beat parcel is p) = inl (tried-next _ (Turn o) other o went.to (replies_now o.engine.history parcel o.site.clock.now) (reply-turn o other beat parcel before is p) p)
+  tried o what before (by_act beat parcel v next needed is) = inr (tried-act o beat parcel v next needed is)
+
+  abbrev pub next-so : IsStopped went.to → (o : World) → TriedNext (Turn o) o went.to → NextPasses start old mid
   next-so stopped o t = record {
     could = could-so stopped;
     next = t.next;
@@ -246,7 +261,7 @@ module _ (start : Start) (old mid : SiteView) (sound : ReadsImages mid) (told : 
     passes = some-kind (limit_of went.to.engine.history t.next t.edits) t.what (subst (λ (h : HistoryView). limit_of h t.next t.edits ≡ Some t.what) (sym t.same) t.passes);
   }
 
-  act-so : IsStopped went.to → (o : World) (what : LimitKind) → Steps went.start o → IsRefusal (error.Limit what) went.to → TriedAct o went.to → NextActPasses start old mid
+  pub act-so : IsStopped went.to → (o : World) (what : LimitKind) → Steps went.start o → IsRefusal (error.Limit what) went.to → TriedAct o went.to → NextActPasses start old mid
   act-so stopped o what before is t = record {
     could = could-so stopped;
     begun = λ none. turn.0.may.begun (sym (ap (λ (v : EngineView). v.history.records) t.engine) ∙ none);
@@ -300,7 +315,7 @@ module _ (start : Start) (old mid : SiteView) (sound : ReadsImages mid) (told : 
     late = least-due f.next.at moment f.next.up_to_date.resend f.next.is f.late;
   }
 
-  phase-is : (what : LimitKind) (is : IsRefusal (error.Limit what) went.to) → went.to.phase ≡ refused (past what) is.lacks
+  pub phase-is : (what : LimitKind) (is : IsRefusal (error.Limit what) went.to) → went.to.phase ≡ refused (past what) is.lacks
   phase-is what is = is.phase ∙ ap (λ (c : Cause). refused c is.lacks)
       (cause-past given start.run start.most answers old mid sound told went what is.cause is.is)
 
@@ -309,7 +324,7 @@ module _ (start : Start) (old mid : SiteView) (sound : ReadsImages mid) (told : 
   tried-so stopped what is o before (inr t) = inr (inr (inr (act-so stopped o what before is t)))
 
   stopped-so : IsStopped went.to → (what : LimitKind) → IsRefusal (error.Limit what) went.to → (o : World) → Steps went.start o → PastBy o went.to what → WouldPassSo start old mid
-  stopped-so stopped what is o before (inl late) = inl (late-so late)
+  stopped-so stopped what is o before (inl late) = inl (late-so late.0)
   stopped-so stopped what is o before (inr (inl (moment, f))) = inr (inl (due-so stopped o moment f))
   stopped-so stopped what is o before (inr (inr p)) = tried-so stopped what is o before (tried o what before p)
 

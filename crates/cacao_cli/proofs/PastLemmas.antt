@@ -75,11 +75,11 @@ module _ (given : Given) (run most : ℕ) (answers : List OperatorAnswer) (old m
           ap (λ (n : Notes). n.unsure_act) (full-does-nothing h found.0 found.1).notes
           ∙ none-unsure went.start h.old h.beat h.parcel none-at-start h.before h.fails.holds_command.phase
 
-  sure-acts : (agent : ℕ) (v : ActuatorView) (image : List ℕ) → went.to.notes.unsure_act ≡ None → HoldsActsWithUnsure agent v.acts went.to.notes.unsure_act image → HoldsActs v.acts image
+  pub sure-acts : (agent : ℕ) (v : ActuatorView) (image : List ℕ) → went.to.notes.unsure_act ≡ None → HoldsActsWithUnsure agent v.acts went.to.notes.unsure_act image → HoldsActs v.acts image
   sure-acts agent v image none h = subst (λ (o : Option (ℕ × Act)). HoldsActsWithUnsure agent v.acts o image) none h
 
   -- so each filter's file holds its acts
-  pub stands-there : went.to.notes.unsure_act ≡ None → (agent : ℕ) → 1 ≤ agent → (v : ActuatorView) → slice_get went.to.filters (agent - 1) ≡ Some v
+  abbrev pub stands-there : went.to.notes.unsure_act ≡ None → (agent : ℕ) → 1 ≤ agent → (v : ActuatorView) → slice_get went.to.filters (agent - 1) ≡ Some v
       → HoldsFilter given run most answers old mid sound told went agent
   stands-there none agent low v there =
       let w = went.to in

@@ -87,7 +87,7 @@ performed-memory (Some (decides agent packets)) shelf site same steady = record 
   reads = wanted-before shelf (packet_file packets) [] same steady;
   performs = says-end no_memory site;
 }
-performed-memory (Some (rehearses positions)) shelf site same steady = record { read = Ok []; reads = none-read shelf same steady; performs = record { same = refl; tells = inr (inr (inr refl)) } }
+performed-memory (Some (rehearses positions)) shelf site same steady = record { read = Ok []; reads = none-read shelf same steady; performs = record { same = refl; tells = inr (inr refl) } }
 performed-memory (Some (audits engine filters)) shelf site same steady = record {
   read = Err no_memory;
   reads = wanted-before shelf (journal_file engine) (map (λ (filter : ℕ × Text). journal_file filter.1) filters) same steady;

@@ -19,7 +19,7 @@ use Rattle.slpf_actuator.specs.declared.error.ActError.{ActError}
 use Rattle.slpf_actuator.specs.declared.error.ActError.TheVariants as act_error
 use Rattle.flow_steps.specs.Appends.{HasPassedLimit, Tries}
 use Rattle.flow_steps.specs.Appends.Tries.{done, failed, limited}
-use Rattle.flow_steps.specs.Steps.{FailsToAct, FindsLate, GoesTowards, Step, Steps}
+use Rattle.flow_steps.specs.Steps.{AsksClock, FailsToAct, FindsLate, GoesTowards, OpensClock, Step, Steps}
 use Rattle.flow_steps.specs.Steps.Step.{opens_clock, finds_run_used, asks_clock, finds_late, begins, moves, upgrades, tells, expires, says, fails_to_say}
 use Rattle.flow_steps.specs.Steps.Step.{puts_first, resends, takes, finds_none, fails_to_take, drops, replies, ignores_reply, acts_on, repeats_reply, fails_to_act, wants_memory_now}
 use Rattle.flow_steps.specs.Steps.Steps.{nothing, and_then}
@@ -214,9 +214,13 @@ past-stops a b what lacks first steps at =
 
 -- ---- by which step
 
+-- the clock was asked, at the opening or in a turn
+abbrev pub AsksTime : World → World → Type 0
+AsksTime old new = ((answer : ℕ) × OpensClock answer old new) ⊎ ((moment : ℕ) × (answer : ℕ) × AsksClock moment answer old new)
+
 -- the clock is past the limit, or what comes next is, or a record or an act would pass it
 abbrev pub PastBy : World → World → LimitKind → Type 0
-PastBy old new what = (last_moment < new.site.clock.now) ⊎ (((moment : ℕ) × FindsLate moment old new) ⊎ PassesAt old new what)
+PastBy old new what = ((last_moment < new.site.clock.now) × AsksTime old new) ⊎ (((moment : ℕ) × FindsLate moment old new) ⊎ PassesAt old new what)
 
 same-past : (a b : LimitKind) (x y : Bool) → refused (past a) x ≡ refused (past b) y → a ≡ b
 same-past a b x y e = cc
@@ -247,9 +251,9 @@ module _ (old new : World) (what : LimitKind) (lacks : Bool) (at : new.phase ≡
       same e = cc
 
   step-past : Step old new → PastBy old new what
-  step-past (opens_clock answer is) = inl (late-answer _ answer old new what lacks is.goes at)
+  step-past (opens_clock answer is) = inl (late-answer _ answer old new what lacks is.goes at, inl (answer, is))
   step-past (finds_run_used agent is) = absurd (unlike-cause new.phase (run_used agent) false what lacks (λ e. cc) is.only.phase at)
-  step-past (asks_clock moment answer is) = inl (late-answer moment answer old new what lacks is.goes at)
+  step-past (asks_clock moment answer is) = inl (late-answer moment answer old new what lacks is.goes at, inr (moment, answer, is))
   step-past (finds_late moment is) = inr (inl (moment, is))
   step-past (begins is) = tried-past _ is.tries (λ kind p. by_begin kind is p)
   step-past (moves is) = tried-past _ is.tries (λ kind p. by_move kind is p)

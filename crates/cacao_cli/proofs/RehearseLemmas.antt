@@ -1,5 +1,5 @@
 -- A rehearsal is held on a site of its own, and what came of it is told.
-use Rattle.std.proofs.Common.{◌≡◌, ◌⊎◌, inl, inr, ◌∙◌, refl, sym, ap, subst, arith, ℕ, true, false, List, [], ◌∷◌}
+use Rattle.std.proofs.Common.{◌≡◌, ◌⊎◌, inl, inr, ◌∙◌, refl, sym, ap, subst, arith, ℕ, ◌≤◌, true, false, List, [], ◌∷◌}
 use Rattle.std.specs.Prelude.{nat_eq}
 use Rattle.std.specs.List.{list_any}
 use Rattle.std.proofs.lemmas.Bool.{true≢false}
@@ -21,6 +21,7 @@ use Rattle.rehearsal.specs.Settings.{IsAccepted, IsNewSite}
 use Rattle.rehearsal.specs.declared.error.RehearsalError.{RehearsalError}
 use Rattle.rehearsal.specs.declared.error.RehearsalError.TheVariants as rehearsal_error
 use Rattle.rehearsal.specs.declared.summary.Summary.{Summary}
+use Rattle.rehearsal.proofs.Lengths.{text_short}
 use Rattle.run_reports.proofs.AcceptLemmas.{not-accepted}
 use Rattle.cacao_cli.specs.Ends.{End, accepted, agrees, asked_for, bind_refused, damaged, disagrees, disk_failed, done, ended_failed, ended_ok, flooded, no_memory, no_such_file, not_readable, not_understood}
 use Rattle.cacao_cli.specs.Ends.{other_book, other_run, past, paused, refused, rehearsed, run_used, shelf_failed, status_of, text_of, unsaid, waiting}
@@ -28,7 +29,7 @@ use Rattle.cacao_cli.specs.Exact.{HasRehearsed, IsOneOf, IsRehearsed, run_rehear
 use Rattle.cacao_cli.specs.Holding.{close_end, error_end}
 use Rattle.cacao_cli.specs.Lines.{Tells}
 use Rattle.cacao_cli.specs.OwnSites.{CountsOwn}
-use Rattle.cacao_cli.specs.Rehearsing.{MayEndSo, EndsRun, IsBrokenRehearsal, IsLongRehearsal, RehearsalTo, Rehearses, TellsRehearsal, failed_end}
+use Rattle.cacao_cli.specs.Rehearsing.{MayEndSo, EndsRun, IsBrokenRehearsal, RehearsalTo, Rehearses, TellsRehearsal, failed_end}
 use Rattle.cacao_cli.proofs.EndCases.{eight-is, nine-or-not}
 use Rattle.cacao_cli.proofs.StatusLists.{not-among, session_statuses}
 use Rattle.cacao_cli.proofs.HoldLemmas.{close-eight, close-nine, close-status, error-done, error-eight, error-nine, error-status, refuses-failed, refuses-unsaid, rose-later, went-faults}
@@ -39,16 +40,17 @@ use Rattle.cacao_cli.proofs.UnsaidLemmas.{last-said, last-unsaid}
 
 pub has-summary : (positions : ℕ) (site left : MemorySite) (summary : Summary) → IsNewSite site → GoesByPlan left → Rehearsed positions (view_of site) (view_of left) summary
     → TellsRehearsal positions (rehearsed positions summary.records summary.acts summary.rules)
-has-summary positions site left summary new goes h = inr (inr (inl (record {
+has-summary positions site left summary new goes h = inr (inl (record {
   site = site;
   is_new = new;
   left = left;
   by_plan = goes;
+  short = h.short;
   given = h.given;
   accepted = h.accepted;
   runs = inl (record { summary = summary; well = h.runs; ends = refl });
   may = tt;
-})))
+}))
 
 close-may : (how : Close) → MayClose how → MayEndSo (close_end how)
 close-may (close.Ended true) may = tt
@@ -68,48 +70,50 @@ error-may (refusal.OtherBook index) new = new tt
 error-may (refusal.RunUsed agent) new = new tt
 error-may (refusal.Damaged file place) new = new tt
 
-pub has-failed : (positions : ℕ) (site left : MemorySite) (why : RehearsalError) → IsNewSite site → MayComeOfNew why → EndsByPlan left why → FailsToRehearse positions (view_of site) (view_of left) why → TellsRehearsal positions (failed_end why)
-has-failed positions site left rehearsal_error.TooLong new may goes h = inl (h.long, refl)
-has-failed positions site left (rehearsal_error.Broken broken) new may goes h = inr (inl (broken, (h.short, h.breaks), refl))
-has-failed positions site left (rehearsal_error.Closed how) new may goes h = inr (inr (inl (record {
+pub has-failed : (positions : ℕ) (site left : MemorySite) (why : RehearsalError) → positions ≤ 1000 → IsNewSite site → MayComeOfNew why → EndsByPlan left why → FailsToRehearse positions (view_of site) (view_of left) why → TellsRehearsal positions (failed_end why)
+has-failed positions site left rehearsal_error.TooLong few new may goes h = absurd (omega (arith, h.long, text_short positions few))
+has-failed positions site left (rehearsal_error.Broken broken) few new may goes h = inl (broken, (h.short, h.breaks), refl)
+has-failed positions site left (rehearsal_error.Closed how) few new may goes h = inr (inl (record {
   site = site;
   is_new = new;
   left = left;
   by_plan = goes;
+  short = h.short;
   given = h.given;
   accepted = h.accepted;
   runs = inr (inl (record { how = how; closes = h.fails; ends = refl }));
   may = close-may how may;
-})))
-has-failed positions site left (rehearsal_error.Refused why) new may goes h = inr (inr (inl (record {
+}))
+has-failed positions site left (rehearsal_error.Refused why) few new may goes h = inr (inl (record {
   site = site;
   is_new = new;
   left = left;
   by_plan = goes;
+  short = h.short;
   given = h.given;
   accepted = h.accepted;
   runs = inr (inr (inl (record { why = why; refuses = h.fails; ends = refl })));
   may = error-may why may;
-})))
-has-failed positions site left rehearsal_error.Disk new may goes h = inr (inr (inl (record {
+}))
+has-failed positions site left rehearsal_error.Disk few new may goes h = inr (inl (record {
   site = site;
   is_new = new;
   left = left;
   by_plan = goes;
+  short = h.short;
   given = h.given;
   accepted = h.accepted;
   runs = inr (inr (inr (record { fails = h.fails; ends = refl })));
   may = tt;
-})))
-has-failed positions site left rehearsal_error.Memory new may goes h = inr (inr (inr refl))
+}))
+has-failed positions site left rehearsal_error.Memory few new may goes h = inr (inr refl)
 
 -- ---- which status comes
 
 tells-rehearsed : (positions : ℕ) (last : End) (n : ℕ) → TellsRehearsal positions last → n ≡ status_of last → HasRehearsed positions n ⊎ IsCutOff n
-tells-rehearsed positions last n (inl h) e = inl (inl (h.0, e ∙ ap status_of h.1))
-tells-rehearsed positions last n (inr (inl h)) e = inl (inr (inl ((h.0, h.1), e ∙ ap status_of h.2)))
-tells-rehearsed positions last n (inr (inr (inl h))) e = inl (inr (inr (record { last = last; came = h; is = e })))
-tells-rehearsed positions last n (inr (inr (inr is))) e = inr (inr (inl (e ∙ ap status_of is)))
+tells-rehearsed positions last n (inl h) e = inl (inl ((h.0, h.1), e ∙ ap status_of h.2))
+tells-rehearsed positions last n (inr (inl h)) e = inl (inr (record { last = last; came = h; is = e }))
+tells-rehearsed positions last n (inr (inr is)) e = inr (inr (inl (e ∙ ap status_of is)))
 
 pub rehearses-comes : (positions : ℕ) (old mid new : SiteView) (last : End) (answer : ℕ) → Rehearses positions old mid last → Tells last mid new answer → HasRehearsed positions answer ⊎ IsCutOff answer
 rehearses-comes positions old mid new last answer h tells = go (tells-status last mid new answer tells)
@@ -179,10 +183,9 @@ pub ran-listed : (positions : ℕ) (n : ℕ) → IsRehearsed positions n → IsO
 ran-listed positions n h = subst (λ (m : ℕ). IsOneOf m run_rehearsal_statuses) (sym h.is)
     (left-over (status_of h.last) (run-listed positions h.came.given (view_of h.came.site) (view_of h.came.left) h.last h.came.runs) (not-among (status_of h.last) left-out (may-status h.last h.came.may)))
 
-pub rehearsed-other : (positions n m : ℕ) → HasRehearsed positions n → n ≡ m → (11 ≡ m → ⊥) → (1 ≡ m → ⊥) → list_any (nat_eq m) session_statuses ≡ false → ⊥
-rehearsed-other positions n m (inl h) e a b none = a (sym h.1 ∙ e)
-rehearsed-other positions n m (inr (inl h)) e a b none = b (sym h.1 ∙ e)
-rehearsed-other positions n m (inr (inr h)) e a b none = not-among m session_statuses none (subst (λ (k : ℕ). IsOneOf k session_statuses) e (rehearsed-listed positions n h))
+pub rehearsed-other : (positions n m : ℕ) → HasRehearsed positions n → n ≡ m → (1 ≡ m → ⊥) → list_any (nat_eq m) session_statuses ≡ false → ⊥
+rehearsed-other positions n m (inl h) e b none = b (sym h.1 ∙ e)
+rehearsed-other positions n m (inr h) e b none = not-among m session_statuses none (subst (λ (k : ℕ). IsOneOf k session_statuses) e (rehearsed-listed positions n h))
 
 not-done : (how : Close) → is_well how ≡ false → status_of (close_end how) ≡ 0 → ⊥
 not-done (close.Ended true) other e = true≢false other
@@ -213,35 +216,23 @@ broken-accepted positions h given a = not-accepted (rehearsal_text positions ∷
     no-broken : setup_error.Broken h.0 ≡ setup_error.Memory → ⊥
     no-broken e = cc
 
-pub long-broken : (positions : ℕ) → IsLongRehearsal positions → IsBrokenRehearsal positions → ⊥
-long-broken positions long h = omega (arith, long, h.1.0)
-
 module _ (positions n : ℕ) where
   pub rehearsed-broken : HasRehearsed positions n → n ≡ 1 → IsBrokenRehearsal positions
-  rehearsed-broken (inl h) e = absurd (omega (arith, e, h.1))
-  rehearsed-broken (inr (inl h)) e = h.0
-  rehearsed-broken (inr (inr h)) e = absurd (not-among 1 session_statuses refl (subst (λ (k : ℕ). IsOneOf k session_statuses) e (rehearsed-listed positions n h)))
+  rehearsed-broken (inl h) e = h.0
+  rehearsed-broken (inr h) e = absurd (not-among 1 session_statuses refl (subst (λ (k : ℕ). IsOneOf k session_statuses) e (rehearsed-listed positions n h)))
 
   pub broken-rehearsed : HasRehearsed positions n → IsBrokenRehearsal positions → n ≡ 1
-  broken-rehearsed (inl h) b = absurd (long-broken positions h.0 b)
-  broken-rehearsed (inr (inl h)) b = h.1
-  broken-rehearsed (inr (inr h)) b = absurd (broken-accepted positions b h.came.given h.came.accepted)
+  broken-rehearsed (inl h) b = h.1
+  broken-rehearsed (inr h) b = absurd (broken-accepted positions b h.came.given h.came.accepted)
 
   -- the status of a playbook that ran, wherever else it may run
   pub rehearsal-listed : HasRehearsed positions n → (last : End) → RehearsalTo positions last → IsOneOf n run_rehearsal_statuses
-  rehearsal-listed (inl h) last r = inr (inr (inr (inr (inr (inl h.1)))))
-  rehearsal-listed (inr (inl h)) last r = absurd (broken-accepted positions h.0 r.given r.accepted)
-  rehearsal-listed (inr (inr h)) last r = ran-listed positions n h
+  rehearsal-listed (inl h) last r = absurd (broken-accepted positions h.0 r.given r.accepted)
+  rehearsal-listed (inr h) last r = ran-listed positions n h
 
-  pub long-listed : HasRehearsed positions n → IsLongRehearsal positions → IsOneOf n run_rehearsal_statuses
-  long-listed (inl h) long = inr (inr (inr (inr (inr (inl h.1)))))
-  long-listed (inr (inl h)) long = absurd (long-broken positions long h.0)
-  long-listed (inr (inr h)) long = ran-listed positions n h
-
-  pub rehearsed-ran : HasRehearsed positions n → (n ≡ 11 → ⊥) → (n ≡ 1 → ⊥) → IsRehearsed positions n
-  rehearsed-ran (inl h) a b = absurd (a h.1)
-  rehearsed-ran (inr (inl h)) a b = absurd (b h.1)
-  rehearsed-ran (inr (inr h)) a b = h
+  pub rehearsed-ran : HasRehearsed positions n → (n ≡ 1 → ⊥) → IsRehearsed positions n
+  rehearsed-ran (inl h) b = absurd (b h.1)
+  rehearsed-ran (inr h) b = h
 
 -- ---- the counts
 
@@ -252,11 +243,10 @@ pub rehearses-said : (positions : ℕ) (old mid new : SiteView) (last : End) (an
 rehearses-said positions old mid new last answer h tells unlike = last-said last (text_of last) mid new answer tells unlike ∙ ap (λ (s : SiteView). s.clock.unsaid) h.same
 
 -- what has this status is told of a run
-ran : (positions : ℕ) (last : End) → TellsRehearsal positions last → (status_of last ≡ 11 → ⊥) → (status_of last ≡ 1 → ⊥) → (status_of last ≡ 10 → ⊥) → RehearsalTo positions last
-ran positions last (inl h) a b c = absurd (a (ap status_of h.1))
-ran positions last (inr (inl h)) a b c = absurd (b (ap status_of h.2))
-ran positions last (inr (inr (inl h))) a b c = h
-ran positions last (inr (inr (inr is))) a b c = absurd (c (ap status_of is))
+ran : (positions : ℕ) (last : End) → TellsRehearsal positions last → (status_of last ≡ 1 → ⊥) → (status_of last ≡ 10 → ⊥) → RehearsalTo positions last
+ran positions last (inl h) b c = absurd (b (ap status_of h.2))
+ran positions last (inr (inl h)) b c = h
+ran positions last (inr (inr is)) b c = absurd (c (ap status_of is))
 
 rose-next : (n m : ℕ) → m ≡ next_count n → Rose n m
 rose-next n m e = omega (arith, e)
@@ -298,7 +288,7 @@ rehearses-unsaid positions old mid new last answer h tells e = go (nine-or-not l
   where
     go : (last ≡ unsaid) ⊎ (status_of last ≡ 9 → ⊥) → Rose old.clock.unsaid new.clock.unsaid ⊎ CountsOwn positions unsaid (λ (s : SiteView). s.clock.unsaid)
     go (inl is) = let k : status_of last ≡ 9 = ap status_of is in
-        inr (counts-unsaid positions (subst (RehearsalTo positions) is (ran positions last h.tells (λ f. omega (arith, k, f)) (λ f. omega (arith, k, f)) (λ f. omega (arith, k, f)))))
+        inr (counts-unsaid positions (subst (RehearsalTo positions) is (ran positions last h.tells (λ f. omega (arith, k, f)) (λ f. omega (arith, k, f)))))
     go (inr other) = inl (rose-next old.clock.unsaid new.clock.unsaid (last-unsaid last (text_of last) mid new answer other tells e ∙ ap (λ (s : SiteView). next_count s.clock.unsaid) h.same))
 
 pub rehearses-failed : (positions : ℕ) (old mid new : SiteView) (last : End) (answer : ℕ) → Rehearses positions old mid last → Tells last mid new answer → answer ≡ 8
@@ -307,7 +297,7 @@ rehearses-failed positions old mid new last answer h tells e = go (tells-status 
   where
     go : (answer ≡ status_of last) ⊎ IsCutOff answer → CountsOwn positions disk_failed (λ (s : SiteView). s.disk.faults)
     go (inl is) = let k : status_of last ≡ 8 = sym is ∙ e in
-        counts-fault positions (subst (RehearsalTo positions) (eight-is last k) (ran positions last h.tells (λ f. omega (arith, k, f)) (λ f. omega (arith, k, f)) (λ f. omega (arith, k, f))))
+        counts-fault positions (subst (RehearsalTo positions) (eight-is last k) (ran positions last h.tells (λ f. omega (arith, k, f)) (λ f. omega (arith, k, f))))
     go (inr (inl f)) = absurd (omega (arith, e, f))
     go (inr (inr (inl f))) = absurd (omega (arith, e, f))
     go (inr (inr (inr f))) = absurd f

@@ -13,14 +13,17 @@ use Rattle.cacao_cli.specs.Holding.{ClosesSo, HoldsSession, RefusesSo}
 use Rattle.cacao_cli.specs.Lines.{SaysAtMostALine, Tells}
 use Rattle.cacao_cli.specs.Returning.{ReturnsSo, TellsOnReturn}
 use Rattle.cacao_cli.specs.Work.{Start, Work, ends, starts, start_of, work}
+use Rattle.cacao_cli.proofs.AlikeLemmas.{alike-behind, returns-there}
 use Rattle.cacao_cli.proofs.BudgetLemmas.{HasBudget}
+use Rattle.cacao_cli.proofs.CameLemmas.{run-acted}
 use Rattle.cacao_cli.proofs.ExactLemmas.{failed-status, if-told, performs-comes, seen-read}
 use Rattle.cacao_cli.proofs.JudgedLemmas.{refused-accepted}
 use Rattle.cacao_cli.proofs.LineLemmas.{IsCutOff, tells-status}
 use Rattle.cacao_cli.proofs.ReadLemmas.{Fails}
-use Rattle.cacao_cli.proofs.ReturnCases.{closed, refused-so}
+use Rattle.cacao_cli.proofs.ReturnCloses.{closed}
 use Rattle.cacao_cli.proofs.ReturnedRuns.{ReadsImages, sound-reads}
-use Rattle.cacao_cli.proofs.ReturnTells.{alike-behind, cut, fault-returns, faulty, none-accepted, returns-there}
+use Rattle.cacao_cli.proofs.ReturnRefusals.{refused-so}
+use Rattle.cacao_cli.proofs.ReturnTells.{cut, fault-returns, faulty, none-accepted}
 use Rattle.cacao_cli.proofs.StartLemmas.{tells-line}
 use Rattle.cacao_cli.proofs.WithinLemmas.{Keeps, keeps-behind, run-keeps}
 use Rattle.cacao_cli.proofs.StatusRuns.{RunCase, long-texts, missing-texts, no-texts, run_case, run_long, run_many, run_missing, run_starts, run_treeless, same-texts}
@@ -82,6 +85,7 @@ returns-ended (Some (checks books)) shelf old mid new last answer some sound p t
 returns-ended (Some (runs wanted)) shelf old mid new last answer some sound p tells = λ told. (
   (keeps told).0,
   (keeps told).1,
+  λ one. run-acted wanted p.read last old mid new answer sound (told-before mid new (tells-line last mid new answer tells) told) p.performs tells one,
   if-told (files_of (Some (runs wanted))) shelf.told _ (λ files seen. λ texts has.
       go told files texts has (seen-read shelf.told (files_of (Some (runs wanted))) files p.reads.count p.read seen p.reads.reads)),
 )

@@ -24,7 +24,7 @@ use Rattle.flow_world.specs.declared.close.Close.TheVariants as close
 use Rattle.session_laws.specs.Ends.{IsInTurn}
 use Rattle.session_laws.specs.Returned.{ReadsAsRun}
 use Rattle.session_laws.proofs.Returning.{reads_as_one_run}
-use Rattle.cacao_cli.specs.Returning.{AsksSo, CanGoOn, FloodsSo, ReadsSo, TurnTells}
+use Rattle.cacao_cli.specs.Returning.{AsksSo, CanGoOn, FloodsSo, PassesIdle, PassesInHand, ReadsSo, TurnTells}
 use Rattle.cacao_cli.specs.Work.{Start}
 use Rattle.cacao_cli.proofs.FloodLemmas.{flooded-exactly, hand-empty, same-not}
 use Rattle.cacao_cli.proofs.ReturnedRuns.{ReadsImages, gained-many, reads-run, sure-holds, sure-records}
@@ -33,19 +33,20 @@ use Rattle.cacao_cli.proofs.WaitLemmas.{looked-going, looked-not, waits-idle}
 
 -- ---- by the status
 
-pub turns-past : (start : Start) (old mid : SiteView) (answer : ℕ) → answer ≡ 11 → TurnTells start old mid answer
-turns-past start old mid answer is = record {
+pub turns-past : (start : Start) (old mid : SiteView) (answer : ℕ) → answer ≡ 11 → (AsksSo start old mid → PassesIdle start old mid)
+    → (FloodsSo start old mid → IsSome old.link.taken → PassesInHand start old mid) → TurnTells start old mid answer
+turns-past start old mid answer is idle hand = record {
   may = λ m. inr (inr (behind-faults answer (11 ∷ 13 ∷ 14 ∷ []) (inl is)));
-  asks = λ a le. inr (inr (behind-faults answer (11 ∷ 13 ∷ []) (inl is)));
+  asks = λ a le. inr (is, idle a);
   moves = λ m some. inl is;
   late = λ a lt. inl is;
-  floods = λ f some. inr (behind-faults answer (11 ∷ []) (inl is));
+  floods = λ f some. inr (is, hand f some);
 }
 
 pub turns-damaged : (start : Start) (old mid : SiteView) (answer : ℕ) → answer ≡ 13 → mid.link.taken ≡ old.link.taken → TurnTells start old mid answer
 turns-damaged start old mid answer is same = record {
   may = λ m. inr (inr (behind-faults answer (11 ∷ 13 ∷ 14 ∷ []) (inr (inl is))));
-  asks = λ a le. inr (inr (behind-faults answer (11 ∷ 13 ∷ []) (inr (inl is))));
+  asks = λ a le. inl (inr (inr (behind-faults answer (13 ∷ []) (inl is))));
   moves = λ m some. inr (inr (behind-faults answer (13 ∷ []) (inl is)));
   late = λ a lt. inr (behind-faults answer (12 ∷ 13 ∷ []) (inr (inl is)));
   floods = λ f some. absurd (same-not start old mid same f some);
@@ -158,10 +159,10 @@ module _ (start : Start) (old mid : SiteView) (sound : ReadsImages mid) (told : 
   pub turns-flooded : (answer : ℕ) → answer ≡ 15 → IsClose close.Flooded went.to → TurnTells start old mid answer
   turns-flooded answer is c = record {
     may = λ m. inl is;
-    asks = λ a le. inr (inl is);
+    asks = λ a le. inl (inr (inl is));
     moves = λ m some. inr (inl is);
     late = λ a lt. let within = within-rests c.phase in absurd (omega (arith, within, lt));
-    floods = λ f some. inl is;
+    floods = λ f some. inl (inl is);
   }
 
   moves-not : enabled_move went.to.engine.history.seen mid.clock.now ≡ None → (m : CanGoOn start old mid) → enabled_move m.goes_on.seen mid.clock.now ≢ None → ⊥
@@ -175,7 +176,7 @@ module _ (start : Start) (old mid : SiteView) (sound : ReadsImages mid) (told : 
   pub turns-asked : (answer issue : ℕ) → answer ≡ 16 → IsClose (close.Asked issue) went.to → AreFiltersSure went.to → IsInTurn went.to → TurnTells start old mid answer
   turns-asked answer issue is c filters turn = record {
     may = λ m. inr (inl is);
-    asks = λ a le. inl is;
+    asks = λ a le. inl (inl is);
     moves = λ m some. absurd (moves-not (subst (λ (n : ℕ). enabled_move went.to.engine.history.seen n ≡ None) now-is c.untold.idle.no_move) m some);
     late = λ a lt. let within = within-looked c.untold.idle.has_looked.phase in absurd (omega (arith, within, lt));
     floods = λ f some. absurd (calm-not filters

@@ -6,14 +6,16 @@ use Rattle.cacao_site.specs.View.{SiteView}
 use Rattle.cacao_cli.specs.Ends.{End, status_of}
 use Rattle.cacao_cli.specs.Exact.{IsOneOf, statuses_beside}
 use Rattle.cacao_cli.specs.Holding.{CameTo, IsAcceptedStart}
-use Rattle.cacao_cli.specs.Returning.{CouldAppend, FindsFirstUsed, HasDamagedFilter, ReadsAsAnother, ReadsAsDamaged, ReadsTooLarge, ReturnsSo, WouldPassSo, or_any}
+use Rattle.cacao_cli.specs.Returning.{AsksSo, CouldAppend, FindsFirstUsed, HasDamagedFilter, IsLateSo, NextActPasses, PassesInHand, ReadsAsAnother, ReadsAsDamaged, ReadsTooLarge, ReturnsSo, WouldPassSo, or_any}
 use Rattle.cacao_cli.specs.Work.{Start}
+use Rattle.cacao_cli.proofs.ApartLemmas.{act-not, asked-past, flooded-apart}
+use Rattle.cacao_cli.proofs.CameLemmas.{came-acted, came-told}
 use Rattle.cacao_cli.proofs.HoldLemmas.{holds-status}
 use Rattle.cacao_cli.proofs.JudgedLemmas.{came-accepted}
 use Rattle.cacao_cli.proofs.ReturnLemmas.{session-returns}
-use Rattle.cacao_cli.proofs.ReturnTells.{besides, faults, reaching}
+use Rattle.cacao_cli.proofs.ReturnTells.{besides, closing, faults, reaching}
 use Rattle.cacao_cli.proofs.ReturnedRuns.{ReadsImages, reads-before}
-use Rattle.cacao_cli.proofs.StatusLists.{apart-lists, are_apart, not-among, parcel_statuses, session_statuses, widen}
+use Rattle.cacao_cli.proofs.StatusLists.{apart-lists, are_among, are_apart, not-among, parcel_statuses, session_statuses, widen}
 
 -- the statuses that the files and the clock settle
 abbrev pub settled : List ℕ
@@ -187,23 +189,64 @@ module _ (start : Start) (old new : SiteView) (images : ReadsImages new) (told :
       go (inr (inr (inr (inr (inr (inr (inr (inr (inr (inr (inr (inl e)))))))))))) = inr (inr (inr (inr (inr (inr (inl e))))))
       go (inr (inr (inr (inr (inr (inr (inr (inr (inr (inr (inr (inr none)))))))))))) = absurd none
 
-  -- where the parcels taken are told, one more that changed nothing and a question exclude each other
+  -- ---- where the parcels taken are told
+
+  asked-one : (b : End) → status_of b ≡ 16 → IsOneOf (status_of b) closing
+  asked-one b e = inr (inr (inr (inr (inr (inl e)))))
+
+  flooded-one : (b : End) → status_of b ≡ 15 → IsOneOf (status_of b) closing
+  flooded-one b e = inr (inr (inr (inr (inl e))))
+
+  -- a flooded session and a question exclude each other
   flooded-not-asked : (a b : End) → CameTo start a old new → CameTo start b old new → IsSome old.link.taken → status_of a ≡ 15 → status_of b ≡ 16 → ⊥
-  flooded-not-asked a b p q taken e f = apart (status_of b) 16 (15 ∷ or_any (11 ∷ [])) refl f ((returns-of b q).of_turn.floods ((returns-of a p).of_status.floods e) taken)
+  flooded-not-asked a b p q taken e f = go ((returns-of b q).of_turn.floods ((returns-of a p).of_status.floods e).0 taken)
+    where
+      go : IsOneOf (status_of b) (15 ∷ or_any []) ⊎ ((status_of b ≡ 11) × PassesInHand start old new) → ⊥
+      go (inl one) = apart (status_of b) 16 (15 ∷ or_any []) refl f one
+      go (inr h) = let past = h.0 in omega (arith, past, f)
+
+  -- so do what would pass a limit and a question
+  past-not-asked : (a b : End) → CameTo start a old new → CameTo start b old new → IsSome old.link.taken → status_of a ≡ 11 → status_of b ≡ 16 → ⊥
+  past-not-asked a b p q taken e f = go ((returns-of a p).of_status.past e)
+    where
+      asked : AsksSo start old new
+      asked = (returns-of b q).of_status.asks f
+
+      by : IsLateSo start new ⊎ NextActPasses start old new → ⊥
+      by (inl late) = apart (status_of b) 16 (11 ∷ or_any (12 ∷ 13 ∷ [])) refl f ((returns-of b q).of_turn.late accepted late.late)
+      by (inr act) = act-not start old new taken (came-told start old new images told b q (asked-one b f) taken) (came-acted start old new images told b q (asked-one b f)) act
+
+      go : ReadsTooLarge start new ⊎ WouldPassSo start old new → ⊥
+      go (inl large) = apart (status_of b) 16 (11 ∷ faults) refl f ((returns-of b q).of_file.too_large large)
+      go (inr would) = by (asked-past start old new asked would)
+
+  -- and what would pass a limit and a flooded session
+  past-not-flooded : (a b : End) → CameTo start a old new → CameTo start b old new → IsSome old.link.taken → status_of a ≡ 11 → status_of b ≡ 15 → ⊥
+  past-not-flooded a b p q taken e f = go ((returns-of a p).of_turn.floods ((returns-of b q).of_status.floods f).0 taken)
+    where
+      go : IsOneOf (status_of a) (15 ∷ or_any []) ⊎ ((status_of a ≡ 11) × PassesInHand start old new) → ⊥
+      go (inl one) = apart (status_of a) 11 (15 ∷ or_any []) refl e one
+      go (inr h) = flooded-apart start old new taken (came-told start old new images told b q (flooded-one b f) taken) (came-acted start old new images told b q (flooded-one b f))
+          (((returns-of b q).of_status.floods f).1 taken) h.1
 
   but : (n m : ℕ) (ms : List ℕ) → (n ≡ m → ⊥) → IsOneOf n (m ∷ ms) → IsOneOf n ms
   but n m ms not (inl e) = absurd (not e)
   but n m ms not (inr h) = h
 
-  pub stands-11 : (t : Bool) → status_of first ≡ 11 → IsOneOf (status_of last) (11 ∷ 3 ∷ 8 ∷ 9 ∷ 10 ∷ statuses_beside true t 11)
-  stands-11 t e = widen (status_of last) (3 ∷ 8 ∷ 9 ∷ 10 ∷ parcel_statuses) (11 ∷ 3 ∷ 8 ∷ 9 ∷ 10 ∷ 15 ∷ 16 ∷ []) refl (stands-by-parcels (inl e))
+  -- none of these stands for another where they are told
+  alone : (m k j : ℕ) → are_among (3 ∷ 8 ∷ 9 ∷ 10 ∷ parcel_statuses) (k ∷ j ∷ m ∷ 3 ∷ 8 ∷ 9 ∷ 10 ∷ []) ≡ true → IsOneOf (status_of first) parcel_statuses
+      → (status_of last ≡ k → ⊥) → (status_of last ≡ j → ⊥) → IsOneOf (status_of last) (m ∷ 3 ∷ 8 ∷ 9 ∷ 10 ∷ [])
+  alone m k j all one not nor = but (status_of last) j (m ∷ 3 ∷ 8 ∷ 9 ∷ 10 ∷ []) nor (but (status_of last) k (j ∷ m ∷ 3 ∷ 8 ∷ 9 ∷ 10 ∷ []) not
+      (widen (status_of last) (3 ∷ 8 ∷ 9 ∷ 10 ∷ parcel_statuses) (k ∷ j ∷ m ∷ 3 ∷ 8 ∷ 9 ∷ 10 ∷ []) all (stands-by-parcels one)))
+
+  pub stands-11 : (t : Bool) → is_some old.link.taken ≡ t → status_of first ≡ 11 → IsOneOf (status_of last) (11 ∷ 3 ∷ 8 ∷ 9 ∷ 10 ∷ statuses_beside true t 11)
+  stands-11 true taken e = alone 11 15 16 refl (inl e) (λ f. past-not-flooded first last came other taken e f) (λ f. past-not-asked first last came other taken e f)
+  stands-11 false taken e = widen (status_of last) (3 ∷ 8 ∷ 9 ∷ 10 ∷ parcel_statuses) (11 ∷ 3 ∷ 8 ∷ 9 ∷ 10 ∷ 15 ∷ 16 ∷ []) refl (stands-by-parcels (inl e))
 
   pub stands-15 : (t : Bool) → is_some old.link.taken ≡ t → status_of first ≡ 15 → IsOneOf (status_of last) (15 ∷ 3 ∷ 8 ∷ 9 ∷ 10 ∷ statuses_beside true t 15)
-  stands-15 true taken e = but (status_of last) 16 (15 ∷ 3 ∷ 8 ∷ 9 ∷ 10 ∷ 11 ∷ []) (λ f. flooded-not-asked first last came other taken e f)
-      (widen (status_of last) (3 ∷ 8 ∷ 9 ∷ 10 ∷ parcel_statuses) (16 ∷ 15 ∷ 3 ∷ 8 ∷ 9 ∷ 10 ∷ 11 ∷ []) refl (stands-by-parcels (inr (inl e))))
+  stands-15 true taken e = alone 15 11 16 refl (inr (inl e)) (λ f. past-not-flooded last first other came taken f e) (λ f. flooded-not-asked first last came other taken e f)
   stands-15 false taken e = widen (status_of last) (3 ∷ 8 ∷ 9 ∷ 10 ∷ parcel_statuses) (15 ∷ 3 ∷ 8 ∷ 9 ∷ 10 ∷ 11 ∷ 16 ∷ []) refl (stands-by-parcels (inr (inl e)))
 
   pub stands-16 : (t : Bool) → is_some old.link.taken ≡ t → status_of first ≡ 16 → IsOneOf (status_of last) (16 ∷ 3 ∷ 8 ∷ 9 ∷ 10 ∷ statuses_beside true t 16)
-  stands-16 true taken e = but (status_of last) 15 (16 ∷ 3 ∷ 8 ∷ 9 ∷ 10 ∷ 11 ∷ []) (λ f. flooded-not-asked last first other came taken f e)
-      (widen (status_of last) (3 ∷ 8 ∷ 9 ∷ 10 ∷ parcel_statuses) (15 ∷ 16 ∷ 3 ∷ 8 ∷ 9 ∷ 10 ∷ 11 ∷ []) refl (stands-by-parcels (inr (inr (inl e)))))
+  stands-16 true taken e = alone 16 11 15 refl (inr (inr (inl e))) (λ f. past-not-asked last first other came taken f e) (λ f. flooded-not-asked last first other came taken f e)
   stands-16 false taken e = widen (status_of last) (3 ∷ 8 ∷ 9 ∷ 10 ∷ parcel_statuses) (16 ∷ 3 ∷ 8 ∷ 9 ∷ 10 ∷ 11 ∷ 15 ∷ []) refl (stands-by-parcels (inr (inr (inl e))))

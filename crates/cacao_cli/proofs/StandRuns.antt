@@ -110,6 +110,11 @@ place-fault n k disk ms full h = go h
 -- ---- two sessions of one call
 
 module _ (start : Start) (old new : SiteView) (images : ReadsImages new) (some : 1 ≤ start.most) (first : End) (came : CameTo start first old new) (n : ℕ) (is : IsSettled start old new n) where
+  -- nothing stands beside what the files and the clock settle
+  settles : (t : Bool) (k : ℕ) → statuses_beside true false k ≡ [] → IsOneOf n (k ∷ 3 ∷ 8 ∷ 9 ∷ 10 ∷ []) → IsOneOf n (k ∷ 3 ∷ 8 ∷ 9 ∷ 10 ∷ statuses_beside true t k)
+  settles true k none h = h
+  settles false k none h = subst (λ (ms : List ℕ). IsOneOf n (k ∷ 3 ∷ 8 ∷ 9 ∷ 10 ∷ ms)) (sym none) h
+
   told-stands : IsTrue new.disk.told → (t : Bool) → is_some old.link.taken ≡ t → IsOneOf (status_of first) settling → IsOneOf n (status_of first ∷ 3 ∷ 8 ∷ 9 ∷ 10 ∷ statuses_beside true t (status_of first))
   told-stands told t taken one = go one
     where
@@ -125,13 +130,13 @@ module _ (start : Start) (old new : SiteView) (images : ReadsImages new) (some :
       other k h = subst (λ (m : ℕ). IsOneOf m (k ∷ 3 ∷ 8 ∷ 9 ∷ 10 ∷ statuses_beside true t k)) (sym is.is) h
 
       go : IsOneOf (status_of first) settling → IsOneOf n (status_of first ∷ 3 ∷ 8 ∷ 9 ∷ 10 ∷ statuses_beside true t (status_of first))
-      go (inl e) = at 0 e (by-files 0 e (inl refl))
-      go (inr (inl e)) = at 6 e (by-files 6 e (inr (inl refl)))
-      go (inr (inr (inl e))) = at 7 e (by-files 7 e (inr (inr (inl refl))))
-      go (inr (inr (inr (inl e)))) = at 12 e (by-files 12 e (inr (inr (inr (inl refl)))))
-      go (inr (inr (inr (inr (inl e))))) = at 13 e (by-files 13 e (inr (inr (inr (inr (inl refl))))))
-      go (inr (inr (inr (inr (inr (inl e)))))) = at 14 e (by-files 14 e (inr (inr (inr (inr (inr (inl refl)))))))
-      go (inr (inr (inr (inr (inr (inr (inl e))))))) = at 11 e (other 11 (stands-11 start old new images told some first is.last came is.came t e))
+      go (inl e) = at 0 e (settles t 0 refl (by-files 0 e (inl refl)))
+      go (inr (inl e)) = at 6 e (settles t 6 refl (by-files 6 e (inr (inl refl))))
+      go (inr (inr (inl e))) = at 7 e (settles t 7 refl (by-files 7 e (inr (inr (inl refl)))))
+      go (inr (inr (inr (inl e)))) = at 12 e (settles t 12 refl (by-files 12 e (inr (inr (inr (inl refl))))))
+      go (inr (inr (inr (inr (inl e))))) = at 13 e (settles t 13 refl (by-files 13 e (inr (inr (inr (inr (inl refl)))))))
+      go (inr (inr (inr (inr (inr (inl e)))))) = at 14 e (settles t 14 refl (by-files 14 e (inr (inr (inr (inr (inr (inl refl))))))))
+      go (inr (inr (inr (inr (inr (inr (inl e))))))) = at 11 e (other 11 (stands-11 start old new images told some first is.last came is.came t taken e))
       go (inr (inr (inr (inr (inr (inr (inr (inl e)))))))) = at 15 e (other 15 (stands-15 start old new images told some first is.last came is.came t taken e))
       go (inr (inr (inr (inr (inr (inr (inr (inr (inl e))))))))) = at 16 e (other 16 (stands-16 start old new images told some first is.last came is.came t taken e))
       go (inr (inr (inr (inr (inr (inr (inr (inr (inr none))))))))) = absurd none

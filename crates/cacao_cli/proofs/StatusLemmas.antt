@@ -14,7 +14,7 @@ use Rattle.cacao_cli.specs.Ends.{End, done, accepted, no_such_file, past, asked_
 use Rattle.cacao_cli.specs.Files.{File, Files, NamedText, ShelfCall, files_of, packet_file, has_too_many, reading}
 use Rattle.cacao_cli.specs.Work.{Work, ends, judges, opens_filter, opens_run, compares, rehearsals, at_decisions, or_end, canon_line, work, work_on, starts, packets_in, packets_or_end, trees_of}
 use Rattle.cacao_cli.specs.Ended.{Ended}
-use Rattle.cacao_cli.specs.Exact.{IsOneOf, ComesExactly, ComesFor, IfFilesTold, IfTold, HasStatus, statuses_beside, file_faults, faults_of, disk_failed_if_full, stands_for}
+use Rattle.cacao_cli.specs.Exact.{IsOneOf, ComesExactly, ComesFor, IfFilesTold, IfTold, HasStatus, statuses_beside, file_faults, faults_of, disk_failed_if_full, run_rehearsal_statuses, stands_for}
 use Rattle.cacao_cli.specs.Causes.{FindsDisagreement, IsMissing, IsTooLong, IsUnreadable, IsPastLimit, NamesTooMuch, IsRefused, CanBeDone, FindsItDamaged, EndsAs, EndsAsAnother, EndsAsAsked, EndsAsWaiting, HasTexts}
 use Rattle.cacao_cli.specs.declared.limit.Limit.TheVariants.{BookCount}
 use Rattle.cacao_cli.proofs.BudgetLemmas.{HasBudget}
@@ -24,12 +24,12 @@ use Rattle.cacao_cli.proofs.CountLemmas.{understood-ended, not_understood-ended}
 use Rattle.cacao_cli.proofs.ExactLemmas.{Comes, status-seen, status-told, if-told, if-asked}
 use Rattle.cacao_cli.proofs.RunLemmas.{damaged-run, done-run, large-run, run-damaged, run-done, run-large, shown-other}
 use Rattle.cacao_cli.proofs.EndCases.{IsPlainEnd, session-end, session_only}
-use Rattle.cacao_cli.proofs.StatusLists.{not-among}
+use Rattle.cacao_cli.proofs.StatusLists.{not-among, widen}
 use Rattle.cacao_cli.proofs.ReadLemmas.{Read as WasRead}
 use Rattle.cacao_cli.proofs.ReturnedRuns.{ReadsImages}
 use Rattle.cacao_cli.proofs.PacketLemmas.{PacketWork, packet_work, packet_work_case, is_missing, is_too_long, is_bad, is_read, long-apart}
 use Rattle.cacao_cli.proofs.StatusKinds.{Called, FileStatuses, ToldStatuses, SessionEnds, SessionStatuses}
-use Rattle.cacao_cli.proofs.StatusPlain.{canon-statuses, check-by, check-statuses, filter-files, filter-done, done-filter, filter-damaged, damaged-filter, filter-past, decide-files, decide-told, list, audit-statuses, rehearse-files, rehearse-told, rehearse-session}
+use Rattle.cacao_cli.proofs.StatusPlain.{canon-statuses, check-by, check-statuses, filter-files, filter-done, done-filter, filter-damaged, damaged-filter, filter-past, decide-files, decide-told, audit-statuses, rehearse-files, rehearse-told, rehearse-session}
 use Rattle.cacao_cli.proofs.StandRuns.{run-told, run-session}
 use Rattle.cacao_cli.proofs.StatusRuns.{RunCase, run_case, run_many, run_missing, run_long, run_treeless, run_starts, RunList, no-texts, long-texts, run-files}
 
@@ -96,7 +96,7 @@ runs-much wanted files old new n called much = go (run_case wanted files) much
     go (run_treeless texts name reason has within t is) h = absurd (none texts has h)
     go (run_starts texts roots has within r is) h = absurd (none texts has h)
 
-too-much : (asked : Option Asked) (files : Files) (old new : SiteView) (n : ℕ) → Called asked files old new n → NamesTooMuch asked files → IsOneOf n (11 ∷ 3 ∷ 9 ∷ 10 ∷ [])
+too-much : (asked : Option Asked) (files : Files) (old new : SiteView) (n : ℕ) → Called asked files old new n → NamesTooMuch asked files → IsOneOf n (11 ∷ file_faults (files_of asked))
 too-much None files old new n called h = absurd h
 too-much (Some (canonises book)) files old new n called h = (canon-statuses book files old new n called).told.past_is h
 too-much (Some (checks books)) files old new n called h = inl ((check-by books files old new n (has_too_many (checks books)) called).past_is h)
@@ -315,48 +315,40 @@ stands-with (Some shows) old new m n h = h
 stands-with (Some (lists_rules agent)) old new m n h = h
 stands-with (Some (decides agent packets)) old new m n h = h
 stands-with (Some (shadows agent)) old new m n h = h
-stands-with (Some (rehearses positions)) old new m n (inl e) = inr (inr (inr (inl e)))
-stands-with (Some (rehearses positions)) old new m n (inr (inl e)) = inr (inr (inr (inr (inl e))))
-stands-with (Some (rehearses positions)) old new m n (inr (inr h)) = absurd h
+stands-with (Some (rehearses positions)) old new m n h = widen n (9 ∷ 10 ∷ []) run_rehearsal_statuses refl h
 stands-with (Some (audits engine filters)) old new m n h = h
 
-widen : (Has : Type 0) (answer : ℕ) (list : List File) → Has ⊎ IsOneOf answer (file_faults list) → Has ⊎ IsOneOf answer (3 ∷ 9 ∷ 10 ∷ [])
-widen Has answer _ (inl h) = inl h
-widen Has answer [] (inr f) = inr (inr f)
-widen Has answer (file ∷ more) (inr f) = inr f
-
 module _ (asked : Option Asked) (shelf : ShelfCall) (old new : SiteView) (answer : ℕ) (ended : Ended asked shelf old new answer) where
-  pub missing-ended : IfFilesTold (files_of asked) shelf.told (λ files. ComesExactly 4 (3 ∷ 9 ∷ 10 ∷ []) (IsMissing files (files_of asked)) answer)
+  pub missing-ended : IfFilesTold (files_of asked) shelf.told (λ files. ComesExactly 4 (file_faults (files_of asked)) (IsMissing files (files_of asked)) answer)
   missing-ended = if-told (files_of asked) shelf.told _ (λ files seen.
-      comes 4 (3 ∷ 9 ∷ 10 ∷ []) (Called asked files old new answer) (IsMissing files (files_of asked)) answer (λ h. (file-statuses asked files old new answer h).is_missing) (λ h. (file-statuses asked files old new answer h).missing_is)
-      (apart 4 (λ e. omega (arith, e)) (λ e. omega (arith, e)) (λ e. omega (arith, e)))
-      (widen (Called asked files old new answer) answer (files_of asked) (status-seen asked files shelf old new answer seen ended)))
+      comes 4 (file_faults (files_of asked)) (Called asked files old new answer) (IsMissing files (files_of asked)) answer (λ h. (file-statuses asked files old new answer h).is_missing) (λ h. (file-statuses asked files old new answer h).missing_is)
+      (apart-files 4 (files_of asked) (λ e. omega (arith, e)) (λ e. omega (arith, e)) (λ e. omega (arith, e)))
+      (status-seen asked files shelf old new answer seen ended))
 
-  pub unreadable-ended : IfFilesTold (files_of asked) shelf.told (λ files. ComesExactly 5 (3 ∷ 9 ∷ 10 ∷ []) (IsUnreadable asked files) answer)
+  pub unreadable-ended : IfFilesTold (files_of asked) shelf.told (λ files. ComesExactly 5 (file_faults (files_of asked)) (IsUnreadable asked files) answer)
   unreadable-ended = if-told (files_of asked) shelf.told _ (λ files seen.
-      comes 5 (3 ∷ 9 ∷ 10 ∷ []) (Called asked files old new answer) (IsUnreadable asked files) answer (λ h. (file-statuses asked files old new answer h).is_unreadable) (λ h. (file-statuses asked files old new answer h).unreadable_is)
-      (apart 5 (λ e. omega (arith, e)) (λ e. omega (arith, e)) (λ e. omega (arith, e)))
-      (widen (Called asked files old new answer) answer (files_of asked) (status-seen asked files shelf old new answer seen ended)))
+      comes 5 (file_faults (files_of asked)) (Called asked files old new answer) (IsUnreadable asked files) answer (λ h. (file-statuses asked files old new answer h).is_unreadable) (λ h. (file-statuses asked files old new answer h).unreadable_is)
+      (apart-files 5 (files_of asked) (λ e. omega (arith, e)) (λ e. omega (arith, e)) (λ e. omega (arith, e)))
+      (status-seen asked files shelf old new answer seen ended))
 
-  pub refused-ended : IfFilesTold (files_of asked) shelf.told (λ files. ComesExactly 1 (3 ∷ 9 ∷ 10 ∷ []) (IsRefused asked files) answer)
+  pub refused-ended : IfFilesTold (files_of asked) shelf.told (λ files. ComesExactly 1 (file_faults (files_of asked)) (IsRefused asked files) answer)
   refused-ended = if-told (files_of asked) shelf.told _ (λ files seen.
-      comes 1 (3 ∷ 9 ∷ 10 ∷ []) (Called asked files old new answer) (IsRefused asked files) answer (λ h. (file-statuses asked files old new answer h).is_refused) (λ h. (file-statuses asked files old new answer h).refused_is)
-      (apart 1 (λ e. omega (arith, e)) (λ e. omega (arith, e)) (λ e. omega (arith, e)))
-      (widen (Called asked files old new answer) answer (files_of asked) (status-seen asked files shelf old new answer seen ended)))
+      comes 1 (file_faults (files_of asked)) (Called asked files old new answer) (IsRefused asked files) answer (λ h. (file-statuses asked files old new answer h).is_refused) (λ h. (file-statuses asked files old new answer h).refused_is)
+      (apart-files 1 (files_of asked) (λ e. omega (arith, e)) (λ e. omega (arith, e)) (λ e. omega (arith, e)))
+      (status-seen asked files shelf old new answer seen ended))
 
-  pub much-ended : IfFilesTold (files_of asked) shelf.told (λ files. NamesTooMuch asked files → IsOneOf answer (11 ∷ 3 ∷ 9 ∷ 10 ∷ []))
-  much-ended = if-told (files_of asked) shelf.told _ (λ files seen. λ h.
-      much files h (widen (Called asked files old new answer) answer (files_of asked) (status-seen asked files shelf old new answer seen ended)))
+  pub much-ended : IfFilesTold (files_of asked) shelf.told (λ files. NamesTooMuch asked files → IsOneOf answer (11 ∷ file_faults (files_of asked)))
+  much-ended = if-told (files_of asked) shelf.told _ (λ files seen. λ h. much files h (status-seen asked files shelf old new answer seen ended))
     where
-      much : (files : Files) → NamesTooMuch asked files → Called asked files old new answer ⊎ IsOneOf answer (3 ∷ 9 ∷ 10 ∷ []) → IsOneOf answer (11 ∷ 3 ∷ 9 ∷ 10 ∷ [])
+      much : (files : Files) → NamesTooMuch asked files → Called asked files old new answer ⊎ IsOneOf answer (file_faults (files_of asked)) → IsOneOf answer (11 ∷ file_faults (files_of asked))
       much files h (inl called) = too-much asked files old new answer called h
       much files h (inr f) = inr f
 
-  pub disagreement-ended : IfFilesTold (files_of asked) shelf.told (λ files. ComesExactly 18 (3 ∷ 9 ∷ 10 ∷ []) (FindsDisagreement asked files) answer)
+  pub disagreement-ended : IfFilesTold (files_of asked) shelf.told (λ files. ComesExactly 18 (file_faults (files_of asked)) (FindsDisagreement asked files) answer)
   disagreement-ended = if-told (files_of asked) shelf.told _ (λ files seen.
-      comes 18 (3 ∷ 9 ∷ 10 ∷ []) (Called asked files old new answer) (FindsDisagreement asked files) answer (λ h. (file-statuses asked files old new answer h).is_disagreed) (λ h. (file-statuses asked files old new answer h).disagreed_is)
-      (apart 18 (λ e. omega (arith, e)) (λ e. omega (arith, e)) (λ e. omega (arith, e)))
-      (widen (Called asked files old new answer) answer (files_of asked) (status-seen asked files shelf old new answer seen ended)))
+      comes 18 (file_faults (files_of asked)) (Called asked files old new answer) (FindsDisagreement asked files) answer (λ h. (file-statuses asked files old new answer h).is_disagreed) (λ h. (file-statuses asked files old new answer h).disagreed_is)
+      (apart-files 18 (files_of asked) (λ e. omega (arith, e)) (λ e. omega (arith, e)) (λ e. omega (arith, e)))
+      (status-seen asked files shelf old new answer seen ended))
 
   pub words-ended : ComesExactly 2 (9 ∷ 10 ∷ []) (asked ≡ None) answer
   words-ended = record { only = understood-ended asked shelf old new answer ended; always = not_understood-ended asked shelf old new answer ended }

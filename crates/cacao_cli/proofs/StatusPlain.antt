@@ -13,7 +13,7 @@ use Rattle.cacao_cli.specs.Ends.{End, done, accepted, most, no_such_file, not_re
 use Rattle.cacao_cli.specs.Files.{File, Files, NamedText, files_of, book_file, packet_file, has_too_many, reading}
 use Rattle.cacao_cli.specs.Work.{Work, ends, judges, opens_filter, at_decisions, or_end, canon_line, run_files, work_on}
 use Rattle.cacao_cli.specs.Audited.{FilesAgree, Disagree, PassTasks}
-use Rattle.cacao_cli.specs.Exact.{HasVerdict, IsOneOf, IsBroken, HasStatus, run_rehearsal_statuses, HasRehearsed, IsRehearsed}
+use Rattle.cacao_cli.specs.Exact.{HasVerdict, IsOneOf, IsBroken, HasStatus, HasRehearsed, IsRehearsed}
 use Rattle.cacao_cli.specs.Causes.{AllWithin, FindsDisagreement, IsAuditOf, SomeTreeless, Trees, IsMissing, IsTooLong, IsUnreadable, IsPastLimit, IsRefused, BreaksRule, KeepsRules}
 use Rattle.cacao_cli.specs.Rehearsing.{MayEndSo, RehearsalTo}
 use Rattle.cacao_cli.specs.Openings.{HoldsFilter, IsDamagedFilter}
@@ -24,7 +24,7 @@ use Rattle.cacao_cli.proofs.CauseLemmas.{EndsByTrees, missing-only, missing-alwa
 use Rattle.cacao_cli.proofs.ExactLemmas.{Comes}
 use Rattle.cacao_cli.proofs.OpenLemmas.{ComesOpened}
 use Rattle.cacao_cli.proofs.ReadLemmas.{Read}
-use Rattle.cacao_cli.proofs.RehearseLemmas.{broken-rehearsed, came-counted, long-listed, rehearsal-listed, rehearsed-broken, rehearsed-other, rehearsed-ran}
+use Rattle.cacao_cli.proofs.RehearseLemmas.{broken-rehearsed, came-counted, rehearsal-listed, rehearsed-broken, rehearsed-other, rehearsed-ran}
 use Rattle.cacao_cli.proofs.EndCases.{session-end, session_only}
 use Rattle.cacao_cli.proofs.StatusLists.{not-among, session_statuses}
 use Rattle.cacao_cli.proofs.PacketLemmas.{PacketWork, packet_work, packet_work_case, is_missing, is_too_long, is_bad, is_read, missing-apart, long-apart, bad-apart, holds-or-damaged}
@@ -387,40 +387,35 @@ module _ (engine : Text) (filters : List (ℕ × Text)) (files : Files) (old new
 -- ---- rehearse
 
 module _ (positions : ℕ) (files : Files) (old new : SiteView) (n : ℕ) where
-  pub rehearse-other : (m : ℕ) → HasRehearsed positions n → n ≡ m → (11 ≡ m → ⊥) → (1 ≡ m → ⊥) → list_any (nat_eq m) session_statuses ≡ false → ⊥
-  rehearse-other m h e a b none = rehearsed-other positions n m h e a b none
+  pub rehearse-other : (m : ℕ) → HasRehearsed positions n → n ≡ m → (1 ≡ m → ⊥) → list_any (nat_eq m) session_statuses ≡ false → ⊥
+  rehearse-other m h e b none = rehearsed-other positions n m h e b none
 
-  pub ran-at : (m : ℕ) → HasRehearsed positions n → n ≡ m → (11 ≡ m → ⊥) → (1 ≡ m → ⊥) → IsRehearsed positions n
-  ran-at m h e a b = rehearsed-ran positions n h (λ f. a (sym f ∙ e)) (λ f. b (sym f ∙ e))
+  pub ran-at : (m : ℕ) → HasRehearsed positions n → n ≡ m → (1 ≡ m → ⊥) → IsRehearsed positions n
+  ran-at m h e b = rehearsed-ran positions n h (λ f. b (sym f ∙ e))
 
   pub rehearse-past : HasRehearsed positions n → n ≡ 11 → IsPastLimit (Some (rehearses positions)) files old new
-  rehearse-past (inl h) e = inl h.0
-  rehearse-past (inr (inl h)) e = absurd (omega (arith, e, h.1))
-  rehearse-past (inr (inr h)) e = let p = (session-end h.last).passes (sym h.is ∙ e) in inr (p.0, subst (RehearsalTo positions) p.1 h.came)
-
-  pub past-listed : HasRehearsed positions n → IsPastLimit (Some (rehearses positions)) files old new → IsOneOf n run_rehearsal_statuses
-  past-listed h (inl long) = long-listed positions n h long
-  past-listed h (inr (limit, r)) = rehearsal-listed positions n h (past limit) r
+  rehearse-past (inl h) e = absurd (omega (arith, e, h.1))
+  rehearse-past (inr h) e = let p = (session-end h.last).passes (sym h.is ∙ e) in (p.0, subst (RehearsalTo positions) p.1 h.came)
 
   pub rehearse-files : HasRehearsed positions n → FileStatuses (Some (rehearses positions)) files n
   rehearse-files h = record {
     is_refused = rehearsed-broken positions n h;
     refused_is = broken-rehearsed positions n h;
-    is_missing = λ e. absurd (rehearse-other 4 h e (λ f. omega (arith, f)) (λ f. omega (arith, f)) refl);
+    is_missing = λ e. absurd (rehearse-other 4 h e (λ f. omega (arith, f)) refl);
     missing_is = λ m. absurd m;
-    is_unreadable = λ e. absurd (rehearse-other 5 h e (λ f. omega (arith, f)) (λ f. omega (arith, f)) refl);
+    is_unreadable = λ e. absurd (rehearse-other 5 h e (λ f. omega (arith, f)) refl);
     unreadable_is = λ u. absurd u;
-    is_disagreed = λ e. absurd (rehearse-other 18 h e (λ f. omega (arith, f)) (λ f. omega (arith, f)) refl);
+    is_disagreed = λ e. absurd (rehearse-other 18 h e (λ f. omega (arith, f)) refl);
     disagreed_is = λ d. absurd d;
   }
 
   pub rehearse-told : HasRehearsed positions n → ToldStatuses (Some (rehearses positions)) files old new n
   rehearse-told h = record {
-    is_done = λ e. let t = ran-at 0 h e (λ f. omega (arith, f)) (λ f. omega (arith, f)) in came-counted positions t.last t.came (sym t.is ∙ e);
+    is_done = λ e. let t = ran-at 0 h e (λ f. omega (arith, f)) in came-counted positions t.last t.came (sym t.is ∙ e);
     done_is = λ c. inr (rehearsal-listed positions n h (rehearsed positions c.0 c.1 c.2) c.3);
     is_past = rehearse-past h;
-    past_is = λ p. inr (past-listed h p);
-    is_damaged = λ e. let t = ran-at 13 h e (λ f. omega (arith, f)) (λ f. omega (arith, f)) in let d = (session-end t.last).damage (sym t.is ∙ e) in subst MayEndSo d.2 t.came.may;
+    past_is = λ p. inr (rehearsal-listed positions n h (past p.0) p.1);
+    is_damaged = λ e. let t = ran-at 13 h e (λ f. omega (arith, f)) in let d = (session-end t.last).damage (sym t.is ∙ e) in subst MayEndSo d.2 t.came.may;
     damaged_is = λ d. absurd d;
   }
 
@@ -431,6 +426,5 @@ module _ (positions : ℕ) (files : Files) (old new : SiteView) (n : ℕ) where
       unlike m e none one = not-among m session_only none (subst (λ (k : ℕ). IsOneOf k session_only) e one)
 
       by : HasRehearsed positions n → IsOneOf n session_only → SessionEnds (Some (rehearses positions)) files old new n
-      by (inl h) one = absurd (unlike 11 h.1 refl one)
-      by (inr (inl h)) one = absurd (unlike 1 h.1 refl one)
-      by (inr (inr h)) one = record { last = h.last; held = h.came; is = h.is }
+      by (inl h) one = absurd (unlike 1 h.1 refl one)
+      by (inr h) one = record { last = h.last; held = h.came; is = h.is }

@@ -41,7 +41,7 @@ rose-not old mid rose still_ = omega (arith, rose, still_.0, still_.1)
 -- ---- the work of `run`
 
 -- it says nothing, or starts a session with this budget
-abbrev IsOfRun : ℕ → Work → Type 0
+abbrev pub IsOfRun : ℕ → Work → Type 0
 IsOfRun most (ends lines end) = lines ≡ []
 IsOfRun most (judges trees mode accepted) = ⊥
 IsOfRun most (opens_filter agent look) = ⊥
@@ -57,7 +57,7 @@ texts-of-run wanted texts = by (trees_case (trees_wanted wanted texts))
     by (all_trees roots r e) = subst (λ (r : Result (List Data) End). IsOfRun wanted.most (or_end r (λ roots. starts (start_of wanted texts)))) (sym e) refl
     by (one_treeless name reason r e) = subst (λ (r : Result (List Data) End). IsOfRun wanted.most (or_end r (λ roots. starts (start_of wanted texts)))) (sym e) refl
 
-work-of-run : (wanted : RunRequest) (read : Read) → IsOfRun wanted.most (work (Some (runs wanted)) read)
+pub work-of-run : (wanted : RunRequest) (read : Read) → IsOfRun wanted.most (work (Some (runs wanted)) read)
 work-of-run wanted read = by (has_too_many (runs wanted)) read
   where
     by : (b : Bool) (r : Read) → IsOfRun wanted.most (if b then ends [] (past BookCount) else or_end r (work_on (runs wanted)))

@@ -19,7 +19,7 @@ use Rattle.cacao_cli.specs.Holding.{CameTo, HasBadAnswer, IsRefusedStart}
 use Rattle.cacao_cli.specs.declared.limit.Limit.{Limit}
 use Rattle.cacao_cli.specs.Openings.{HoldsFilter, HoldsRun, IsDamagedFilter, IsDamagedRun, IsTooLargeRun}
 use Rattle.cacao_cli.specs.Files.{File, Files, files_of, has_too_many, packet_file, reading, NamedText, book_file, run_names}
-use Rattle.cacao_cli.specs.Rehearsing.{IsBrokenRehearsal, IsLongRehearsal, RehearsalTo}
+use Rattle.cacao_cli.specs.Rehearsing.{IsBrokenRehearsal, RehearsalTo}
 use Rattle.cacao_cli.specs.Work.{run_files, start_of, trees_wanted}
 use Rattle.cacao_words.specs.Words.{Text}
 
@@ -161,7 +161,8 @@ IsRefused (Some (shadows agent)) files = ⊥
 IsRefused (Some (rehearses positions)) files = IsBrokenRehearsal positions
 IsRefused (Some (audits engine filters)) files = ⊥
 
--- the words name too many playbooks, or the first file that is not there within its limit is longer than that
+-- The words name too many playbooks, or the first file that is not there within its limit is longer than that. (A rehearsal names
+-- none, and its playbook is never too long.)
 abbrev pub NamesTooMuch : Option Asked → Files → Type 0
 NamesTooMuch None files = ⊥
 NamesTooMuch (Some command) files = (has_too_many command ≡ true) ⊎ IsTooLong files (files_of (Some command))
@@ -180,8 +181,7 @@ IsPastLimit (Some shows) files old new = IsTooLargeRun new
 IsPastLimit (Some (lists_rules agent)) files old new = ⊥
 IsPastLimit (Some (decides agent packets)) files old new = IsTooLong files (files_of (Some (decides agent packets)))
 IsPastLimit (Some (shadows agent)) files old new = ⊥
-IsPastLimit (Some (rehearses positions)) files old new =
-    IsLongRehearsal positions ⊎ ((limit : Limit) × RehearsalTo positions (past limit))
+IsPastLimit (Some (rehearses positions)) files old new = (limit : Limit) × RehearsalTo positions (past limit)
 IsPastLimit (Some (audits engine filters)) files old new =
     IsTooLong files (files_of (Some (audits engine filters))) ⊎ IsAuditOf files engine filters PassTasks
 

@@ -1,5 +1,6 @@
 -- What comes of a start where all agrees: a run that nothing disturbs comes to its end, its budget or a question, unless a limit
--- is passed, too many parcels change nothing, or memory is wanted; and where no parcel was lost, what was sent was answered.
+-- is passed, too many parcels change nothing, a named file can't be read, or memory is wanted; and where no parcel was lost, what
+-- was sent was answered.
 use Rattle.std.specs.Prelude.{◌≡◌, ◌≢◌, ◌⊎◌, ℕ, List, [], ◌∷◌, ◌++◌, Contains, Option, Some, None, ⊤}
 use Rattle.cacao_check.specs.Fits.{FitsKind}
 use Rattle.cacao_site.specs.Counts.{DidNotRise}

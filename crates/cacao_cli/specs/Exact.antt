@@ -14,7 +14,7 @@ use Rattle.cacao_cli.specs.Ends.{status_of, End}
 use Rattle.cacao_cli.specs.Files.{File, Files, files_of, reading}
 use Rattle.cacao_words.specs.Words.{Text}
 use Rattle.cacao_cli.specs.Openings.{HoldsFilter, HoldsRun, IsDamagedFilter, IsDamagedRun, IsTooLargeRun}
-use Rattle.cacao_cli.specs.Rehearsing.{IsBrokenRehearsal, IsLongRehearsal, RehearsalTo}
+use Rattle.cacao_cli.specs.Rehearsing.{IsBrokenRehearsal, RehearsalTo}
 use Rattle.cacao_cli.specs.Work.{Work, ends, judges, opens_filter, opens_run, compares, rehearsals, work, Start, starts}
 use Rattle.cacao_cli.specs.Holding.{CameTo, HasBadAnswer, IsRefusedStart}
 
@@ -68,19 +68,23 @@ faults_of (Some (shadows agent)) = 8 ∷ 9 ∷ 10 ∷ []
 faults_of (Some (rehearses positions)) = file_faults []
 faults_of (Some (audits engine filters)) = file_faults (files_of (Some (audits engine filters)))
 
--- what comes only where the clock came to the moment that it was asked for last
+-- of `run`, what comes only where the clock came to the moment that it was asked for last
 abbrev pub reached_statuses : List ℕ
 reached_statuses = 0 ∷ 6 ∷ 7 ∷ 15 ∷ 16 ∷ []
 
+-- and what comes only where its session closed
+abbrev pub closed_statuses : List ℕ
+closed_statuses = 0 ∷ 6 ∷ 7 ∷ 14 ∷ 15 ∷ 16 ∷ []
+
 -- The statuses of sessions that may stand in the place of this one, by whether the disk tells its files, and the link the parcels
--- that were taken. Where the disk is told, its files and the clock settle which comes, but that 11 stands for 15 and 16 and each
--- of them for 11; and where the parcels taken are not told, 15 and 16 for each other. Where the disk is not told, the clock tells
--- 14 from 0, 6, 7, 15 and 16.
+-- that were taken. Where both are told, they and the clock settle which comes. Where the disk alone is told, 11, 15 and 16 stand
+-- for one another. Where the disk is not told, the clock tells 14 from 0, 6, 7, 15 and 16.
 abbrev pub statuses_beside : Bool → Bool → ℕ → List ℕ
-statuses_beside true taken status =
+statuses_beside true true status = []
+statuses_beside true false status =
     if nat_eq status 11 then 15 ∷ 16 ∷ []
-    else if nat_eq status 15 then 11 ∷ (if taken then [] else 16 ∷ [])
-    else if nat_eq status 16 then 11 ∷ (if taken then [] else 15 ∷ [])
+    else if nat_eq status 15 then 11 ∷ 16 ∷ []
+    else if nat_eq status 16 then 11 ∷ 15 ∷ []
     else []
 statuses_beside false taken status = 11 ∷ 12 ∷ 13 ∷ (if list_any (nat_eq status) reached_statuses then reached_statuses else
     if nat_eq status 14 then [] else 14 ∷ reached_statuses)
@@ -89,12 +93,12 @@ statuses_beside false taken status = 11 ∷ 12 ∷ 13 ∷ (if list_any (nat_eq s
 abbrev pub disk_failed_if_full : DiskView → List ℕ
 disk_failed_if_full disk = if nat_lt disk.faults last_count then [] else 8 ∷ []
 
--- the statuses of a rehearsal that ran, and of one that is too long
+-- the statuses of a rehearsal that ran
 abbrev pub run_rehearsal_statuses : List ℕ
 run_rehearsal_statuses = 0 ∷ 6 ∷ 8 ∷ 9 ∷ 10 ∷ 11 ∷ 15 ∷ []
 
--- The statuses that may stand in the place of one that the command settles, from the one view to the other. (A rehearsal has a
--- site of its own, of which nothing is left to tell.)
+-- The statuses that may stand in the place of one that the command settles, from the one view to the other. (A rehearsal that ran
+-- had a site of its own, of which nothing is left to tell.)
 abbrev pub stands_for : Option Asked → SiteView → SiteView → ℕ → List ℕ
 stands_for None old new status = faults_of None
 stands_for (Some (canonises book)) old new status = faults_of (Some (canonises book))
@@ -136,8 +140,7 @@ pub record IsRehearsed (positions : ℕ) (answer : ℕ) : Type 0 where
 
 -- the status is that of what is told of a rehearsal
 abbrev pub HasRehearsed : ℕ → ℕ → Type 0
-HasRehearsed positions answer =
-    (IsLongRehearsal positions × (answer ≡ 11)) ⊎ ((IsBrokenRehearsal positions × (answer ≡ 1)) ⊎ IsRehearsed positions answer)
+HasRehearsed positions answer = (IsBrokenRehearsal positions × (answer ≡ 1)) ⊎ IsRehearsed positions answer
 
 -- the status is that of the work; a file of the disk is as it reads on return
 abbrev pub HasStatus : Work → SiteView → SiteView → ℕ → Type 0

@@ -9,8 +9,8 @@ use Rattle.cacao_cli.specs.Asked.{Asked, canonises, checks, runs, shows, lists_r
 use Rattle.cacao_cli.specs.Ends.{End}
 use Rattle.cacao_cli.specs.Rehearsing.{RehearsalTo}
 
--- A rehearsal came to this end, and this count of its site rose: more device calls were made, or more bytes handed to the site,
--- than its plan has room for.
+-- A rehearsal came to this end, and this count of its site rose: more device calls were made than its plan
+-- has, or so many bytes were handed to it that its plan has no room for one line or parcel more.
 pub record CountsOwn (positions : ℕ) (last : End) (count : SiteView → ℕ) : Type 0 where
   pub came : RehearsalTo positions last
   pub rose : Rose (count (view_of came.site)) (count (view_of came.left))

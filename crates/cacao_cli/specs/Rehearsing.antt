@@ -1,5 +1,5 @@
 -- What is told of a rehearsal.
-use Rattle.std.specs.Prelude.{◌≡◌, ◌⊎◌, ◌<◌, ◌≤◌, ℕ, [], ◌∷◌, length, ⊤}
+use Rattle.std.specs.Prelude.{◌≡◌, ◌⊎◌, ◌≤◌, ℕ, [], ◌∷◌, length, ⊤}
 use Rattle.memory_site.specs.MemorySite.{view_of}
 use Rattle.cacao_site.specs.View.{SiteView}
 use Rattle.memory_site.specs.declared.site.MemorySite.{MemorySite}
@@ -22,11 +22,8 @@ use Rattle.cacao_cli.specs.declared.limit.Limit.TheVariants.{FileBytes}
 
 -- ---- the text
 
--- the playbook with so many positions is longer than a file may be
-abbrev pub IsLongRehearsal : ℕ → Type 0
-IsLongRehearsal positions = 1048576 < length (rehearsal_text positions)
-
--- it is not, and this is its first break of a rule
+-- The playbook with so many positions is no longer than a file may be (it never is longer with as many positions as the words
+-- allow), and this is its first break of a rule.
 abbrev pub HasBreak : ℕ → Break → Type 0
 HasBreak positions broken = (length (rehearsal_text positions) ≤ 1048576) × BreaksRule (rehearsal_text positions ∷ []) [] broken
 
@@ -74,19 +71,20 @@ MayEndSo (waiting moment) = ⊥
 MayEndSo (asked_for issue) = ⊥
 MayEndSo other = ⊤
 
--- The playbook with so many positions is accepted, and its run on a new site of its own came to this end. The site as it was left
--- went by its plan.
+-- The playbook with so many positions is not too long, and is accepted, and its run on a new site of its own came to this end.
+-- The site as it was left went by its plan.
 pub record RehearsalTo (positions : ℕ) (last : End) : Type 0 where
   pub site : MemorySite
   pub is_new : IsNewSite site
   pub left : MemorySite
   pub by_plan : GoesByPlan left
+  pub short : length (rehearsal_text positions) ≤ 1048576
   pub given : Given
   pub accepted : IsAccepted (rehearsal_text positions) given
   pub runs : EndsRun positions given (view_of site) (view_of left) last
   pub may : MayEndSo last
 
--- the end that says why there is no summary
+-- the end that says why there is no summary (`TooLong` never comes here)
 abbrev pub failed_end : RehearsalError → End
 failed_end rehearsal_error.TooLong = past FileBytes
 failed_end (rehearsal_error.Broken broken) = refused broken
@@ -97,12 +95,11 @@ failed_end rehearsal_error.Memory = no_memory
 
 -- ---- all
 
--- the text is too long; or it breaks a rule; or it ran; or memory was wanted
+-- the playbook breaks a rule; or it ran; or memory was wanted
 abbrev pub TellsRehearsal : ℕ → End → Type 0
 TellsRehearsal positions last =
-    (IsLongRehearsal positions × (last ≡ past FileBytes))
-    ⊎ (((broken : Break) × HasBreak positions broken × (last ≡ refused broken))
-    ⊎ (RehearsalTo positions last ⊎ (last ≡ no_memory)))
+    ((broken : Break) × HasBreak positions broken × (last ≡ refused broken))
+    ⊎ (RehearsalTo positions last ⊎ (last ≡ no_memory))
 
 -- the end tells of a rehearsal, and the site that was handed in is as it was
 pub record Rehearses (positions : ℕ) (old new : SiteView) (last : End) : Type 0 where

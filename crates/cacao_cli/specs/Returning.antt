@@ -1,5 +1,5 @@
 -- What the status of `run` and what the files read as, the clock and the parcels taken tell of each other on return.
-use Rattle.std.specs.Prelude.{◌≡◌, ◌≢◌, ◌⊎◌, ℕ, ◌+◌, ◌<◌, ◌≤◌, IsTrue, List, [], ◌∷◌, ◌++◌, length, Any, slice_get}
+use Rattle.std.specs.Prelude.{◌≡◌, ◌≢◌, ◌⊎◌, ℕ, ◌+◌, ◌<◌, ◌≤◌, IsTrue, List, [], ◌∷◌, ◌++◌, length, All, Any, slice_get}
 use Rattle.std.specs.Prelude.{Option, Some, None, IfSome, IsSome, Bool, true, false, nat_lt, if◌then◌else◌, ⊤}
 use Rattle.std.specs.List.{AllByRecursion}
 use Rattle.std.specs.Option.{option_or}
@@ -37,7 +37,7 @@ use Rattle.flow_steps.specs.Grown.{acts_of}
 use Rattle.flow_steps.specs.Handled.{IsBack, IsCommand, one_reply}
 use Rattle.flow_steps.specs.Sums.{total}
 use Rattle.flow_steps.specs.Turns.{answer_for, most_ignored}
-use Rattle.slpf_actuator.specs.ActLists.{IsNew}
+use Rattle.slpf_actuator.specs.ActLists.{HasActed, IsNew}
 use Rattle.slpf_actuator.specs.ActLists as act_file
 use Rattle.slpf_actuator.specs.ActuatorView.{act_for}
 use Rattle.slpf_actuator.specs.Damage.{IsDamaged}
@@ -45,7 +45,7 @@ use Rattle.session_laws.specs.Returned.{ReadsAsRun}
 use Rattle.session_laws.specs.Undamaged.{IsDamagedFor}
 use Rattle.cacao_cli.specs.Asked.{Asked, canonises, checks, runs, shows, lists_rules, decides, shadows, rehearses, audits}
 use Rattle.cacao_cli.specs.Causes.{HasTexts}
-use Rattle.cacao_cli.specs.Exact.{IfFilesTold, IsOneOf, reached_statuses}
+use Rattle.cacao_cli.specs.Exact.{IfFilesTold, IsOneOf, closed_statuses, reached_statuses}
 use Rattle.cacao_cli.specs.Files.{Files, NamedText, files_of}
 use Rattle.cacao_cli.specs.Holding.{AreAnswers, IsAcceptedStart}
 use Rattle.cacao_cli.specs.Work.{Start, start_of}
@@ -116,6 +116,18 @@ abbrev pub KeepsActs : SiteView → SiteView → Type 0
 KeepsActs old new =
     DidNotRise old.disk.faults new.disk.faults → (agent : ℕ) → IsAgent agent → (before : List Act)
     → IsActs (old.disk.reads agent) before → (acts : List Act) × GainsActs agent acts old new
+
+-- the file of the parcel's agent has an act of its run and issue
+pub record HasActFor (parcel : Parcel) (site : SiteView) : Type 0 where
+  pub acts : List Act
+  pub are : IsActs (site.disk.reads parcel.agent) acts
+  pub act : Act
+  pub has : HasActed acts parcel.run parcel.issue act
+
+-- so it is of each command that was taken in between, where the parcels taken are told
+abbrev pub ActsOnAll : SiteView → SiteView → Type 0
+ActsOnAll old new = IfSome old.link.taken (λ before. IfSome new.link.taken (λ after.
+    (since : List (ℕ × Parcel)) → after ≡ before ++ since → All (λ e. IsCommand e.1 → HasActFor e.1 new) since))
 
 -- The run can go on; these acts are what the agents' files gained; and where the parcels taken are told, 1,000,000 were taken
 -- beside one for each Reply and each of these acts.
@@ -270,14 +282,25 @@ pub record IsToldNext (start : Start) (seen : Shown) (now issue : ℕ) (told : O
   pub least : (lower : ℕ) (other : Issue) → lower < issue → slice_get seen.lists.issues lower ≡ Some other
       → is_waiting other.phase ≡ true → answer_for answers lower ≡ None
 
--- a reply to this issue of the run, which reads so, was taken last
-pub record IsRepliedLast (start : Start) (issue : ℕ) (read : Answer) (before after : Option (List (ℕ × Parcel))) : Type 0 where
+-- a reply of this run to this issue, which waits, was taken last: it came from the issue's agent, and its bytes read as such an
+-- answer, with a status other than 102
+pub record IsRepliedLast (start : Start) (seen : Shown) (issue : ℕ) (read : Answer)
+    (before after : Option (List (ℕ × Parcel))) : Type 0 where
   pub parcel : Parcel
   pub is_back : IsBack parcel
   pub of_run : parcel.run ≡ start.run
   pub of_issue : parcel.issue ≡ issue
+  pub it : Issue
+  pub waiting : IsWaiting seen issue it
+  pub of_agent : parcel.agent ≡ it.agent
   pub reads : responses.answer parcel.bytes ≡ Some read
+  pub final : read.status ≢ 102
   pub taken_last : IsTakenLast parcel before after
+
+-- where the parcels taken are told, the last one is no such reply
+abbrev pub LeavesNoReply : Start → SiteView → SiteView → Type 0
+LeavesNoReply start old new = IsSome old.link.taken → (r : ReadsSo start None new) (issue : ℕ) (read : Answer)
+    → IsRepliedLast start r.seen issue read old.link.taken new.link.taken → ⊥
 
 -- The record comes next in a turn: that of the enabled move; where there is none, that of the least issue with an answer, which
 -- may need the Upgrade first; where no issue has one, an Expire; and a Reply as the parcel says that was taken last.
@@ -287,7 +310,7 @@ ComesInTurn start before after seen now (entry.Walk task moment) = IsOfEnabledMo
 ComesInTurn start before after seen now (entry.Send task issue agent moment bytes) =
     IsOfEnabledMove seen now (entry.Send task issue agent moment bytes)
 ComesInTurn start before after seen now (entry.Reply issue moment status rule text) =
-    IsRepliedLast start issue (record { status = status; rule = rule; text = text }) before after
+    IsRepliedLast start seen issue (record { status = status; rule = rule; text = text }) before after
 ComesInTurn start before after seen now (entry.Expire issue moment) = IsIdleNow start seen now
 ComesInTurn start before after seen now (entry.Upgrade version moment) =
     IsOfEnabledMove seen now (entry.Upgrade version moment)
@@ -323,27 +346,37 @@ pub record NextActPasses (start : Start) (old new : SiteView) : Type 0 where
   pub is_new : IsNew acts parcel.run parcel.issue
   pub past : most_image < act_file.length_with acts (act_for acts parcel new.clock.now)
 
+-- What would pass comes of the parcel that was taken last: its Reply, or the act on it.
+abbrev pub PassesInHand : Start → SiteView → SiteView → Type 0
+PassesInHand start old new = ((n : NextPasses start old new) × (one_reply n.next ≡ 1)) ⊎ NextActPasses start old new
+
 -- one of these
 abbrev pub WouldPassSo : Start → SiteView → SiteView → Type 0
 WouldPassSo start old new =
     IsLateSo start new ⊎ (DuePasses start old new ⊎ (NextPasses start old new ⊎ NextActPasses start old new))
 
+-- What may stop a run that waits for an operator alone: it has too many tasks, the clock is past the limit, or the act on the
+-- command that was taken last would pass one.
+abbrev pub PassesIdle : Start → SiteView → SiteView → Type 0
+PassesIdle start old new = ReadsTooLarge start new ⊎ (IsLateSo start new ⊎ NextActPasses start old new)
+
 -- ---- the status, and what the files read as
 
 -- What a status tells: that the run has ended well (0) or failed (6); that it goes on, with as many records more as may be (7),
--- behind too many parcels (15), or waiting for an operator (16); that the clock stands before a moment that was asked for (14);
--- that the file is another run's, or the number is used and no filter's file is damaged (12); that it is damaged, or the file of
--- an agent is (13); that its run has too many tasks, the clock is past the limit, or what comes next would pass one (11). And
--- where the session closed, its records are within the budget, and but for 14 the clock came to the moment that was asked for
--- last; there, and at 11, 12 and 13, a crash leaves them all.
+-- behind too many parcels, the last of which is no reply that an issue waits for (15; of the parcels only where those taken are
+-- told), or waiting for an operator (16); that the clock stands before a moment that was asked for (14); that the file is another
+-- run's, or the number is used and no filter's file is damaged (12); that it is damaged, or the file of an agent is (13); that
+-- its run has too many tasks, the clock is past the limit, or what comes next would pass one (11). And where the session closed,
+-- its records are within the budget, and but for 14 the clock came to the moment that was asked for last; there, and at 11, 12
+-- and 13, a crash leaves them all.
 pub record StatusTells (start : Start) (old new : SiteView) (answer : ℕ) : Type 0 where
   pub well : answer ≡ 0 → ReadsSo start (Some true) new
   pub failed : answer ≡ 6 → ReadsSo start (Some false) new
   pub pauses : answer ≡ 7 → PausesSo start old new
-  pub floods : answer ≡ 15 → FloodsSo start old new
+  pub floods : answer ≡ 15 → FloodsSo start old new × LeavesNoReply start old new
   pub asks : answer ≡ 16 → AsksSo start old new
   pub waits : answer ≡ 14 → WaitsSo start old new
-  pub kept : IsOneOf answer (0 ∷ 6 ∷ 7 ∷ 14 ∷ 15 ∷ 16 ∷ []) → KeepsWithin start old new
+  pub kept : IsOneOf answer closed_statuses → KeepsWithin start old new
   pub reached : IsOneOf answer reached_statuses → new.clock.asked ≤ new.clock.now
   pub another : answer ≡ 12 → ReadsAsAnother start new ⊎ (FindsFirstUsed start new × (HasDamagedFilter start new → ⊥))
   pub damaged : answer ≡ 13 → ReadsAsDamaged start new ⊎ HasDamagedFilter start new
@@ -374,31 +407,34 @@ pub record FileTells (start : Start) (old new : SiteView) (answer : ℕ) : Type 
 
 -- What a run that may go on, and the clock, tell of the status, but for those that come whatever the files hold. Where the run
 -- may go on, it is 15 or 16, or 11, 13 or 14. Where it waits for an operator alone, and the clock is not before the last record,
--- it is 16, but for 15, 11 and 13; where a move is enabled now, 11 or 15, but for 13. Where the clock is past the limit, it is
--- 11, but for 12 and 13. Where 1,000,000 parcels changed neither journal, and those that were taken are told, it is 15, but for
--- 11.
+-- it is 16, but for 15 and 13, unless it has too many tasks, the clock is past the limit, or the act on the command that was
+-- taken last would pass one (11); where a move is enabled now, it is 11 or 15, but for 13. Where the clock is past the limit, it
+-- is 11, but for 12 and 13. Where 1,000,000 parcels changed neither journal, and those that were taken are told, it is 15, unless
+-- the Reply of the last one or the act on it would pass a limit (11).
 pub record TurnTells (start : Start) (old new : SiteView) (answer : ℕ) : Type 0 where
   pub may : CanGoOn start old new → IsOneOf answer (15 ∷ 16 ∷ or_any (11 ∷ 13 ∷ 14 ∷ []))
   pub asks : (a : AsksSo start old new) → a.may.goes_on.seen.moment ≤ new.clock.now
-      → IsOneOf answer (16 ∷ 15 ∷ or_any (11 ∷ 13 ∷ []))
+      → IsOneOf answer (16 ∷ 15 ∷ or_any (13 ∷ [])) ⊎ ((answer ≡ 11) × PassesIdle start old new)
   pub moves : (m : CanGoOn start old new) → enabled_move m.goes_on.seen new.clock.now ≢ None
       → IsOneOf answer (11 ∷ 15 ∷ or_any (13 ∷ []))
   pub late : IsAcceptedStart start → last_moment < new.clock.now → IsOneOf answer (11 ∷ or_any (12 ∷ 13 ∷ []))
-  pub floods : FloodsSo start old new → IsSome old.link.taken → IsOneOf answer (15 ∷ or_any (11 ∷ []))
+  pub floods : FloodsSo start old new → IsSome old.link.taken
+      → IsOneOf answer (15 ∷ or_any []) ⊎ ((answer ≡ 11) × PassesInHand start old new)
 
 pub record ReturnsSo (start : Start) (old new : SiteView) (answer : ℕ) : Type 0 where
   pub of_status : StatusTells start old new answer
   pub of_file : FileTells start old new answer
   pub of_turn : TurnTells start old new answer
 
--- of `run`: what its files keep, and with the texts of the files that are named, what they and the status tell of each other
+-- Of `run`: what its files keep; where the session closed, that each command that was taken has its act; and with the texts of
+-- the files that are named, what they and the status tell of each other.
 abbrev pub TellsOnReturn : Option Asked → Option Files → SiteView → SiteView → ℕ → Type 0
 TellsOnReturn None told old new answer = ⊤
 TellsOnReturn (Some (canonises book)) told old new answer = ⊤
 TellsOnReturn (Some (checks books)) told old new answer = ⊤
 TellsOnReturn (Some (runs wanted)) told old new answer =
     IsTrue new.disk.told → KeepsRecords wanted.most old new × KeepsActs old new
-    × IfFilesTold (files_of (Some (runs wanted))) told (λ files.
+    × (IsOneOf answer closed_statuses → ActsOnAll old new) × IfFilesTold (files_of (Some (runs wanted))) told (λ files.
     (texts : List NamedText) → HasTexts files wanted texts → ReturnsSo (start_of wanted texts) old new answer)
 TellsOnReturn (Some shows) told old new answer = ⊤
 TellsOnReturn (Some (lists_rules agent)) told old new answer = ⊤

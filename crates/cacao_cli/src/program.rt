@@ -11,7 +11,8 @@ ghost use Rattle.cacao_cli.specs.Command.{asked_by, end_of};
 ghost use Rattle.cacao_cli.specs.Completing.{Completes};
 ghost use Rattle.cacao_cli.specs.Ended.{Ended, Performed};
 ghost use Rattle.cacao_cli.specs.Ends.{ended_failed, flooded, paused};
-ghost use Rattle.cacao_cli.specs.Exact.{IsOneOf, AnswersExactly, ComesExactly, ComesFor, IfFilesTold, IfTold, reached_statuses};
+ghost use Rattle.cacao_cli.specs.Exact.{IsOneOf, AnswersExactly, ComesExactly, ComesFor, IfFilesTold, IfTold, file_faults};
+ghost use Rattle.cacao_cli.specs.Exact.{reached_statuses};
 ghost use Rattle.cacao_cli.specs.Files.{files_of, shelf_call};
 ghost use Rattle.cacao_cli.specs.Leaves.{Leaves, LeavesAll, NoFault, ReadsAtMost, CountsDisk, CountsUnsaid};
 ghost use Rattle.cacao_cli.specs.OwnSites.{StandsReached, StandsShort};
@@ -54,7 +55,7 @@ fn carry_out<'w, L: Shelf, S: Site>(
         Command::Show => show(alloc, site),
         Command::Rules { agent } => say_rules(alloc, *agent, site),
         Command::Decide { agent, packets } => decide(alloc, *agent, packets, shelf, site),
-        Command::Rehearse { positions } => rehearse(alloc, positions.count, site),
+        Command::Rehearse { positions } => rehearse(alloc, *positions, site),
         Command::Shadow { agent } => say_shadows(alloc, *agent, site),
         Command::Audit { engine, filters } => {
             audit(alloc, engine, filters.as_slice(), shelf, site)
@@ -105,14 +106,17 @@ pub fn top<L: Shelf, S: Site>(alloc: Global, words: &[String], shelf: &mut L, si
         ComesFor (asked (map string_bytes words.now)) (S.view site.old) (S.view site.new) 0
         (CanBeDone (asked (map string_bytes words.now)) files (S.view site.old) (S.view site.new)) result) }
     ensures refused { IfFilesTold (files_of (asked (map string_bytes words.now))) (L.told shelf.old) (λ files.
-        ComesExactly 1 (3 ∷ 9 ∷ 10 ∷ []) (IsRefused (asked (map string_bytes words.now)) files) result) }
+        ComesExactly 1 (file_faults (files_of (asked (map string_bytes words.now))))
+        (IsRefused (asked (map string_bytes words.now)) files) result) }
     ensures not_understood { ComesExactly 2 (9 ∷ 10 ∷ []) (asked (map string_bytes words.now) ≡ None) result }
     ensures shelf_failed { result ≡ 3 → L.faults shelf.new ≡ next_count (L.faults shelf.old) }
     ensures shelf_steady { result ≢ 3 → result ≢ 9 → L.faults shelf.new ≡ L.faults shelf.old }
     ensures missing { IfFilesTold (files_of (asked (map string_bytes words.now))) (L.told shelf.old) (λ files.
-        ComesExactly 4 (3 ∷ 9 ∷ 10 ∷ []) (IsMissing files (files_of (asked (map string_bytes words.now)))) result) }
+        ComesExactly 4 (file_faults (files_of (asked (map string_bytes words.now))))
+        (IsMissing files (files_of (asked (map string_bytes words.now)))) result) }
     ensures unreadable { IfFilesTold (files_of (asked (map string_bytes words.now))) (L.told shelf.old) (λ files.
-        ComesExactly 5 (3 ∷ 9 ∷ 10 ∷ []) (IsUnreadable (asked (map string_bytes words.now)) files) result) }
+        ComesExactly 5 (file_faults (files_of (asked (map string_bytes words.now))))
+        (IsUnreadable (asked (map string_bytes words.now)) files) result) }
     ensures disk_failed { result ≡ 8 → CountsDisk (asked (map string_bytes words.now)) (S.view site.old) (S.view site.new) }
     ensures disk_steady { result ≢ 8 → result ≢ 9 → (S.view site.new).disk.faults ≡ (S.view site.old).disk.faults }
     ensures unsaid { result ≡ 9 → CountsUnsaid (asked (map string_bytes words.now)) (S.view site.old) (S.view site.new) }
@@ -123,12 +127,14 @@ pub fn top<L: Shelf, S: Site>(alloc: Global, words: &[String], shelf: &mut L, si
         ComesFor (asked (map string_bytes words.now)) (S.view site.old) (S.view site.new) 11
         (IsPastLimit (asked (map string_bytes words.now)) files (S.view site.old) (S.view site.new)) result) }
     ensures too_much { IfFilesTold (files_of (asked (map string_bytes words.now))) (L.told shelf.old) (λ files.
-        NamesTooMuch (asked (map string_bytes words.now)) files → IsOneOf result (11 ∷ 3 ∷ 9 ∷ 10 ∷ [])) }
+        NamesTooMuch (asked (map string_bytes words.now)) files
+        → IsOneOf result (11 ∷ file_faults (files_of (asked (map string_bytes words.now))))) }
     ensures damaged { IfTold (asked (map string_bytes words.now)) (L.told shelf.old) (S.view site.old) (λ files.
         ComesFor (asked (map string_bytes words.now)) (S.view site.old) (S.view site.new) 13
         (FindsItDamaged (asked (map string_bytes words.now)) files (S.view site.old) (S.view site.new)) result) }
     ensures disagreement { IfFilesTold (files_of (asked (map string_bytes words.now))) (L.told shelf.old) (λ files.
-        ComesExactly 18 (3 ∷ 9 ∷ 10 ∷ []) (FindsDisagreement (asked (map string_bytes words.now)) files) result) }
+        ComesExactly 18 (file_faults (files_of (asked (map string_bytes words.now))))
+        (FindsDisagreement (asked (map string_bytes words.now)) files) result) }
 
     ensures failed { IfTold (asked (map string_bytes words.now)) (L.told shelf.old) (S.view site.old) (λ files.
         ComesFor (asked (map string_bytes words.now)) (S.view site.old) (S.view site.new) 6
@@ -168,7 +174,8 @@ pub fn top<L: Shelf, S: Site>(alloc: Global, words: &[String], shelf: &mut L, si
         → KeepsAgreement (S.view site.old) (S.view site.new) }
 
     // Where all agrees when the call begins, no file is told as damaged. A run that begins so and that nothing disturbs comes to its
-    // end, its budget or a question, unless a limit is passed, too many parcels change nothing, or memory is wanted.
+    // end, its budget or a question, unless a limit is passed, too many parcels change nothing, a named file can't be read, or memory is
+    // wanted.
     ensures undamaged { IsTrue (S.view site.old).disk.told → IsGood (S.view site.old) (S.view site.old).disk.beat → result ≢ 13 }
     ensures completes { Completes (asked (map string_bytes words.now)) (L.told shelf.old)
         (S.view site.old) (S.view site.new) result }

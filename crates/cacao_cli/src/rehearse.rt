@@ -7,20 +7,22 @@ use crate::end::End;
 use crate::hold::{close_end, error_end};
 use crate::limit::Limit;
 use cacao_site::Site;
+use cacao_words::Positions;
 use rehearsal::{RehearsalError, new_site};
 use std::alloc::Global;
 
 /// `rehearse`: runs the playbook with so many positions on a site of its own, and says what was counted.
-pub fn rehearse<'w, S: Site>(alloc: Global, positions: u32, _site: &mut S) -> End<'w>
-    ensures { Rehearses positions (S.view _site.old) (S.view _site.new) (end_of result) }
+pub fn rehearse<'w, S: Site>(alloc: Global, positions: Positions, _site: &mut S) -> End<'w>
+    ensures { Rehearses positions.count (S.view _site.old) (S.view _site.new) (end_of result) }
 {
     on_new_site(alloc, positions)
 }
 
 /// How a call ends that holds this rehearsal.
-fn on_new_site<'w>(alloc: Global, positions: u32) -> End<'w>
-    ensures { TellsRehearsal positions (end_of result) }
+fn on_new_site<'w>(alloc: Global, wanted: Positions) -> End<'w>
+    ensures { TellsRehearsal wanted.count (end_of result) }
 {
+    let positions = wanted.count;
     let mut site = match new_site(alloc) {
         Ok(site) => site,
         Err(_) => return End::NoMemory,

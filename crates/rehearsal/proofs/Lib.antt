@@ -5,8 +5,10 @@ pub mod CommandTexts
 pub mod Digits
 pub mod Given
 pub mod Held
+pub mod Lengths
 pub mod Manual
 pub mod Moments
+pub mod Opened
 pub mod Plain
 pub mod Planned
 pub mod Running

@@ -17,7 +17,7 @@ use Rattle.flow_world.specs.declared.error.WorldError.{WorldError}
 use Rattle.std.specs.Prelude.{IfErr, IfOk, MatchResult, Result, Ok, Err}
 use Rattle.memory_site.specs.declared.site.MemorySite.{MemorySite}
 use Rattle.rehearsal.specs.Books.{rehearsal_text}
-use Rattle.rehearsal.specs.Counts.{Counts, HoldsFilters, HoldsRun, KeepsImages}
+use Rattle.rehearsal.specs.Counts.{Counts, HoldsFilters, HoldsRun, KeepsImages, OpensFew}
 use Rattle.rehearsal.specs.NewSites.{EndsByPlan}
 use Rattle.rehearsal.specs.Plans.{GoesByPlan}
 use Rattle.rehearsal.specs.Rehearsals.{Closes, ClosesOtherwise, FailsToCount, FailsToRehearse, FailsToRun, Refuses, Rehearsed, RunsWell, ended_well, is_well, most_records, run_number}
@@ -89,37 +89,40 @@ module _ (given : Given) (how : Close) (answers : List OperatorAnswer) (old afte
   pub all_held : HoldsFilters after
   all_held = holds_filters given run_number most_records [] old after closes
 
-  pub fails_to_count : (new : SiteView) → KeepsImages after.disk new.disk → Rose after.disk.faults new.disk.faults → FailsToCount given old new
-  fails_to_count new keeps rose = record { after = after; closed = closes; keeps = keeps; rose = rose }
+  pub fails_to_count : (new : SiteView) → KeepsImages after.disk new.disk → OpensFew after.disk new.disk → Rose after.disk.faults new.disk.faults → FailsToCount given old new
+  fails_to_count new keeps few rose = record { after = after; closed = closes; keeps = keeps; few = few; rose = rose }
 
-  pub runs_well : (new : SiteView) (summary : Summary) → KeepsImages after.disk new.disk → Counts after summary → RunsWell given old new summary
-  runs_well new summary keeps counts = record {
+  pub runs_well : (new : SiteView) (summary : Summary) → KeepsImages after.disk new.disk → OpensFew after.disk new.disk → Counts after summary → RunsWell given old new summary
+  runs_well new summary keeps few counts = record {
     after = after;
     closed = closes;
     keeps = keeps;
+    few = few;
     records = counts.records closes.went.to.engine.history.records (records_held given run_number most_records [] old after closes);
     acts = counts.acts closes.went.to.filters (filters_held given run_number most_records [] old after closes);
     rules = counts.rules closes.went.to.filters (filters_held given run_number most_records [] old after closes);
   }
 
-pub fails_then : (positions : ℕ) (text : List ℕ) (given : Given) (old new : SiteView) (r : Result Summary RehearsalError) → text ≡ rehearsal_text positions → IsAccepted text given
-    → IfErr r (FailsToRun given old new) → IfErr r (FailsToRehearse positions old new)
-fails_then positions text given old new (Ok summary) same accepted why = tt
-fails_then positions text given old new (Err error.TooLong) same accepted why = absurd why
-fails_then positions text given old new (Err (error.Broken told)) same accepted why = absurd why
-fails_then positions text given old new (Err (error.Closed how)) same accepted why =
-    record { given = given; accepted = subst (λ (t : List ℕ). IsAccepted t given) same accepted; fails = why }
-fails_then positions text given old new (Err (error.Refused cause)) same accepted why =
-    record { given = given; accepted = subst (λ (t : List ℕ). IsAccepted t given) same accepted; fails = why }
-fails_then positions text given old new (Err error.Disk) same accepted why =
-    record { given = given; accepted = subst (λ (t : List ℕ). IsAccepted t given) same accepted; fails = why }
-fails_then positions text given old new (Err error.Memory) same accepted why = tt
+-- a text within the limit was given to the run
+module _ (positions : ℕ) (text : List ℕ) (given : Given) (old new : SiteView) (same : text ≡ rehearsal_text positions) (short : length text ≤ 1048576) (accepted : IsAccepted text given) where
+  is_short : length (rehearsal_text positions) ≤ 1048576
+  is_short = subst (λ (t : List ℕ). length t ≤ 1048576) same short
 
-pub runs_then : (positions : ℕ) (text : List ℕ) (given : Given) (old new : SiteView) (r : Result Summary RehearsalError) → text ≡ rehearsal_text positions → IsAccepted text given
-    → IfOk r (RunsWell given old new) → IfOk r (Rehearsed positions old new)
-runs_then positions text given old new (Ok summary) same accepted runs =
-    record { given = given; accepted = subst (λ (t : List ℕ). IsAccepted t given) same accepted; runs = runs }
-runs_then positions text given old new (Err why) same accepted runs = tt
+  is_accepted : IsAccepted (rehearsal_text positions) given
+  is_accepted = subst (λ (t : List ℕ). IsAccepted t given) same accepted
+
+  pub fails_then : (r : Result Summary RehearsalError) → IfErr r (FailsToRun given old new) → IfErr r (FailsToRehearse positions old new)
+  fails_then (Ok summary) why = tt
+  fails_then (Err error.TooLong) why = absurd why
+  fails_then (Err (error.Broken told)) why = absurd why
+  fails_then (Err (error.Closed how)) why = record { short = is_short; given = given; accepted = is_accepted; fails = why }
+  fails_then (Err (error.Refused cause)) why = record { short = is_short; given = given; accepted = is_accepted; fails = why }
+  fails_then (Err error.Disk) why = record { short = is_short; given = given; accepted = is_accepted; fails = why }
+  fails_then (Err error.Memory) why = tt
+
+  pub runs_then : (r : Result Summary RehearsalError) → IfOk r (RunsWell given old new) → IfOk r (Rehearsed positions old new)
+  runs_then (Ok summary) runs = record { short = is_short; given = given; accepted = is_accepted; runs = runs }
+  runs_then (Err why) runs = tt
 
 pub not_read : (positions : ℕ) (text : List ℕ) (site : SiteView) (why : RehearsalError) → text ≡ rehearsal_text positions → length text ≤ 1048576 → RefusesText text why → FailsToRehearse positions site site why
 not_read positions text site error.TooLong same short told = absurd told

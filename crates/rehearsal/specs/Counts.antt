@@ -1,5 +1,5 @@
 -- What the files of a run hold, counted.
-use Rattle.std.specs.Prelude.{◌≡◌, ◌<◌, ◌≤◌, ℕ, IsTrue, List, length}
+use Rattle.std.specs.Prelude.{◌≡◌, ◌<◌, ◌≤◌, ℕ, ◌+◌, ◌*◌, ◌/◌, IsTrue, List, length}
 use Rattle.cacao_site.specs.DiskCalls.{AllLeft, IsLeft}
 use Rattle.cacao_site.specs.View.{DiskView, SiteView}
 use Rattle.run_records.specs.declared.record.Record.{Record}
@@ -9,6 +9,7 @@ use Rattle.engine_history.specs.HistoryView.{HoldsRecords}
 use Rattle.flow_steps.specs.Sides.{AreFilters, IsFilter}
 use Rattle.flow_steps.specs.Spent.{all_acts}
 use Rattle.flow_steps.specs.Sums.{total}
+use Rattle.flow_world.specs.Openings.{blocks_to}
 use Rattle.rehearsal.specs.declared.counting.FilterCount.{FilterCount}
 use Rattle.rehearsal.specs.declared.summary.Summary.{Summary}
 
@@ -17,6 +18,10 @@ pub record KeepsImages (old new : DiskView) : Type 0 where
   pub told : new.told ≡ old.told
   pub faults : old.faults ≤ new.faults
   pub each : (file : ℕ) (image : List ℕ) → IsTrue old.told → IsLeft new file new.beat image → IsLeft old file old.beat image
+
+-- each of the seventeen files was opened once at most: three device calls for each, and one for each 4,096 bytes of it
+abbrev pub OpensFew : DiskView → DiskView → Type 0
+OpensFew old new = new.calls ≤ old.calls + 3 * 17 + (length (new.reads 0) / 4096 + blocks_to 16 new)
 
 -- ---- records
 

@@ -11,7 +11,7 @@ use Rattle.flow_world.specs.declared.close.Close.{Close}
 use Rattle.flow_world.specs.declared.close.Close.TheVariants as close
 use Rattle.flow_world.specs.declared.error.WorldError.{WorldError}
 use Rattle.rehearsal.specs.Books.{rehearsal_text}
-use Rattle.rehearsal.specs.Counts.{KeepsImages, all_rules}
+use Rattle.rehearsal.specs.Counts.{KeepsImages, OpensFew, all_rules}
 use Rattle.rehearsal.specs.Settings.{IsAccepted}
 use Rattle.rehearsal.specs.declared.error.RehearsalError.{RehearsalError}
 use Rattle.rehearsal.specs.declared.error.RehearsalError.TheVariants as error
@@ -40,11 +40,12 @@ Closes given how old new = HasClosed how given run_number most_records [] old ne
 abbrev pub Refuses : Given → WorldError → SiteView → SiteView → Type 0
 Refuses given why old new = HasRefused why given run_number most_records [] old new
 
--- The run ended well, and with so many records, acts and rules; then the files were opened again.
+-- The run ended well, and with so many records, acts and rules; then the files were opened again, each once at most.
 pub record RunsWell (given : Given) (old new : SiteView) (summary : Summary) : Type 0 where
   pub after : SiteView
   pub closed : Closes given ended_well old after
   pub keeps : KeepsImages after.disk new.disk
+  pub few : OpensFew after.disk new.disk
   pub records : summary.records ≡ length closed.went.to.engine.history.records
   pub acts : summary.acts ≡ all_acts closed.went.to.filters
   pub rules : summary.rules ≡ all_rules closed.went.to.filters
@@ -59,6 +60,7 @@ pub record FailsToCount (given : Given) (old new : SiteView) : Type 0 where
   pub after : SiteView
   pub closed : Closes given ended_well old after
   pub keeps : KeepsImages after.disk new.disk
+  pub few : OpensFew after.disk new.disk
   pub rose : Rose after.disk.faults new.disk.faults
 
 abbrev pub FailsToRun : Given → SiteView → SiteView → RehearsalError → Type 0
@@ -71,14 +73,16 @@ FailsToRun given old new error.Memory = ⊤
 
 -- ---- all
 
--- the playbook with so many positions ran on the site, and this was counted
+-- the text of the playbook with so many positions is not too long, it ran on the site, and this was counted
 pub record Rehearsed (positions : ℕ) (old new : SiteView) (summary : Summary) : Type 0 where
+  pub short : length (rehearsal_text positions) ≤ 1048576
   pub given : Given
   pub accepted : IsAccepted (rehearsal_text positions) given
   pub runs : RunsWell given old new summary
 
--- it is accepted, and did not run well
+-- the text is not too long and is accepted, and it did not run well
 pub record RunsBadly (positions : ℕ) (old new : SiteView) (why : RehearsalError) : Type 0 where
+  pub short : length (rehearsal_text positions) ≤ 1048576
   pub given : Given
   pub accepted : IsAccepted (rehearsal_text positions) given
   pub fails : FailsToRun given old new why

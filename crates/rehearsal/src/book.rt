@@ -1,5 +1,5 @@
 // The playbook of a rehearsal.
-ghost use Rattle.std.specs.Prelude.{◌≡◌, ◌∷◌, ◌++◌, [], IfOk, OnOk, Some, codes};
+ghost use Rattle.std.specs.Prelude.{◌≡◌, ◌≤◌, ◌∷◌, ◌++◌, [], IfOk, OnOk, Some, codes, length};
 ghost use Rattle.cacao_json.specs.Reading.{tree};
 ghost use Rattle.cacao_json.specs.Tree.{data_of};
 ghost use Rattle.rehearsal.specs.Books.{agent, ends, integer, names, object_of, parts, put_all, rehearsal, rehearsal_text, starts, workflow};
@@ -119,10 +119,12 @@ pub(crate) fn rehearsal(alloc: Global, positions: u32) -> Result<Tree, AllocErro
     Ok(Tree::Members(pairs))
 }
 
-/// The canonical text (RFC 8785) of the playbook with so many positions, which reads back.
+/// The canonical text (RFC 8785) of the playbook with so many positions, which reads back. With up to 1,000 positions it has at most
+/// 1,048,576 bytes.
 pub fn rehearsal_text(alloc: Global, positions: u32) -> Result<Bytes, AllocError>
     ensures text { IfOk result (λ text. text ≡ rehearsal_text positions) }
     ensures reads { IfOk result (λ text. tree text ≡ Some (rehearsal positions)) }
+    ensures short { positions ≤ 1_000 → IfOk result (λ text. length text ≤ 1_048_576) }
 {
     let tree = rehearsal(alloc, positions)?;
     tree_law(&tree);

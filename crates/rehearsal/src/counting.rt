@@ -1,7 +1,8 @@
 // What the files of a run hold.
-ghost use Rattle.std.specs.Prelude.{◌≤◌, IsTrue, IsErrOf, IfOk};
+ghost use Rattle.std.specs.Prelude.{◌≡◌, ◌≢◌, ◌≤◌, ◌+◌, ◌*◌, ◌/◌, ℕ, IsTrue, IsErrOf, IfOk, length};
 ghost use Rattle.cacao_site.specs.Counts.{Rose};
-ghost use Rattle.rehearsal.specs.Counts.{Counts, CountsActs, CountsFilters, CountsRecords, HoldsFilter, HoldsFilters, HoldsRun, KeepsImages};
+ghost use Rattle.flow_world.specs.Openings.{blocks_to};
+ghost use Rattle.rehearsal.specs.Counts.{Counts, CountsActs, CountsFilters, CountsRecords, HoldsFilter, HoldsFilters, HoldsRun, KeepsImages, OpensFew};
 
 use crate::summary::Summary;
 use cacao_site::Disk;
@@ -10,14 +11,14 @@ use slpf_actuator::{ActError, Actuator};
 use std::alloc::Global;
 
 /// Why files were not counted.
-#[derive(Clone, Copy, Debug, Drop, PartialEq, Eq)]
+#[derive(Clone, Copy, Drop)]
 pub(crate) enum CountError {
     Disk,
     Memory,
 }
 
 /// Acts and the rules after them.
-#[derive(Clone, Copy, Debug, Drop, PartialEq, Eq)]
+#[derive(Clone, Copy, Drop)]
 struct FilterCount {
     pub acts: u64,
     pub rules: u32,
@@ -29,6 +30,8 @@ fn count_records<D: Disk>(alloc: Global, disk: &mut D) -> Result<u32, CountError
     requires run { HoldsRun (D.view disk.old).disk }
     ensures records { IfOk result (CountsRecords (D.view disk.old).disk) }
     ensures keeps { KeepsImages (D.view disk.old).disk (D.view disk.new).disk }
+    ensures calls { (D.view disk.new).disk.calls
+        ≤ (D.view disk.old).disk.calls + 3 + length ((D.view disk.new).disk.reads 0) / 4096 }
     ensures disk { IsErrOf result CountError.Disk → Rose (D.view disk.old).disk.faults (D.view disk.new).disk.faults }
 {
     match Journal::open_on(alloc, disk, 0) {
@@ -49,6 +52,9 @@ fn count_filter<D: Disk>(alloc: Global, disk: &mut D, agent: u8) -> Result<Filte
     requires filter { HoldsFilter agent (D.view disk.old) }
     ensures count { IfOk result (CountsActs agent (D.view disk.old)) }
     ensures keeps { KeepsImages (D.view disk.old).disk (D.view disk.new).disk }
+    ensures calls { (D.view disk.new).disk.calls
+        ≤ (D.view disk.old).disk.calls + 3 + length ((D.view disk.new).disk.reads agent) / 4096 }
+    ensures others { (other : ℕ) → other ≢ agent → (D.view disk.new).disk.reads other ≡ (D.view disk.old).disk.reads other }
     ensures disk { IsErrOf result CountError.Disk → Rose (D.view disk.old).disk.faults (D.view disk.new).disk.faults }
 {
     match Actuator::open_on(alloc, disk, agent) {
@@ -70,6 +76,8 @@ fn count_filters<D: Disk>(alloc: Global, disk: &mut D) -> Result<FilterCount, Co
     requires filters { HoldsFilters (D.view disk.old) }
     ensures count { IfOk result (CountsFilters (D.view disk.old)) }
     ensures keeps { KeepsImages (D.view disk.old).disk (D.view disk.new).disk }
+    ensures calls { (D.view disk.new).disk.calls ≤ (D.view disk.old).disk.calls + 3 * 16 + blocks_to 16 (D.view disk.new).disk }
+    ensures first { (D.view disk.new).disk.reads 0 ≡ (D.view disk.old).disk.reads 0 }
     ensures disk { IsErrOf result CountError.Disk → Rose (D.view disk.old).disk.faults (D.view disk.new).disk.faults }
 {
     let mut all = FilterCount { acts: 0, rules: 0 };
@@ -92,6 +100,7 @@ pub(crate) fn count<D: Disk>(alloc: Global, disk: &mut D) -> Result<Summary, Cou
     requires filters { HoldsFilters (D.view disk.old) }
     ensures counts { IfOk result (Counts (D.view disk.old)) }
     ensures keeps { KeepsImages (D.view disk.old).disk (D.view disk.new).disk }
+    ensures few { OpensFew (D.view disk.old).disk (D.view disk.new).disk }
     ensures disk { IsErrOf result CountError.Disk → Rose (D.view disk.old).disk.faults (D.view disk.new).disk.faults }
 {
     let records = match count_records(alloc, disk) {

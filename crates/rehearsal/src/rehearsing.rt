@@ -1,5 +1,5 @@
 // One rehearsal.
-ghost use Rattle.std.specs.Prelude.{◌≡◌, IfOk, IfErr, MatchResult};
+ghost use Rattle.std.specs.Prelude.{◌≡◌, [], IfOk, IfErr, MatchResult};
 ghost use Rattle.memory_site.specs.MemorySite.{view_of};
 ghost use Rattle.rehearsal.specs.NewSites.{EndsByPlan, MayComeOfNew};
 ghost use Rattle.rehearsal.specs.Plans.{GoesByPlan};
@@ -15,6 +15,7 @@ use crate::site::RehearsalSite;
 use crate::summary::Summary;
 use flow_core::Setup;
 use flow_world::{Close, session};
+use operator_answers::Answers;
 use std::alloc::Global;
 
 /// The number of the run.
@@ -39,13 +40,18 @@ fn is_well(close: Close) -> bool
     }
 }
 
-/// Runs what is given on a site in memory, and counts.
-fn run(alloc: Global, site: &mut RehearsalSite, setup: Setup) -> Result<Summary, RehearsalError>
+/// Runs what is given on a site in memory, without answers of operators, and counts.
+fn run(
+    alloc: Global,
+    site: &mut RehearsalSite,
+    setup: Setup,
+    answers: &Answers,
+) -> Result<Summary, RehearsalError>
+    requires none { answers.now ≡ [] }
     ensures ok { IfOk result (RunsWell setup (view_of (inside site.old)) (view_of (inside site.new))) }
     ensures err { IfErr result (FailsToRun setup (view_of (inside site.old)) (view_of (inside site.new))) }
 {
-    let answers = no_answers(alloc)?;
-    let close = match session(alloc, site, setup, &answers, RUN, MOST_RECORDS) {
+    let close = match session(alloc, site, setup, answers, RUN, MOST_RECORDS) {
         Ok(close) => close,
         Err(error) => return Err(RehearsalError::Refused(error)),
     };
@@ -79,11 +85,12 @@ pub fn rehearse(
     if text.len() > MOST_BYTES {
         return Err(RehearsalError::TooLong);
     }
+    let answers = no_answers(alloc)?;
     let setup = match read_setup(alloc, text) {
         Ok(setup) => setup,
         Err(error) => return Err(error),
     };
-    let ran = run(alloc, site, setup);
+    let ran = run(alloc, site, setup, &answers);
     if site.is_short() {
         ran
     } else {

@@ -11,7 +11,7 @@ use Rattle.cacao_cli.proofs.AgreedLemmas.{agrees-ended}
 use Rattle.cacao_cli.proofs.BudgetLemmas.{asked-budget}
 use Rattle.cacao_cli.proofs.AnswerLemmas.{answers-ended, disk-ended}
 use Rattle.cacao_cli.proofs.ClockLemmas.{reached-ended}
-use Rattle.cacao_cli.proofs.CompleteLemmas.{completes-ended, undamaged-ended}
+use Rattle.cacao_cli.proofs.CompleteLemmas.{completes-ended}
 use Rattle.cacao_cli.proofs.CountLemmas.{failed-ended, steady-ended, unsaid-ended, said-ended, memory-ended}
 use Rattle.cacao_cli.proofs.ExactLemmas.{exact-ended}
 use Rattle.cacao_cli.proofs.LeaveLemmas.{leaves-ended, few-ended}
@@ -21,6 +21,7 @@ use Rattle.cacao_cli.proofs.ShortLemmas.{short-ended}
 use Rattle.cacao_cli.proofs.StatusLemmas.{damaged-ended, disagreement-ended, done-ended, words-ended, missing-ended, unreadable-ended, past-ended, much-ended, refused-ended, another-ended, asked-ended, failed-run-ended, flooded-ended, paused-ended, waiting-ended}
 use Rattle.cacao_cli.proofs.StayLemmas.{stays-ended}
 use Rattle.cacao_cli.proofs.SteadyLemmas.{disk-steady-ended}
+use Rattle.cacao_cli.proofs.UndamagedLemmas.{undamaged-ended}
 use Rattle.cacao_cli.proofs.UsageLemmas.{uses-ended}
 use Rattle.cacao_cli.proofs.program.top.Goals as goal
 

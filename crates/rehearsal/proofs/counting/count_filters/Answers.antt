@@ -2,6 +2,7 @@ use Rattle.std.proofs.Common.{ℕ, arith, length}
 use Rattle.slpf_acts.specs.Acts.{table_of}
 use Rattle.slpf_actuator.specs.ActuatorView.{ActuatorView}
 use Rattle.rehearsal.proofs.Held.{holds_next, keeps_then, more_counted}
+use Rattle.rehearsal.proofs.Opened.{calls_next, first_stays}
 use Rattle.rehearsal.proofs.counting.count_filters.Goals as goal
 
 abbrev acts_of : ActuatorView → ℕ
@@ -19,6 +20,8 @@ pub loop-agent-preserved : goal.loop-agent-preserved
 loop-agent-preserved g c = record {
   low = omega arith;
   keeps = keeps_then (g.D.Disk.view c.args.disk.now).disk (g.D.Disk.view c.loop-agent.disk).disk (g.D.Disk.view c.count_filter.new.disk).disk c.loop-agent.invariant.keeps c.in-Ok.ensures.keeps;
+  calls = calls_next c.loop-agent.agent (g.D.Disk.view c.args.disk.now).disk (g.D.Disk.view c.loop-agent.disk).disk (g.D.Disk.view c.count_filter.new.disk).disk c.loop-agent.invariant.low c.loop-agent.invariant.calls c.count_filter.ensures.calls c.count_filter.ensures.others;
+  first = first_stays c.loop-agent.agent (g.D.Disk.view c.args.disk.now).disk (g.D.Disk.view c.loop-agent.disk).disk (g.D.Disk.view c.count_filter.new.disk).disk c.loop-agent.invariant.low c.loop-agent.invariant.first c.count_filter.ensures.others;
   acts = λ filters are.
       more_counted acts_of c.loop-agent.agent c.loop-agent.all.acts c.in-Ok.one.acts (g.D.Disk.view c.args.disk.now) (g.D.Disk.view c.loop-agent.disk) filters c.loop-agent.invariant.low
       (omega (arith, c.loop-agent-test.true)) c.loop-agent.invariant.keeps are c.in-Ok.ensures.count.acts (c.loop-agent.invariant.acts filters are);

@@ -13,11 +13,13 @@ returns-in-Err-clause-err c = not_read c.args.positions c.in_ok-text.text (view_
 
 pub returns-then-is_short-clause-ok : goal.returns-then-is_short-clause-ok
 returns-then-is_short-clause-ok c =
-    runs_then c.args.positions c.in_ok-text.text c.in-Ok.setup (view_of c.args.site.now.site) (view_of c.run-ran.new.site.site) c.run-ran.result c.in_ok-text.ensures.text c.in-Ok.ensures.ok c.run-ran.ensures.ok
+    runs_then c.args.positions c.in_ok-text.text c.in-Ok.setup (view_of c.args.site.now.site) (view_of c.run-ran.new.site.site) c.in_ok-text.ensures.text (omega (arith, c.len.ensures, c.if-len-gt-MOST_BYTES.false)) c.in-Ok.ensures.ok
+    c.run-ran.result c.run-ran.ensures.ok
 
 pub returns-then-is_short-clause-err : goal.returns-then-is_short-clause-err
 returns-then-is_short-clause-err c =
-    fails_then c.args.positions c.in_ok-text.text c.in-Ok.setup (view_of c.args.site.now.site) (view_of c.run-ran.new.site.site) c.run-ran.result c.in_ok-text.ensures.text c.in-Ok.ensures.ok c.run-ran.ensures.err
+    fails_then c.args.positions c.in_ok-text.text c.in-Ok.setup (view_of c.args.site.now.site) (view_of c.run-ran.new.site.site) c.in_ok-text.ensures.text (omega (arith, c.len.ensures, c.if-len-gt-MOST_BYTES.false)) c.in-Ok.ensures.ok
+    c.run-ran.result c.run-ran.ensures.err
 
 pub returns-in-Err-clause-new_site : goal.returns-in-Err-clause-new_site
 returns-in-Err-clause-new_site c =
