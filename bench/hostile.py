@@ -10,7 +10,7 @@ usage: hostile.py [PROGRAM] [--rounds N] [--jobs N] [--seed N] [--only kill|stop
   disk    full disks, limits, files without permission, closed outputs, folders in the place of files
   depth   the longest chains and the deepest nests that the limits allow, on a stack of 8 MiB
   rows    bad input: cut files, broken bytes, texts at the edge of a limit
-PROGRAM is the one that `./cacao` builds, if none is named. It ends with status 1 where anything was found. docs/HOSTILE.md says what is compared.
+PROGRAM is the one that `./prove` leaves, if none is named. It ends with status 1 where anything was found. docs/HOSTILE.md says what is compared.
 """
 import argparse
 import concurrent.futures
@@ -49,8 +49,8 @@ def words():
 
 
 def built():
-    """The program that the launcher builds, where it is missing or made of other sources."""
-    subprocess.run([f"{TOP}/cacao", "canon", f"{TOP}/crates/cacao/data/empty.json"], stdout=subprocess.DEVNULL, check=True)
+    """The proved program, which is proved first where it is missing or made of other sources."""
+    subprocess.run([f"{TOP}/prove"], check=True)
     return f"{TOP}/.build/cacao"
 
 

@@ -6,8 +6,8 @@ usage: speed.py [--small] [--program FILE] [--folder FOLDER] [--rounds N] [ROW..
   check    4,096 steps and heavy sharing, and half of each, beside Python's reading of the same file
   durable  records a second on real files, beside a bare loop that writes as many bytes and syncs as often, and SQLite
   show     `show` and taking on a run with a journal near 64 MiB, beside `wc -c` and a Python parser of the layout
-  steps    the records of a loop in memory (flow_bench), beside a plain Python interpreter of it
-  decide   packets over 65,536 rules and over 256, and a plain scan (filter_bench)
+  steps    the records of a loop in memory (test_speed), beside a plain Python interpreter of it
+  decide   packets over 65,536 rules and over 256, and a plain scan (test_speed)
   start    a short run from start to exit, beside `true` and jq
 --small takes a few seconds a row, and its figures say little. FOLDER is where files are made, on the disk that is measured.
 A tool that this machine lacks is left out. The programs are built first where they are missing, which takes long.
@@ -54,8 +54,8 @@ class Bench:
 
     def built(self, crate):
         """The program of a crate, which is proved and built where that is to be done."""
-        # `rt run` hands the program the words of its stored run.
-        made = subprocess.run(["rt", "run"], cwd=f"{TOP}/crates/{crate}", stdout=subprocess.DEVNULL, stderr=subprocess.PIPE, check=False)
+        # By this word the program tells how it is called.
+        made = subprocess.run(["rt", "run", "--", "help"], cwd=f"{TOP}/crates/{crate}", stdout=subprocess.DEVNULL, stderr=subprocess.PIPE, check=False)
         if made.returncode:
             raise SystemExit(made.stderr.decode())
         return f"{TOP}/crates/{crate}/out/{crate}"
@@ -75,8 +75,8 @@ def words():
 
 
 def built():
-    """The program that the launcher builds, where it is missing or made of other sources."""
-    subprocess.run([f"{TOP}/cacao", "canon", f"{TOP}/crates/cacao/data/empty.json"], stdout=subprocess.DEVNULL, check=True)
+    """The proved program, which is proved first where it is missing or made of other sources."""
+    subprocess.run([f"{TOP}/prove"], check=True)
     return f"{TOP}/.build/cacao"
 
 

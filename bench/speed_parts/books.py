@@ -1,4 +1,4 @@
-"""The loop that is run."""
+"""The playbooks that are run."""
 from hostile_parts.books import END, identifier, playbook, starts, text_of
 
 RUN = 7
@@ -12,6 +12,30 @@ def endless(walks):
     for place, key in enumerate(keys[:-1]):
         steps[key] = {"type": "if-condition", "condition": "__n__:value = 1", "on_true": END, "on_completion": keys[place + 1]}
     return text_of(playbook({**starts(ask), **steps}, {"__n__": {"type": "integer", "value": "0"}}))
+
+
+def forks(depth, following, heads):
+    """So many parallel steps: each has 64 branches at the next one, and the last one these branches."""
+    keys = [identifier("parallel", 11 + place) for place in range(depth)]
+    branches = [[key] * 64 for key in keys[1:]] + [heads]
+    return starts(keys[0]) | {
+        key: {"type": "parallel", "next_steps": branch, "on_completion": following} for key, branch in zip(keys, branches)
+    }
+
+
+def mixed():
+    """Three parallel steps, one in the other, of 64, 64 and 50 branches, the last of which have other delays each: 208,961 tasks."""
+    ends = {identifier("end", number): {"type": "end", "delay": number * 40_503 % 1_009} for number in range(30, 80)}
+    steps = forks(3, next(iter(ends)), list(ends))
+    for key, delay in zip(steps, (0, 0, 7, 3)):
+        if delay:
+            steps[key]["delay"] = delay
+    return text_of(playbook({}, workflow=steps | ends))
+
+
+def deep():
+    """Four parallel steps of 64 equal branches, one in the other: 17,043,521 tasks if all were made."""
+    return text_of(playbook({}, workflow=forks(4, END, [END] * 64) | {END: {"type": "end"}}))
 
 
 def run(program, book, records):

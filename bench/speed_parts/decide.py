@@ -6,7 +6,7 @@ LINE = r"(\d+) rules, (packets that \w+ rules? covers?): \d+ in \d+ ms, (\d+) a 
 
 
 def measure(bench):
-    told = subprocess.run([bench.built("filter_bench"), "measure"], stdout=subprocess.PIPE, check=True).stdout.decode()
+    told = subprocess.run([bench.built("test_speed"), "decide"], stdout=subprocess.PIPE, check=True).stdout.decode()
     for line in told.splitlines():
         bench.report.say(line)
     rates = {(what, int(rules), by): int(rate) for rules, what, rate, by in re.findall(LINE, told)}
