@@ -6,7 +6,7 @@ use cacao_json::Text;
 use cacao_vars::Vars;
 
 /// A playbook as far as it is checked and run (CACAO 2.0, section 3.1).
-#[derive(Debug, Drop)]
+#[derive(Drop)]
 pub struct Book {
     /// Its identifier, of the object type `playbook`.
     pub id: Id,

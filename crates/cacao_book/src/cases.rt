@@ -3,14 +3,14 @@ use cacao_json::Text;
 use std::marker::Model;
 
 /// A case of a switch: the value that chooses it, and the key of the step to which it leads.
-#[derive(Debug, Drop)]
+#[derive(Drop)]
 pub struct Case {
     pub value: Text,
     pub step: Text,
 }
 
 /// Cases in order. Those of a playbook that was read stand in the order of the bytes of their values, each once.
-#[derive(Debug, Drop)]
+#[derive(Drop)]
 pub struct Cases {
     items: Vec<Case>,
 }

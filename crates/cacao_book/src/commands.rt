@@ -3,7 +3,7 @@ use cacao_json::Text;
 use std::marker::Model;
 
 /// A command of an action (CACAO 2.0, section 5).
-#[derive(Debug, Drop)]
+#[derive(Drop)]
 pub struct StepCommand {
     /// Its type, as the playbook names it.
     pub kind: Text,
@@ -13,7 +13,7 @@ pub struct StepCommand {
 }
 
 /// Commands in order.
-#[derive(Debug, Drop)]
+#[derive(Drop)]
 pub struct StepCommands {
     items: Vec<StepCommand>,
 }

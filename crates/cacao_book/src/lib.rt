@@ -26,6 +26,3 @@ pub use step_kinds::StepKind;
 pub use step_lists::Steps;
 pub use steps::Step;
 pub use texts::Texts;
-
-#[cfg(test)]
-mod tests;

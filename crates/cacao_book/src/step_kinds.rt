@@ -7,7 +7,7 @@ use cacao_vars::Names;
 
 /// What a step does (CACAO 2.0, section 4). `in_args` and `out_args` are names of variables, also where the playbook
 /// has references.
-#[derive(Debug, Drop)]
+#[derive(Drop)]
 pub enum StepKind {
     /// The start of a playbook.
     Start,

@@ -4,7 +4,7 @@ use std::marker::Model;
 
 /// At most 4,096 steps of different keys, in the order of the bytes of their keys, each within the limits of its
 /// lists and its condition. Only `read_book` makes one.
-#[derive(Debug, Drop)]
+#[derive(Drop)]
 pub struct Steps {
     items: Vec<Step>,
 }

@@ -6,7 +6,7 @@ use cacao_vars::Vars;
 
 /// A step of a playbook (CACAO 2.0, section 4.1). Links are keys of steps as the playbook names them: they may name
 /// no step.
-#[derive(Debug, Drop)]
+#[derive(Drop)]
 pub struct Step {
     pub key: Id,
     /// How long to wait before it, in milliseconds.

@@ -3,7 +3,7 @@ use cacao_json::Text;
 use std::marker::Model;
 
 /// Texts in order.
-#[derive(Debug, Drop)]
+#[derive(Drop)]
 pub struct Texts {
     items: Vec<Text>,
 }

@@ -6,7 +6,7 @@ use cacao_json::Text;
 use std::alloc::{AllocError, AllocFailed};
 
 /// What the books are checked for: to be read, or to be run.
-#[derive(Clone, Copy, Debug, PartialEq, Eq)]
+#[derive(Clone, Copy, PartialEq, Eq)]
 pub enum Mode {
     Read,
     Run,

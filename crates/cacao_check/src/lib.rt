@@ -22,6 +22,3 @@ pub use checking::check;
 pub use fits::value_fits;
 pub use laws::{first_break_is, results_fit, sound_ends, sound_gives};
 pub use rules::SenseRule;
-
-#[cfg(test)]
-mod tests;

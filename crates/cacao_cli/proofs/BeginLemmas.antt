@@ -12,11 +12,11 @@ use Rattle.flow_rules.specs.Accepted.{Accepted}
 use Rattle.flow_rules.specs.Bindings.{bindings_of}
 use Rattle.flow_rules.specs.Givens.{Given}
 use Rattle.cacao_words.specs.Requests.{RunRequest}
-use Rattle.cacao_cli.specs.Command.{end_of}
-use Rattle.cacao_cli.specs.Ends.{End, bind_refused}
-use Rattle.cacao_cli.specs.Holding.{HoldsSo}
+use Rattle.cacao_cli_ends.specs.Told.{end_of}
+use Rattle.cacao_cli_ends.specs.Ends.{End, bind_refused}
+use Rattle.cacao_cli_session.specs.Holding.{HoldsSo}
 use Rattle.cacao_cli.specs.Starting.{BeginsSo, HasBind, LacksOthers, answers_of}
-use Rattle.cacao_cli.specs.declared.end.End.{End as HowEnd}
+use Rattle.cacao_cli_ends.specs.declared.end.End.{End as HowEnd}
 use Rattle.cacao_cli.specs.declared.run_texts.RunTexts.{RunTexts}
 
 is-some : {A : Type 0} (o : Option A) (x : A) → o ≡ Some x → IsSome o

@@ -19,18 +19,18 @@ use Rattle.flow_core.specs.SetupReading.{AreTreesOf, IsFirstUnreadable, texts_re
 use Rattle.flow_rules.specs.Bindings.{bindings_of}
 use Rattle.cacao_words.specs.Requests.{RunRequest}
 use Rattle.cacao_words.specs.Words.{Text}
-use Rattle.cacao_cli.specs.Asked.{runs}
-use Rattle.cacao_cli.specs.Ends.{End, no_memory, not_readable, past}
-use Rattle.cacao_cli.specs.Ended.{Performed, Performs}
-use Rattle.cacao_cli.specs.Files.{NamedText, ReadsTo, ShelfCall, book_file, has_too_many, item_then, listed, run_names}
+use Rattle.cacao_cli_ends.specs.Asked.{runs}
+use Rattle.cacao_cli_ends.specs.Ends.{End, no_memory, not_readable, past}
+use Rattle.cacao_cli_status_laws.specs.Ended.{Performed, Performs}
+use Rattle.cacao_cli_ends.specs.Files.{NamedText, ReadsTo, ShelfCall, book_file, has_too_many, item_then, listed, run_names}
 use Rattle.cacao_cli.specs.Starting.{BeginsSo, IsBegun, IsStartFrom, IsUnbound, IsUnread, IsUnreadableEnd}
-use Rattle.cacao_cli.specs.Work.{Start, Work, behind_books, bind_text, book_texts, bytes_of, ends, first_if, or_end, rest_if, start_of, starts, tree_of, tree_or_end, trees_of, trees_wanted, work_on}
-use Rattle.cacao_cli.specs.declared.limit.Limit.TheVariants.{BookCount}
+use Rattle.cacao_cli_ends.specs.Work.{Start, Work, behind_books, bind_text, book_texts, bytes_of, ends, first_if, or_end, rest_if, start_of, starts, tree_of, tree_or_end, trees_of, trees_wanted, work_on}
+use Rattle.cacao_cli_ends.specs.declared.limit.Limit.TheVariants.{BookCount}
 use Rattle.cacao_cli.specs.declared.run_texts.RunTexts.{RunTexts}
-use Rattle.cacao_cli.proofs.CauseLemmas.{Treeless, TreesCase, all_trees, one_treeless, trees_case}
-use Rattle.cacao_cli.proofs.PerformLemmas.{nat_lt-no, nat_lt-yes, says-end}
-use Rattle.cacao_cli.proofs.ReadLemmas.{Read, none-read}
-use Rattle.cacao_cli.proofs.TreeLemmas.{TreeCase, has_tree, treeless, tree_case}
+use Rattle.cacao_cli_ends.proofs.TreeCases.{Treeless, TreesCase, all_trees, one_treeless, trees_case}
+use Rattle.cacao_cli_looks.proofs.PerformLemmas.{nat_lt-no, nat_lt-yes, says-end}
+use Rattle.cacao_cli_ends.proofs.ReadLemmas.{Read, none-read}
+use Rattle.cacao_cli_ends.proofs.TreeLemmas.{TreeCase, has_tree, treeless, tree_case}
 
 -- ---- the texts that want a tree
 

@@ -4,14 +4,14 @@ use Rattle.std.specs.Prelude.{if◌then◌else◌}
 use Rattle.std.proofs.lemmas.List.{length-map}
 use Rattle.cacao_words.specs.Requests.{RunRequest}
 use Rattle.cacao_words.specs.Words.{Text}
-use Rattle.cacao_cli.specs.Asked.{runs}
-use Rattle.cacao_cli.specs.Files.{File, Files, NamedText, Reads, all_read, wants_memory, stops, goes_on, book_file, files_of, item_then, listed, run_names}
+use Rattle.cacao_cli_ends.specs.Asked.{runs}
+use Rattle.cacao_cli_ends.specs.Files.{File, Files, NamedText, Reads, all_read, wants_memory, stops, goes_on, book_file, files_of, item_then, listed, run_names}
 use Rattle.cacao_cli.specs.Starting.{IsStartFrom}
-use Rattle.cacao_cli.specs.Work.{Start, book_texts}
+use Rattle.cacao_cli_ends.specs.Work.{Start, book_texts}
 use Rattle.cacao_cli.specs.declared.run_texts.RunTexts.{RunTexts}
 use Rattle.cacao_cli.proofs.PartLemmas.{the-name}
-use Rattle.cacao_cli.proofs.PerformLemmas.{files-named, nat_lt-no}
-use Rattle.cacao_cli.proofs.ReadLemmas.{Read}
+use Rattle.cacao_cli_looks.proofs.PerformLemmas.{files-named, nat_lt-no}
+use Rattle.cacao_cli_ends.proofs.ReadLemmas.{Read}
 
 -- the files of names
 pub named-files : (slice names : List (Bor Text)) (texts : List Text) → slice ≡ names → map (λ name. name.now) names ≡ texts → map (λ name. book_file name.now) slice ≡ map book_file texts

@@ -5,10 +5,10 @@ use Rattle.std.proofs.lemmas.Bool.{true≢false}
 use Rattle.std.proofs.lemmas.List.{length-map, map-append}
 use Rattle.cacao_words.specs.Requests.{RunRequest}
 use Rattle.cacao_words.specs.Words.{Text}
-use Rattle.cacao_cli.specs.Command.{text_of}
-use Rattle.cacao_cli.specs.Files.{NamedText, listed, run_names}
-use Rattle.cacao_cli.specs.Work.{Start, bytes_of, start_of}
-use Rattle.cacao_cli.specs.declared.file_text.FileText.{FileText}
+use Rattle.cacao_cli_looks.specs.Command.{text_of}
+use Rattle.cacao_cli_ends.specs.Files.{NamedText, listed, run_names}
+use Rattle.cacao_cli_ends.specs.Work.{Start, bytes_of, start_of}
+use Rattle.cacao_cli_looks.specs.declared.file_text.FileText.{FileText}
 use Rattle.cacao_cli.proofs.PartLemmas.{start-split}
 
 pub mapped-some : {A B : Type 0} (f : A → B) (o : Option A) → is_some (option_map f o) ≡ is_some o

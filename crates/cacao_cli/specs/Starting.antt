@@ -8,14 +8,15 @@ use Rattle.flow_rules.specs.Bindings.{bindings_of}
 use Rattle.operator_answers.specs.Answers.{IsFirstBadLine}
 use Rattle.cacao_words.specs.Requests.{RunRequest}
 use Rattle.cacao_words.specs.Words.{Text}
-use Rattle.cacao_cli.specs.Command.{end_of, text_of}
-use Rattle.cacao_cli.specs.Ended.{Performs}
-use Rattle.cacao_cli.specs.Holding.{WantsToStart}
-use Rattle.cacao_cli.specs.Ends.{End, no_memory, not_readable}
-use Rattle.cacao_cli.specs.Files.{NamedText}
-use Rattle.cacao_cli.specs.Work.{Start, bytes_of, start_of, starts, tree_or_end}
-use Rattle.cacao_cli.specs.declared.end.End.{End as HowEnd}
-use Rattle.cacao_cli.specs.declared.reason.Reason.TheVariants.{NotJson, Line}
+use Rattle.cacao_cli_ends.specs.Told.{end_of}
+use Rattle.cacao_cli_looks.specs.Command.{text_of}
+use Rattle.cacao_cli_status_laws.specs.Ended.{Performs}
+use Rattle.cacao_cli_session.specs.Holding.{WantsToStart}
+use Rattle.cacao_cli_ends.specs.Ends.{End, no_memory, not_readable}
+use Rattle.cacao_cli_ends.specs.Files.{NamedText}
+use Rattle.cacao_cli_ends.specs.Work.{Start, bytes_of, start_of, starts, tree_or_end}
+use Rattle.cacao_cli_ends.specs.declared.end.End.{End as HowEnd}
+use Rattle.cacao_cli_ends.specs.declared.reason.Reason.TheVariants.{NotJson, Line}
 use Rattle.cacao_cli.specs.declared.run_texts.RunTexts.{RunTexts}
 
 -- the texts of a run, as the definitions have them

@@ -3,38 +3,39 @@ ghost use Rattle.std.specs.Prelude.{◌≡◌, ◌≢◌, ◌≤◌, ◌∷◌, 
 ghost use Rattle.cacao_site.specs.Counts.{next_count};
 ghost use Rattle.flow_laws.specs.Good.{IsGood};
 ghost use Rattle.flow_world.specs.Sessions.{KeepsAgreement};
-ghost use Rattle.cacao_cli.specs.Agreement.{MayBegin};
-ghost use Rattle.cacao_cli.specs.Asked.{asked};
-ghost use Rattle.cacao_cli.specs.Causes.{CanBeDone, FindsDisagreement, FindsItDamaged, IsMissing, IsPastLimit, IsRefused};
-ghost use Rattle.cacao_cli.specs.Causes.{IsUnreadable, NamesTooMuch, EndsAs, EndsAsAnother, EndsAsAsked, EndsAsWaiting};
-ghost use Rattle.cacao_cli.specs.Command.{asked_by, end_of};
-ghost use Rattle.cacao_cli.specs.Completing.{Completes};
-ghost use Rattle.cacao_cli.specs.Ended.{Ended, Performed};
-ghost use Rattle.cacao_cli.specs.Ends.{ended_failed, flooded, paused};
-ghost use Rattle.cacao_cli.specs.Exact.{IsOneOf, AnswersExactly, ComesExactly, ComesFor, IfFilesTold, IfTold, file_faults};
-ghost use Rattle.cacao_cli.specs.Exact.{reached_statuses};
-ghost use Rattle.cacao_cli.specs.Files.{files_of, shelf_call};
-ghost use Rattle.cacao_cli.specs.Leaves.{Leaves, LeavesAll, NoFault, ReadsAtMost, CountsDisk, CountsUnsaid};
-ghost use Rattle.cacao_cli.specs.OwnSites.{StandsReached, StandsShort};
-ghost use Rattle.cacao_cli.specs.Returning.{TellsOnReturn};
-ghost use Rattle.cacao_cli.specs.Statuses.{IsOwnStatus};
-ghost use Rattle.cacao_cli.specs.Usage.{UsesFew};
+ghost use Rattle.cacao_cli_status_laws.specs.Agreement.{MayBegin};
+ghost use Rattle.cacao_cli_ends.specs.Asked.{asked};
+ghost use Rattle.cacao_cli_status_laws.specs.Causes.{CanBeDone, FindsDisagreement, FindsItDamaged, IsPastLimit, IsRefused};
+ghost use Rattle.cacao_cli_ends.specs.FileCauses.{IsMissing};
+ghost use Rattle.cacao_cli_status_laws.specs.Causes.{IsUnreadable, NamesTooMuch, EndsAs, EndsAsAnother, EndsAsAsked};
+ghost use Rattle.cacao_cli_status_laws.specs.Causes.{EndsAsWaiting};
+ghost use Rattle.cacao_cli_status_laws.specs.Commands.{asked_by};
+ghost use Rattle.cacao_cli_ends.specs.Told.{end_of};
+ghost use Rattle.cacao_cli_session_laws.specs.Completing.{Completes};
+ghost use Rattle.cacao_cli_status_laws.specs.Ended.{Ended, Performed};
+ghost use Rattle.cacao_cli_ends.specs.Ends.{ended_failed, flooded, paused};
+ghost use Rattle.cacao_cli_ends.specs.Comes.{IsOneOf, ComesExactly, ComesFor, IfFilesTold, IfTold, file_faults};
+ghost use Rattle.cacao_cli_status_laws.specs.Exact.{AnswersExactly};
+ghost use Rattle.cacao_cli_ends.specs.Comes.{reached_statuses};
+ghost use Rattle.cacao_cli_ends.specs.Files.{files_of, shelf_call};
+ghost use Rattle.cacao_cli_status_laws.specs.Leaves.{Leaves, LeavesAll, CountsDisk, CountsUnsaid};
+ghost use Rattle.cacao_cli_ends.specs.Stays.{NoFault, ReadsAtMost};
+ghost use Rattle.cacao_cli_status_laws.specs.OwnSites.{StandsReached, StandsShort};
+ghost use Rattle.cacao_cli_session_laws.specs.Returning.{TellsOnReturn};
+ghost use Rattle.cacao_cli_status_laws.specs.Statuses.{IsOwnStatus};
+ghost use Rattle.cacao_cli_status_laws.specs.Usage.{UsesFew};
 
-use crate::audit::audit;
-use crate::canon::canon;
-use crate::check::check;
-use crate::end::End;
-use crate::filters::{decide, say_rules, say_shadows};
 use crate::rehearse::rehearse;
 use crate::run::run;
-use crate::say::finish;
-use crate::show::show;
+use cacao_cli_ends::{End, finish};
+use cacao_cli_looks::{audit, canon, check, decide, say_rules, say_shadows, show};
 use cacao_site::{Shelf, Site};
 use cacao_words::{Command, read_words};
 use session_laws::complete_laws;
 use std::alloc::Global;
 
 /// Does what a command asks, all but the last line.
+#[tactic(auto, using(crate::proofs::LookLemmas::looked_performed))]
 fn carry_out<'w, L: Shelf, S: Site>(
     alloc: Global,
     command: &Command<'w>,

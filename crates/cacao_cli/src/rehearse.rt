@@ -1,14 +1,14 @@
 // The command `rehearse`.
 ghost use Rattle.std.specs.Prelude.{◌≡◌};
-ghost use Rattle.cacao_cli.specs.Command.{end_of};
-ghost use Rattle.cacao_cli.specs.Rehearsing.{Rehearses, TellsRehearsal, failed_end};
+ghost use Rattle.cacao_cli_ends.specs.Ends.{rehearsed};
+ghost use Rattle.cacao_cli_ends.specs.Told.{end_of};
+ghost use Rattle.cacao_cli_status_laws.specs.Rehearsing.{Rehearses, TellsRehearsal, failed_end};
 
-use crate::end::End;
-use crate::hold::{close_end, error_end};
-use crate::limit::Limit;
+use cacao_cli_ends::{End, Limit};
+use cacao_cli_session::{close_end, error_end};
 use cacao_site::Site;
 use cacao_words::Positions;
-use rehearsal::{RehearsalError, new_site};
+use rehearsal::{RehearsalError, Summary, new_site};
 use std::alloc::Global;
 
 /// `rehearse`: runs the playbook with so many positions on a site of its own, and says what was counted.
@@ -28,8 +28,20 @@ fn on_new_site<'w>(alloc: Global, wanted: Positions) -> End<'w>
         Err(_) => return End::NoMemory,
     };
     match rehearsal::rehearse(alloc, &mut site, positions) {
-        Ok(summary) => End::Rehearsed { positions, summary },
+        Ok(summary) => rehearsed_end(positions, summary),
         Err(error) => failed_end(error),
+    }
+}
+
+/// How a call ends whose rehearsal was counted.
+fn rehearsed_end<'w>(positions: u32, summary: Summary) -> End<'w>
+    ensures { end_of result ≡ rehearsed positions summary.records summary.acts summary.rules }
+{
+    End::Rehearsed {
+        positions,
+        records: summary.records,
+        acts: summary.acts,
+        rules: summary.rules,
     }
 }
 

@@ -1,16 +1,15 @@
 // The command `run`.
 ghost use Rattle.std.specs.Prelude.{◌≡◌, ◌≤◌, [], Some};
 ghost use Rattle.cacao_words.specs.Commands.{run_request};
-ghost use Rattle.cacao_cli.specs.Asked.{runs};
-ghost use Rattle.cacao_cli.specs.Command.{end_of};
-ghost use Rattle.cacao_cli.specs.Ended.{Performed};
-ghost use Rattle.cacao_cli.specs.Files.{files_of, shelf_call};
+ghost use Rattle.cacao_cli_ends.specs.Asked.{runs};
+ghost use Rattle.cacao_cli_ends.specs.Told.{end_of};
+ghost use Rattle.cacao_cli_status_laws.specs.Ended.{Performed};
+ghost use Rattle.cacao_cli_ends.specs.Files.{files_of, shelf_call};
 
-use crate::end::End;
-use crate::file::read_files;
-use crate::hold::start;
-use crate::limit::Limit;
 use crate::run_parts::{names_of, split};
+use crate::start::start;
+use cacao_cli_ends::{End, Limit};
+use cacao_cli_looks::read_files;
 use cacao_site::{Shelf, Site};
 use cacao_words::RunWords;
 use std::alloc::Global;

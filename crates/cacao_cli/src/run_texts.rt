@@ -2,7 +2,7 @@
 ghost use Rattle.std.specs.Prelude.{All};
 ghost use Rattle.flow_core.specs.Setups.{IsReadable};
 
-use crate::file_text::FileText;
+use cacao_cli_looks::FileText;
 use cacao_site::Bytes;
 
 /// The texts that a run is given.

@@ -6,7 +6,7 @@ use cacao_vars::{Kind, Name};
 use decimals::read_integer;
 
 /// The value of a variable: unset, a whole number, a flag, or a text.
-#[derive(Clone, Copy, Debug, PartialEq, Eq)]
+#[derive(Clone, Copy, PartialEq, Eq)]
 pub enum Atom<'a> {
     Unset,
     Whole(i64),

@@ -19,6 +19,3 @@ pub use printing::{CondText, print_cond};
 pub use reading::read_cond;
 pub use trees::{AllOf, Cond, Constant, Constants, Op, Prime};
 pub use truths::truth;
-
-#[cfg(test)]
-mod tests;

@@ -12,7 +12,7 @@ use std::alloc::{AllocError, Global};
 use std::marker::Model;
 
 /// The text of a condition, seen as its bytes.
-#[derive(Debug, Drop)]
+#[derive(Drop)]
 pub struct CondText {
     bytes: Vec<u8>,
 }

@@ -2,7 +2,7 @@
 use cacao_vars::{Name, Word};
 
 /// The operator of a comparison.
-#[derive(Clone, Copy, Debug, PartialEq, Eq)]
+#[derive(Clone, Copy, PartialEq, Eq)]
 pub enum Op {
     Equal,
     Unequal,
@@ -13,7 +13,7 @@ pub enum Op {
 }
 
 /// What a variable is compared with.
-#[derive(Debug, Drop)]
+#[derive(Drop)]
 pub enum Constant {
     Whole(i64),
     Flag(bool),

@@ -13,7 +13,7 @@ use std::marker::Model;
 
 /// An identifier of a playbook, a step, an agent or a target (the identifier data type of CACAO 2.0): an object
 /// type, two hyphens and a UUID, at most 128 bytes in all.
-#[derive(Clone, Debug, Drop)]
+#[derive(Clone, Drop)]
 pub struct Id {
     text: String,
 }

@@ -8,6 +8,3 @@ mod uuids;
 pub use ids::Id;
 pub use stamps::Stamp;
 pub use uuids::is_uuid;
-
-#[cfg(test)]
-mod tests;

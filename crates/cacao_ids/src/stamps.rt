@@ -15,7 +15,7 @@ use std::marker::Model;
 
 /// A stamp, the moment at which a playbook was made or changed (the timestamp data type of CACAO 2.0):
 /// `YYYY-MM-DDThh:mm:ss`, perhaps a point and one to nine digits, and `Z` (RFC 3339, section 5.6).
-#[derive(Clone, Debug, Drop)]
+#[derive(Clone, Drop)]
 pub struct Stamp {
     text: String,
 }

@@ -22,6 +22,3 @@ pub use laws::profile_law;
 pub use read::{TEXT_LIMIT, find_tree, read_tree};
 pub use text::Text;
 pub use tree::{Items, Pair, Pairs, Tree, tree_law};
-
-#[cfg(test)]
-mod tests;

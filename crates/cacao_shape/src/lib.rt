@@ -17,6 +17,3 @@ pub use lists::{items_at, members_at, text_or_empty};
 pub use members::{flag_at, has_type, some_text, text_at};
 pub use refusals::BookError;
 pub use shape::test_shape;
-
-#[cfg(test)]
-mod tests;

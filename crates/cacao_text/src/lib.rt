@@ -10,6 +10,3 @@ pub mod write;
 pub use bytes::Bytes2;
 pub use laws::canonical_law;
 pub use write::{canonical, canonical_book, canonical_book_with_room, canonical_string};
-
-#[cfg(test)]
-mod tests;

@@ -10,7 +10,7 @@ use std::cmp::Ordering;
 use std::marker::Model;
 
 /// A variable as it is declared (CACAO 2.0, section 10.18). `worth` is its value at first, where it has one.
-#[derive(Clone, Debug, Drop, PartialEq, Eq)]
+#[derive(Clone, Drop, PartialEq, Eq)]
 pub struct Var {
     pub name: Name,
     pub kind: Kind,
@@ -20,7 +20,7 @@ pub struct Var {
 }
 
 /// Declarations of different names, in the order of the names' bytes.
-#[derive(Debug, Drop)]
+#[derive(Drop)]
 pub struct Vars {
     items: Vec<Var>,
 }

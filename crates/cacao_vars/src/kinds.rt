@@ -5,7 +5,7 @@ use crate::words::Word;
 use std::alloc::{AllocError, Global};
 
 /// The type of a variable (CACAO 2.0, section 10.18.1). Other types than these ten are kept by name.
-#[derive(Clone, Debug, Drop, PartialEq, Eq)]
+#[derive(Clone, Drop, PartialEq, Eq)]
 pub enum Kind {
     String,
     Bool,

@@ -18,6 +18,3 @@ pub use references::{Reference, find_reference, leading_reference, whole_referen
 pub use scoping::{Scope, ScopeError, Scopes, Write};
 pub use variable_names::Name;
 pub use words::Word;
-
-#[cfg(test)]
-mod tests;

@@ -6,7 +6,7 @@ use std::alloc::{AllocError, Global};
 use std::marker::Model;
 
 /// Names in order, the same one perhaps more than once.
-#[derive(Debug, Drop)]
+#[derive(Drop)]
 pub struct Names {
     items: Vec<Name>,
 }

@@ -73,7 +73,7 @@ fn first_place(text: &[u8]) -> Option<(usize, usize)>
 }
 
 /// A reference in a text: what stands before it, the name that it names, and what stands behind it.
-#[derive(Clone, Copy, Debug)]
+#[derive(Clone, Copy)]
 pub struct Reference<'a> {
     pub before: &'a str,
     pub name: &'a str,

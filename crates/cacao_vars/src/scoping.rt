@@ -11,14 +11,14 @@ use std::marker::Model;
 use thiserror::Error;
 
 /// A scope: the scope around it, if there is one, and what it declares.
-#[derive(Debug, Drop)]
+#[derive(Drop)]
 pub struct Scope {
     pub parent: Option<u32>,
     pub vars: Vars,
 }
 
 /// A write: where, to which name, and the text.
-#[derive(Debug, Drop)]
+#[derive(Drop)]
 pub struct Write {
     pub scope: u32,
     pub name: Name,
@@ -53,7 +53,7 @@ impl<T: Drop> From<AllocFailed<T>> for ScopeError {
 }
 
 /// Scopes, numbered from 0, and the list of all writes. Those around a scope are earlier than it.
-#[derive(Debug, Drop)]
+#[derive(Drop)]
 pub struct Scopes {
     scopes: Vec<Scope>,
     writes: Vec<Write>,

@@ -13,7 +13,7 @@ use std::marker::Model;
 
 /// The name of a variable (CACAO 2.0, section 10.18): `__`, 1 to 60 of letters, digits, `_` and `-`, and `__`.
 /// It is seen as the list of its bytes, and its order is theirs.
-#[derive(Debug, Drop)]
+#[derive(Drop)]
 pub struct Name {
     text: String,
 }

@@ -2,7 +2,7 @@
 ghost use Rattle.std.specs.Prelude.{◌≤◌};
 
 /// The number of an agent, 1 to 16.
-#[derive(Clone, Copy, Debug, PartialEq, Eq)]
+#[derive(Clone, Copy, PartialEq, Eq)]
 pub struct Agent {
     pub number: u8,
     pub ghost low: { 1 ≤ number },
@@ -10,7 +10,7 @@ pub struct Agent {
 }
 
 /// The positions of a rehearsal, 1 to 1,000.
-#[derive(Clone, Copy, Debug, PartialEq, Eq)]
+#[derive(Clone, Copy, PartialEq, Eq)]
 pub struct Positions {
     pub count: u32,
     pub ghost some: { 1 ≤ count },

@@ -9,7 +9,7 @@ use std::alloc::Global;
 use std::str;
 
 /// Why a file gives no packets.
-#[derive(Clone, Copy, Debug, Drop, PartialEq, Eq)]
+#[derive(Clone, Copy, Drop, PartialEq, Eq)]
 pub enum PacketsError {
     /// The line of this number, from 1, is the first that is none.
     Line { number: u32 },

@@ -11,8 +11,6 @@ mod index;
 mod reading;
 mod replying;
 mod running;
-#[cfg(test)]
-mod tests;
 pub mod verdict;
 
 pub use auditing::audit;

@@ -9,6 +9,3 @@ mod least;
 
 pub use dues::Dues;
 pub use laws::dues_are_one;
-
-#[cfg(test)]
-mod tests;

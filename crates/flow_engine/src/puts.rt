@@ -1,7 +1,7 @@
 // How an issue was put.
 
 /// The puts of an issue that waits since the opening of its engine.
-#[derive(Clone, Copy, Debug, Drop, PartialEq, Eq)]
+#[derive(Clone, Copy, Drop, PartialEq, Eq)]
 pub struct Puts {
     /// When it was put last, in milliseconds.
     pub last: u64,

@@ -2,7 +2,7 @@
 use cacao_site::Bytes;
 
 /// How an issue stands.
-#[derive(Clone, Copy, Debug, PartialEq, Eq)]
+#[derive(Clone, Copy, PartialEq, Eq)]
 pub enum IssuePhase {
     /// It waits for its end.
     Waiting,

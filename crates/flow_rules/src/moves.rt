@@ -1,7 +1,7 @@
 // The moves that a run makes by itself.
 
 /// What a run can do next by itself.
-#[derive(Clone, Copy, Debug, PartialEq, Eq)]
+#[derive(Clone, Copy, PartialEq, Eq)]
 pub enum Move {
     /// The task goes on.
     Walk { task: u32 },

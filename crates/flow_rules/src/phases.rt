@@ -1,7 +1,7 @@
 // Where tasks stand.
 
 /// Where a task stands on its way. Moments are in milliseconds.
-#[derive(Clone, Copy, Debug, PartialEq, Eq)]
+#[derive(Clone, Copy, PartialEq, Eq)]
 pub enum Phase {
     /// Before its step, from this moment on.
     At { since: u64 },

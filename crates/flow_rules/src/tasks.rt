@@ -3,7 +3,7 @@ use crate::phases::Phase;
 
 /// A path through a playbook (CACAO 2.0, section 4). Tasks, scopes and issues are numbered from 0 in the order in which
 /// they are made.
-#[derive(Clone, Copy, Debug, PartialEq, Eq)]
+#[derive(Clone, Copy, PartialEq, Eq)]
 pub struct Task {
     /// The task that made it; None for the first task of a run.
     pub parent: Option<u32>,

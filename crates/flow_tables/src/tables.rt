@@ -15,7 +15,7 @@ use flow_setup::Setup;
 use std::alloc::{AllocError, Global};
 
 /// Of a task that joins: how many of the tasks that it waits for have not ended, and whether one of them has failed.
-#[derive(Clone, Copy, Debug, PartialEq, Eq)]
+#[derive(Clone, Copy, PartialEq, Eq)]
 pub struct Wait {
     pub open: u32,
     pub failed: bool,

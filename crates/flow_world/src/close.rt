@@ -1,7 +1,7 @@
 // How a session closes.
 
 /// How a session closes that no call refused.
-#[derive(Clone, Copy, Debug, Drop, PartialEq, Eq)]
+#[derive(Clone, Copy, Drop, PartialEq, Eq)]
 pub enum Close {
     /// The run has ended, well or not.
     Ended { well: bool },

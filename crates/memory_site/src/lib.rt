@@ -12,8 +12,6 @@ pub mod site;
 mod site_calls;
 mod site_crash;
 mod site_link;
-#[cfg(test)]
-mod tests;
 
 pub use plan::{CallList, SitePlan, Weather, WeatherList};
 pub use shelf::MemoryShelf;

@@ -3,7 +3,7 @@ ghost use Rattle.std.specs.Prelude.{◌≡◌};
 ghost use Rattle.oc2_msg.specs.Words.{direction_word, direction_named};
 
 /// The direction of the packets that a rule speaks of (OpenC2 SLPF 1.0, section 2.1.3).
-#[derive(Clone, Copy, Debug, PartialEq, Eq)]
+#[derive(Clone, Copy, PartialEq, Eq)]
 pub enum Direction {
     Both,
     Ingress,

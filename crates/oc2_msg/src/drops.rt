@@ -3,7 +3,7 @@ ghost use Rattle.std.specs.Prelude.{◌≡◌};
 ghost use Rattle.oc2_msg.specs.Words.{drop_word, drop_named};
 
 /// What the sender of a packet that is denied hears (OpenC2 SLPF 1.0, section 2.1.3, `drop_process`).
-#[derive(Clone, Copy, Debug, PartialEq, Eq)]
+#[derive(Clone, Copy, PartialEq, Eq)]
 pub enum Drop3 {
     /// Nothing (`none`).
     Silent,

@@ -33,6 +33,3 @@ pub use refusals::{CommandError, Refusal};
 pub use response_reading::read_response;
 pub use response_writing::write_response;
 pub use responses::Response;
-
-#[cfg(test)]
-mod tests;

@@ -8,7 +8,7 @@ use crate::ipv6_nets::Net6;
 use crate::packets::{Address, Packet, Protocol};
 
 /// What a rule speaks of (OpenC2 SLPF 1.0, section 2.1.2): a net, or a connection with the parts that it states.
-#[derive(Clone, Copy, Debug, PartialEq, Eq)]
+#[derive(Clone, Copy, PartialEq, Eq)]
 pub enum Flow {
     Net4(Net4),
     Net6(Net6),

@@ -5,7 +5,7 @@ ghost use Rattle.oc2_nets.specs.Bits.{cleared, IsCleared};
 use crate::packets::Address;
 
 /// An IPv4 net: the addresses whose first `width` bits are those of `bits`.
-#[derive(Clone, Copy, Debug, PartialEq, Eq, PartialOrd, Ord)]
+#[derive(Clone, Copy, PartialEq, Eq, PartialOrd, Ord)]
 pub struct Net4 {
     /// The address of 32 bits; every bit past the width is 0.
     pub bits: u32,

@@ -4,8 +4,6 @@
 //! covers a packet.
 #![tactic(auto)]
 
-#[cfg(test)]
-mod cover_tests;
 mod flows;
 mod ipv4_nets;
 mod ipv6_nets;
@@ -14,8 +12,6 @@ mod net_texts;
 mod nets;
 mod packets;
 mod protocols;
-#[cfg(test)]
-mod tests;
 mod texts;
 
 pub use flows::{Flow, covers};

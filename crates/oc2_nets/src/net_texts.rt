@@ -2,7 +2,7 @@
 use std::marker::Model;
 
 /// The text of a net, which contracts see as its bytes.
-#[derive(Debug, Drop)]
+#[derive(Drop)]
 pub struct NetText {
     text: String,
 }

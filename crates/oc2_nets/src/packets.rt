@@ -3,7 +3,7 @@ ghost use Rattle.std.specs.Prelude.{◌≡◌};
 ghost use Rattle.oc2_nets.specs.Families.{is_v4};
 
 /// The protocol of a packet.
-#[derive(Clone, Copy, Debug, PartialEq, Eq)]
+#[derive(Clone, Copy, PartialEq, Eq)]
 pub enum Protocol {
     Icmp,
     Tcp,
@@ -12,14 +12,14 @@ pub enum Protocol {
 }
 
 /// The bits of an address, the most significant first.
-#[derive(Clone, Copy, Debug, PartialEq, Eq)]
+#[derive(Clone, Copy, PartialEq, Eq)]
 pub enum Address {
     V4(u32),
     V6(u128),
 }
 
 /// A packet at a filter. Both of its addresses are of one family.
-#[derive(Clone, Copy, Debug, PartialEq, Eq)]
+#[derive(Clone, Copy, PartialEq, Eq)]
 pub struct Packet {
     /// Whether it goes out (egress), and not in (ingress).
     pub outward: bool,

@@ -3,7 +3,7 @@ ghost use Rattle.std.specs.Prelude.{◌≡◌};
 ghost use Rattle.oc2_targets.specs.Words.{action_word, action_named, is_deny, adds_rule};
 
 /// What a command asks for (OpenC2 Language 1.0, section 3.3.1): the actions of this profile.
-#[derive(Clone, Copy, Debug, PartialEq, Eq)]
+#[derive(Clone, Copy, PartialEq, Eq)]
 pub enum Action {
     Allow,
     Deny,

@@ -6,7 +6,7 @@ use crate::actions::Action;
 
 /// The type of a target (OpenC2 Language 1.0, section 3.4.1; OpenC2 SLPF 1.0, section 2.1.2), by the name of the
 /// target's one member.
-#[derive(Clone, Copy, Debug, PartialEq, Eq)]
+#[derive(Clone, Copy, PartialEq, Eq)]
 pub enum TargetKind {
     Ipv4Net,
     Ipv6Net,

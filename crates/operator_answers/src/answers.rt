@@ -11,7 +11,7 @@ use std::marker::Model;
 
 /// How an issue ended, as an operator told: a status code (OpenC2 Language 1.0, section 3.2) other than 102, and a text of at most
 /// 4,096 bytes of UTF-8.
-#[derive(Clone, Debug, Drop, PartialEq, Eq)]
+#[derive(Clone, Drop, PartialEq, Eq)]
 pub struct OperatorAnswer {
     pub issue: u32,
     pub status: u16,
@@ -19,7 +19,7 @@ pub struct OperatorAnswer {
 }
 
 /// Why a text gives no answers.
-#[derive(Clone, Copy, Debug, Drop, PartialEq, Eq)]
+#[derive(Clone, Copy, Drop, PartialEq, Eq)]
 pub enum AnswerError {
     /// The line with this number, from 1 on, is the first that is none.
     Line { number: u32 },

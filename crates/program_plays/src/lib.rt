@@ -3,5 +3,9 @@
 #![tactic(auto)]
 
 mod program;
+mod rehearsals;
+mod scene;
 
 pub use program::{Answer, Program};
+pub use rehearsals::{Rehearsed, count_rehearsed, text_rehearsed};
+pub use scene::Scene;

@@ -2,7 +2,7 @@
 use cacao_cli::top;
 use cacao_site::{Disk, Parcel};
 use memory_site::{CallList, MemoryShelf, MemorySite, SitePlan, WeatherList};
-use session_plays::{Outside, spelled_out};
+use session_plays::Outside;
 use std::alloc::{AllocError, Global};
 use std::str::from_utf8;
 
@@ -21,11 +21,6 @@ impl Answer {
             Ok(text) => text,
             Err(_) => "no text\n",
         }
-    }
-
-    /// Whether it has this status, and this was said and nothing else.
-    pub fn has(&self, status: u8, text: &str) -> bool {
-        self.status == status && self.text() == text
     }
 }
 
@@ -60,9 +55,12 @@ fn plan(alloc: Global, outside: Outside) -> Result<SitePlan, AllocError> {
     })
 }
 
-/// The words of a line, with a space between each two.
+/// The words of a line, with a space between each two; an empty line has none.
 fn words(alloc: Global, line: &str) -> Result<Vec<String>, AllocError> {
     let mut words = Vec::new(alloc);
+    if line.is_empty() {
+        return Ok(words);
+    }
     for word in line.split(' ') {
         words.push(String::from_str(alloc, word)?)?;
     }
@@ -93,12 +91,6 @@ impl Program {
     /// Puts a file on the shelf.
     pub fn add(&mut self, name: &str, text: &[u8]) -> Result<(), AllocError> {
         self.shelf.add(name, text)
-    }
-
-    /// Puts a playbook on the shelf, whose text has its identifiers cut and its members named.
-    pub fn add_book(&mut self, name: &str, text: &str) -> Result<(), AllocError> {
-        let text = spelled_out(self.alloc, text)?;
-        self.shelf.add(name, text.as_bytes())
     }
 
     /// Lets the read of this number fail, from 0.
@@ -155,6 +147,11 @@ impl Program {
         );
         let said = self.said_from(first)?;
         Ok(Answer { status, said })
+    }
+
+    /// How many lines were said.
+    pub fn line_count(&self) -> usize {
+        self.site.line_count()
     }
 
     /// How many parcels were put.

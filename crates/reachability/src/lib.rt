@@ -20,6 +20,3 @@ pub use places::Places;
 pub use returning::may_return;
 pub use reversing::reversed;
 pub use searching::{reached, reached_past_guards};
-
-#[cfg(test)]
-mod tests;

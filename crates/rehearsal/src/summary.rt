@@ -1,7 +1,7 @@
 // What is counted.
 
 /// What is counted of a rehearsal whose run has ended well.
-#[derive(Clone, Copy, Debug, Drop, PartialEq, Eq)]
+#[derive(Clone, Copy, Drop, PartialEq, Eq)]
 pub struct Summary {
     /// The records of the run.
     pub records: u32,

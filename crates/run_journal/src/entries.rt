@@ -5,7 +5,7 @@ use cacao_site::Bytes;
 use std::marker::Model;
 
 /// An entry of an image.
-#[derive(Debug, Drop)]
+#[derive(Drop)]
 pub struct Entry {
     /// The place of its gate, in bytes from the start of the image.
     pub place: u64,
@@ -13,7 +13,7 @@ pub struct Entry {
 }
 
 /// The entries of an image, in order.
-#[derive(Debug, Drop)]
+#[derive(Drop)]
 pub struct Entries {
     items: Vec<Entry>,
 }

@@ -9,8 +9,6 @@ mod fields;
 mod laws;
 mod reading;
 mod record;
-#[cfg(test)]
-mod tests;
 mod writing;
 
 pub use act::Act;

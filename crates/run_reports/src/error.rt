@@ -1,7 +1,7 @@
 // Why a file has no report.
 
 /// Why nothing can be said of the entries of the engine's file.
-#[derive(Clone, Copy, Debug, Drop, PartialEq, Eq)]
+#[derive(Clone, Copy, Drop, PartialEq, Eq)]
 pub enum ReportError {
     /// The entry whose gate stands at this place, in bytes, is the first that is no record of the run.
     Damaged { place: u64 },

@@ -19,6 +19,26 @@ pub enum Book {
     Second,
     /// A loop that does not end.
     Loop,
+    /// A net is denied by one filter, within three seconds.
+    Net,
+    /// Nothing is done between the start and the end.
+    Bare,
+}
+
+impl Book {
+    /// The playbook of a name; nothing where there is none.
+    pub fn named(name: &str) -> Option<Book> {
+        match name {
+            "block" => Some(Book::Block),
+            "ask" => Some(Book::Ask),
+            "one" => Some(Book::One),
+            "second" => Some(Book::Second),
+            "loop" => Some(Book::Loop),
+            "net" => Some(Book::Net),
+            "bare" => Some(Book::Bare),
+            _ => None,
+        }
+    }
 }
 
 /// What stands between an identifier's type and its last two digits.
@@ -77,6 +97,21 @@ const LOOP: &str =
 "on_true":"end--13","on_completion":"end--13"},
 "end--13":{"type":"end"}}}"#;
 
+const NET: &str = r#"{"type":"playbook","spec_version":"cacao-2.0","id":"playbook--01",
+"name":"a case","created_by":"identity--02",
+"created":"2024-01-02T03:04:05Z","modified":"2024-01-02T03:04:05Z","workflow_start":"start--10",
+"agent_definitions":{"net-address--20":{}},"workflow":{
+"start--10":{"type":"start","on_completion":"action--12"},
+"action--12":{"type":"action","agent":"net-address--20","timeout":3000,"commands":[{"type":"openc2-http",
+"content":"{\"action\":\"deny\",\"target\":{\"ipv4_net\":\"10.0.0.0/8\"}}"}],"on_completion":"end--13"},
+"end--13":{"type":"end"}}}"#;
+
+const BARE: &str = r#"{"type":"playbook","spec_version":"cacao-2.0","id":"playbook--03",
+"name":"a case","created_by":"identity--02",
+"created":"2024-01-02T03:04:05Z","modified":"2024-01-02T03:04:05Z","workflow_start":"start--10",
+"agent_definitions":{"net-address--20":{}},"workflow":{
+"start--10":{"type":"start","on_completion":"end--13"},"end--13":{"type":"end"}}}"#;
+
 /// A playbook's text, with its identifiers cut and its members named.
 fn text_of(book: Book) -> &'static str {
     match book {
@@ -85,6 +120,8 @@ fn text_of(book: Book) -> &'static str {
         Book::One => ONE,
         Book::Second => SECOND,
         Book::Loop => LOOP,
+        Book::Net => NET,
+        Book::Bare => BARE,
     }
 }
 

@@ -8,4 +8,4 @@ mod play;
 
 pub use books::{Book, cut, spelled_out, text};
 pub use outside::{LATE, Outside, fair};
-pub use play::{Asked, Came, Files, Held, Play, whole};
+pub use play::{Asked, Came, Files, Held, Play, answers, whole};

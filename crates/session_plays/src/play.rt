@@ -5,24 +5,24 @@ use cacao_site::{Bytes, Disk, Parcel};
 use flow_core::Setup;
 use flow_world::{Close, WorldError, session};
 use memory_site::MemorySite;
-use operator_answers::{Answers, read_answers};
+use operator_answers::{AnswerError, Answers, read_answers};
 use slpf_actuator::Actuator;
 use std::alloc::{AllocError, Global};
 use std::str::from_utf8;
 
 /// What is asked of a session.
 #[derive(Clone, Copy)]
-pub struct Asked {
+pub struct Asked<'a> {
     pub book: Book,
     /// The text of the operators' answers.
-    pub answers: &'static str,
+    pub answers: &'a str,
     pub run: u64,
     /// How many records may be appended; 0 stands for 1.
     pub most: u64,
 }
 
 /// Run 7 of a playbook to its end, without answers.
-pub fn whole(book: Book) -> Asked {
+pub fn whole(book: Book) -> Asked<'static> {
     Asked {
         book,
         answers: "",
@@ -69,7 +69,7 @@ fn go_on(
     alloc: Global,
     setup: Setup,
     answers: &Answers,
-    asked: Asked,
+    asked: Asked<'_>,
 ) -> Came {
     match session(alloc, site, setup, answers, asked.run, asked.most.max(1)) {
         Ok(close) => Came::Closed(close),
@@ -77,15 +77,12 @@ fn go_on(
     }
 }
 
-/// The operators' answers of a text; nothing where it can't be read.
-fn answers(alloc: Global, text: &str, run: u64) -> Option<Answers> {
+/// The operators' answers for a run in a text. One that is too long to be read is answered as want of memory.
+pub fn answers(alloc: Global, text: &str, run: u64) -> Result<Answers, AnswerError> {
     if text.len() > 1_048_576 {
-        return None;
+        return Err(AnswerError::Memory);
     }
-    match read_answers(alloc, text.as_bytes(), run) {
-        Ok(answers) => Some(answers),
-        Err(_) => None,
-    }
+    read_answers(alloc, text.as_bytes(), run)
 }
 
 /// The acts and the rules of a filter of an agent 1 to 16; nothing where its file can't be opened.
@@ -119,13 +116,13 @@ impl Play {
     }
 
     /// Plays a session.
-    pub fn play(&mut self, asked: Asked) -> Came {
+    pub fn play(&mut self, asked: Asked<'_>) -> Came {
         let Ok(setup) = setup(self.alloc, asked.book) else {
             return Came::NoSetup;
         };
         match answers(self.alloc, asked.answers, asked.run) {
-            Some(answers) => go_on(&mut self.site, self.alloc, setup, &answers, asked),
-            None => Came::NoAnswers,
+            Ok(answers) => go_on(&mut self.site, self.alloc, setup, &answers, asked),
+            Err(_) => Came::NoAnswers,
         }
     }
 
@@ -212,10 +209,10 @@ impl Play {
     }
 
     /// Writes a file from its front on; false where that failed.
-    pub fn fill(&mut self, number: u8, bytes: &Bytes) -> bool {
+    pub fn fill(&mut self, number: u8, bytes: &[u8]) -> bool {
         if number > 16 || bytes.len() > 4096 {
             return false;
         }
-        self.site.write(number, 0, bytes.as_slice()).is_ok() && self.site.sync(number).is_ok()
+        self.site.write(number, 0, bytes).is_ok() && self.site.sync(number).is_ok()
     }
 }

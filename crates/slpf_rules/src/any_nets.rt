@@ -10,7 +10,7 @@ use std::cmp::Ordering;
 
 /// A net of either family. IPv4 nets come before IPv6 nets; nets of one family rise by their bits, and equal bits by
 /// the width.
-#[derive(Clone, Copy, Debug)]
+#[derive(Clone, Copy)]
 pub enum AnyNet {
     V4(Net4),
     V6(Net6),

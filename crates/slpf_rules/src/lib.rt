@@ -12,8 +12,6 @@ mod numbers;
 mod rules;
 mod soles;
 mod table;
-#[cfg(test)]
-mod tests;
 mod verdicts;
 mod widths;
 

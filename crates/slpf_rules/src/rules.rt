@@ -14,7 +14,7 @@ use std::collections::{BTreeMap, HashMap};
 use std::marker::Model;
 
 /// A rule of a packet filter (OpenC2 SLPF 1.0, section 2.3). Moments are in milliseconds.
-#[derive(Clone, Copy, Debug, PartialEq, Eq)]
+#[derive(Clone, Copy, PartialEq, Eq)]
 pub struct Rule {
     pub number: u32,
     pub deny: bool,

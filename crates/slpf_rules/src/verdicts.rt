@@ -8,7 +8,7 @@ use oc2_msg::Direction;
 use oc2_nets::{Packet, covers};
 
 /// What a filter does with a packet.
-#[derive(Clone, Copy, Debug, PartialEq, Eq)]
+#[derive(Clone, Copy, PartialEq, Eq)]
 pub struct Verdict {
     pub deny: bool,
     /// The number of the rule that decided, 0 where there is none.

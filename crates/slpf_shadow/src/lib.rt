@@ -8,8 +8,6 @@ mod searching;
 mod shadow_lists;
 mod shadowing;
 mod shapes;
-#[cfg(test)]
-mod tests;
 
 pub use listing::shadowed;
 pub use shadow_lists::{Shadow, ShadowList};

@@ -1,11 +1,12 @@
 -- The commands that read no file.
 use Rattle.std.proofs.Common.{refl, sym, ap, subst, Option}
 use Rattle.cacao_site.specs.View.{SiteView}
-use Rattle.cacao_cli.specs.Asked.{Asked}
-use Rattle.cacao_cli.specs.Command.{asked_by, end_of}
-use Rattle.cacao_cli.specs.Ended.{Performed}
-use Rattle.cacao_cli.specs.Files.{ShelfCall}
-use Rattle.cacao_cli.proofs.PerformLemmas.{rehearse-perform, rules-perform, shadows-perform, show-perform}
+use Rattle.cacao_cli_ends.specs.Asked.{Asked}
+use Rattle.cacao_cli_status_laws.specs.Commands.{asked_by}
+use Rattle.cacao_cli_ends.specs.Told.{end_of}
+use Rattle.cacao_cli_status_laws.specs.Ended.{Performed}
+use Rattle.cacao_cli_ends.specs.Files.{ShelfCall}
+use Rattle.cacao_cli_status_laws.proofs.PerformLemmas.{rehearse-perform, rules-perform, shadows-perform, show-perform}
 use Rattle.cacao_cli.proofs.program.carry_out.Goals as goal
 
 pub returns-in-Show-clause-performed : goal.returns-in-Show-clause-performed

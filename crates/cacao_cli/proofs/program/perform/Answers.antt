@@ -1,12 +1,13 @@
 -- Words with no reading, and want of memory for them.
 use Rattle.std.proofs.Common.{◌≡◌, ◌∙◌, sym, ap, refl, subst, Option, map, string_bytes}
 use Rattle.std.specs.Prelude.{option_and_then, option_map}
-use Rattle.cacao_cli.specs.Asked.{Asked, asked, built}
+use Rattle.cacao_cli_ends.specs.Asked.{Asked, asked, built}
 use Rattle.cacao_words.specs.Commands.{request_by}
-use Rattle.cacao_cli.specs.Command.{asked_by, end_of}
-use Rattle.cacao_cli.specs.Ended.{Performed}
-use Rattle.cacao_cli.specs.Files.{ShelfCall}
-use Rattle.cacao_cli.proofs.PerformLemmas.{performed-none, performed-memory}
+use Rattle.cacao_cli_status_laws.specs.Commands.{asked_by}
+use Rattle.cacao_cli_ends.specs.Told.{end_of}
+use Rattle.cacao_cli_status_laws.specs.Ended.{Performed}
+use Rattle.cacao_cli_ends.specs.Files.{ShelfCall}
+use Rattle.cacao_cli_status_laws.proofs.PerformLemmas.{performed-none, performed-memory}
 use Rattle.cacao_cli.proofs.program.perform.Goals as goal
 
 pub returns-in-Ok-None-clause-performed : goal.returns-in-Ok-None-clause-performed

@@ -1,28 +1,28 @@
 -- Each clause holds of a call that went as `Ended` says.
 use Rattle.std.proofs.Common.{ℕ, Option, map, string_bytes}
 use Rattle.cacao_site.specs.View.{SiteView}
-use Rattle.cacao_cli.specs.Asked.{Asked, asked}
-use Rattle.cacao_cli.specs.Command.{end_of}
-use Rattle.cacao_cli.specs.Ended.{Ended, Performed}
-use Rattle.cacao_cli.specs.Ends.{End}
-use Rattle.cacao_cli.specs.Files.{ShelfCall}
-use Rattle.cacao_cli.specs.Lines.{Tells}
-use Rattle.cacao_cli.proofs.AgreedLemmas.{agrees-ended}
-use Rattle.cacao_cli.proofs.BudgetLemmas.{asked-budget}
-use Rattle.cacao_cli.proofs.AnswerLemmas.{answers-ended, disk-ended}
-use Rattle.cacao_cli.proofs.ClockLemmas.{reached-ended}
-use Rattle.cacao_cli.proofs.CompleteLemmas.{completes-ended}
-use Rattle.cacao_cli.proofs.CountLemmas.{failed-ended, steady-ended, unsaid-ended, said-ended, memory-ended}
-use Rattle.cacao_cli.proofs.ExactLemmas.{exact-ended}
-use Rattle.cacao_cli.proofs.LeaveLemmas.{leaves-ended, few-ended}
-use Rattle.cacao_cli.proofs.ReturnLemmas.{returns-ended}
-use Rattle.cacao_cli.proofs.ReturnedRuns.{sound-reads}
-use Rattle.cacao_cli.proofs.ShortLemmas.{short-ended}
-use Rattle.cacao_cli.proofs.StatusLemmas.{damaged-ended, disagreement-ended, done-ended, words-ended, missing-ended, unreadable-ended, past-ended, much-ended, refused-ended, another-ended, asked-ended, failed-run-ended, flooded-ended, paused-ended, waiting-ended}
-use Rattle.cacao_cli.proofs.StayLemmas.{stays-ended}
-use Rattle.cacao_cli.proofs.SteadyLemmas.{disk-steady-ended}
-use Rattle.cacao_cli.proofs.UndamagedLemmas.{undamaged-ended}
-use Rattle.cacao_cli.proofs.UsageLemmas.{uses-ended}
+use Rattle.cacao_cli_ends.specs.Asked.{Asked, asked}
+use Rattle.cacao_cli_ends.specs.Told.{end_of}
+use Rattle.cacao_cli_status_laws.specs.Ended.{Ended, Performed}
+use Rattle.cacao_cli_ends.specs.Ends.{End}
+use Rattle.cacao_cli_ends.specs.Files.{ShelfCall}
+use Rattle.cacao_cli_ends.specs.Lines.{Tells}
+use Rattle.cacao_cli_status_laws.proofs.AgreedLemmas.{agrees-ended}
+use Rattle.cacao_cli_looks.proofs.BudgetLemmas.{asked-budget}
+use Rattle.cacao_cli_status_laws.proofs.AnswerLemmas.{answers-ended, disk-ended}
+use Rattle.cacao_cli_status_laws.proofs.ClockLemmas.{reached-ended}
+use Rattle.cacao_cli_status_laws.proofs.CompleteLemmas.{completes-ended}
+use Rattle.cacao_cli_status_laws.proofs.CountLemmas.{failed-ended, steady-ended, unsaid-ended, said-ended, memory-ended}
+use Rattle.cacao_cli_status_laws.proofs.ExactLemmas.{exact-ended}
+use Rattle.cacao_cli_status_laws.proofs.LeaveLemmas.{leaves-ended, few-ended}
+use Rattle.cacao_cli_status_laws.proofs.ReturnLemmas.{returns-ended}
+use Rattle.cacao_cli_session_laws.proofs.ReturnedRuns.{sound-reads}
+use Rattle.cacao_cli_status_laws.proofs.ShortLemmas.{short-ended}
+use Rattle.cacao_cli_status_laws.proofs.StatusLemmas.{damaged-ended, disagreement-ended, done-ended, words-ended, missing-ended, unreadable-ended, past-ended, much-ended, refused-ended, another-ended, asked-ended, failed-run-ended, flooded-ended, paused-ended, waiting-ended}
+use Rattle.cacao_cli_status_laws.proofs.StayLemmas.{stays-ended}
+use Rattle.cacao_cli_status_laws.proofs.SteadyLemmas.{disk-steady-ended}
+use Rattle.cacao_cli_status_laws.proofs.UndamagedLemmas.{undamaged-ended}
+use Rattle.cacao_cli_status_laws.proofs.UsageLemmas.{uses-ended}
 use Rattle.cacao_cli.proofs.program.top.Goals as goal
 
 abbrev came : {asked : Option Asked} {shelf : ShelfCall} {old mid new : SiteView} {last : End} {answer : ℕ} → Performed asked shelf old mid last → Tells last mid new answer → Ended asked shelf old new answer

@@ -6,13 +6,15 @@ use Rattle.cacao_site.specs.View.{SiteView}
 use Rattle.cacao_words.specs.Commands.{run_request}
 use Rattle.cacao_words.specs.Requests.{RunRequest}
 use Rattle.cacao_words.specs.Words.{Text}
-use Rattle.cacao_cli.specs.Asked.{runs}
-use Rattle.cacao_cli.specs.Command.{end_of, text_of}
-use Rattle.cacao_cli.specs.Ends.{End, no_memory}
-use Rattle.cacao_cli.specs.Files.{File, NamedText, ReadsTo, ShelfCall, book_file, run_names}
-use Rattle.cacao_cli.proofs.LeaveLemmas.{reads-length}
+use Rattle.cacao_cli_ends.specs.Asked.{runs}
+use Rattle.cacao_cli_ends.specs.Told.{end_of}
+use Rattle.cacao_cli_looks.specs.Command.{text_of}
+use Rattle.cacao_cli_ends.specs.Ends.{End, no_memory}
+use Rattle.cacao_cli_ends.specs.Files.{File, NamedText, ReadsTo, ShelfCall, book_file, run_names}
+use Rattle.cacao_cli_ends.proofs.ReadLemmas.{reads-length}
 use Rattle.cacao_cli.proofs.PartLemmas.{run-begins, run-many, run-memory, run-read}
-use Rattle.cacao_cli.proofs.PerformLemmas.{performed-memory, says-end}
+use Rattle.cacao_cli_status_laws.proofs.PerformLemmas.{performed-memory}
+use Rattle.cacao_cli_looks.proofs.PerformLemmas.{says-end}
 use Rattle.cacao_cli.proofs.RunFiles.{files-back, named-files, reads-names, some-files, start-long}
 use Rattle.cacao_cli.proofs.run.run.Goals as goal
 

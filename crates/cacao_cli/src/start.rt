@@ -1,0 +1,103 @@
+// One session, from the texts that were read.
+ghost use Rattle.std.specs.Prelude.{◌≤◌, IfOk, IfErr, length};
+ghost use Rattle.cacao_check.specs.Fits.{FitsKind};
+ghost use Rattle.flow_core.specs.Setups.{AreAccepted};
+ghost use Rattle.flow_rules.specs.Accepted.{Accepted};
+ghost use Rattle.operator_answers.specs.Answers.{Answers as TellAnswers};
+ghost use Rattle.cacao_words.specs.Commands.{run_request};
+ghost use Rattle.cacao_cli_ends.specs.Told.{end_of};
+ghost use Rattle.cacao_cli.specs.Starting.{BeginsSo, HasBind, IsNoAnswers, IsUnreadableEnd, LacksOthers, answers_of};
+
+use crate::run_texts::RunTexts;
+use cacao_cli_ends::{End, Reason};
+use cacao_cli_looks::json_end;
+use cacao_cli_session::hold;
+use cacao_json::JsonError;
+use cacao_site::Site;
+use cacao_words::RunWords;
+use flow_core::{Setup, SetupError};
+use operator_answers::{AnswerError, Answers, read_answers};
+use std::alloc::Global;
+
+/// The answers for the run. Without a file of them there are none.
+fn answers_of<'w>(alloc: Global, texts: &RunTexts<'w>, run: u64) -> Result<Answers, End<'w>>
+    ensures ok { IfOk result (TellAnswers (answers_of texts.entry.now) run) }
+    ensures err { IfErr result (IsNoAnswers texts.entry.now) }
+{
+    match &texts.answers {
+        Some(text) => match read_answers(alloc, text.bytes.as_slice(), run) {
+            Ok(answers) => Ok(answers),
+            Err(AnswerError::Line { number }) => Err(End::NotReadable {
+                name: text.name,
+                reason: Reason::Line { number },
+            }),
+            Err(AnswerError::Memory) => Err(End::NoMemory),
+        },
+        None => match read_answers(alloc, b"", run) {
+            Ok(answers) => Ok(answers),
+            Err(_) => Err(End::NoMemory),
+        },
+    }
+}
+
+/// The answers for the run, if the file of bindings is not an empty one, which has no tree. (An empty text binds nothing where no file of
+/// bindings is named.)
+fn others_of<'w>(
+    alloc: Global,
+    wanted: &RunWords<'w>,
+    texts: &RunTexts<'w>,
+) -> Result<Answers, End<'w>>
+    ensures bind { IfOk result (λ answers. HasBind (run_request wanted.entry.now) texts.entry.now) }
+    ensures ok { IfOk result (TellAnswers (answers_of texts.entry.now) wanted.entry.now.run) }
+    ensures err { IfErr result (LacksOthers (run_request wanted.entry.now) texts.entry.now) }
+{
+    if let Some(name) = wanted.bind {
+        if texts.bind.is_empty() {
+            return Err(json_end(name, JsonError::NotJson));
+        }
+    }
+    answers_of(alloc, texts, wanted.run)
+}
+
+/// How a call ends where the text of this number has no tree: the playbooks count from 0, and that of bindings stands behind them.
+fn unreadable_end<'w>(wanted: &RunWords<'w>, file: u32, error: JsonError) -> End<'w>
+    ensures { IsUnreadableEnd (run_request wanted.entry.now) file error (end_of result) }
+{
+    let books = wanted.books.as_slice();
+    if (file as usize) < books.len() {
+        return json_end(books[file as usize], error);
+    }
+    match wanted.bind {
+        Some(name) => json_end(name, error),
+        None => End::NoMemory,
+    }
+}
+
+/// The part of `run` behind its files: the playbooks and the bindings are judged, and a session is held with what they give.
+pub fn start<'w, S: Site>(
+    alloc: Global,
+    wanted: &RunWords<'w>,
+    texts: &RunTexts<'w>,
+    site: &mut S,
+) -> End<'w>
+    requires some { 1 ≤ length texts.now.books.items }
+    requires few { length texts.now.books.items ≤ 16 }
+    ensures { BeginsSo (run_request wanted.entry.now) texts.entry.now (S.view site.old) (S.view site.new) (end_of result) }
+{
+    match Setup::read(alloc, texts.books.as_slice(), &texts.bind) {
+        Ok(setup) => match others_of(alloc, wanted, texts) {
+            Ok(answers) => hold(alloc, setup, &answers, wanted.run, wanted.most, site),
+            Err(end) => end,
+        },
+        Err(SetupError::Unreadable { file, error }) => unreadable_end(wanted, file, error),
+        Err(SetupError::Broken(broken)) => match others_of(alloc, wanted, texts) {
+            Ok(_) => End::Refused { broken },
+            Err(end) => end,
+        },
+        Err(SetupError::Bind { rule }) => match others_of(alloc, wanted, texts) {
+            Ok(_) => End::BindRefused { rule },
+            Err(end) => end,
+        },
+        Err(SetupError::Memory) => End::NoMemory,
+    }
+}

@@ -1,0 +1,9 @@
+pub mod EndCases
+pub mod EndLemmas
+pub mod LineLemmas
+pub mod ReadLemmas
+pub mod SayingLemmas
+pub mod StatusLists
+pub mod TreeCases
+pub mod TreeLemmas
+pub mod UnsaidLemmas

@@ -1,0 +1,9 @@
+pub mod Asked
+pub mod Comes
+pub mod Ends
+pub mod FileCauses
+pub mod Files
+pub mod Lines
+pub mod Stays
+pub mod Told
+pub mod Work

@@ -1,0 +1,12 @@
+pub mod AgreeLemmas
+pub mod AuditLemmas
+pub mod BudgetLemmas
+pub mod FilterLemmas
+pub mod JudgeLemmas
+pub mod OpenLemmas
+pub mod OtherLines
+pub mod PerformLemmas
+pub mod ReportLines
+pub mod ReportWords
+pub mod RunFileLemmas
+pub mod RunLemmas

@@ -1,0 +1,4 @@
+pub mod Audited
+pub mod Command
+pub mod Looking
+pub mod Openings

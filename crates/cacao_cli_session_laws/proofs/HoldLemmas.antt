@@ -1,0 +1,250 @@
+-- What a session raises, and with which status it ends.
+use Rattle.std.proofs.Common.{◌≡◌, ◌⊎◌, inl, inr, ◌∙◌, refl, sym, ap, subst, arith, ℕ, ◌≤◌, Bool, true, false, List}
+use Rattle.cacao_site.specs.Counts.{Rose}
+use Rattle.cacao_site.specs.View.{ClockView, SiteView}
+use Rattle.operator_answers.specs.declared.answers.OperatorAnswer.{OperatorAnswer}
+use Rattle.engine_history.specs.declared.error.EngineError.{EngineError}
+use Rattle.engine_history.specs.declared.error.EngineError.TheVariants as engine_error
+use Rattle.engine_history.specs.Openings.{IsRefusedOpening}
+use Rattle.flow_rules.specs.Givens.{Given}
+use Rattle.flow_steps.specs.Causes.{Shows}
+use Rattle.flow_steps.specs.Worlds.{Cause, Phase, World, disk_failed as failed_disk, not_said, past as past_limit, refused as refused_by, run_used as used, wants_memory}
+use Rattle.flow_world.specs.Closes.{refusal_of}
+use Rattle.flow_world.specs.Errors.{opening_refusal}
+use Rattle.flow_world.specs.Openings.{AreOpen, RefusesOpening}
+use Rattle.flow_world.specs.Sessions.{HasRefused, RefusesLater, Went}
+use Rattle.flow_world.specs.declared.close.Close.{Close}
+use Rattle.flow_world.specs.declared.close.Close.TheVariants as close
+use Rattle.flow_world.specs.declared.error.WorldError.{WorldError}
+use Rattle.flow_world.specs.declared.error.WorldError.TheVariants as error
+use Rattle.flow_world.proofs.CloseLemmas.{closes_are_no_refusals}
+use Rattle.cacao_cli_ends.specs.Ends.{End, status_of, disk_failed, ended_ok, unsaid}
+use Rattle.cacao_cli_ends.specs.Comes.{IsOneOf}
+use Rattle.cacao_cli_session.specs.Holding.{ClosesSo, HoldsSo, RefusesSo, close_end, error_end}
+use Rattle.cacao_cli_session_laws.proofs.StepLemmas.{Unsaid, none_unsaid, one_unsaid, steps_unsaid}
+use Rattle.cacao_cli_ends.proofs.StatusLists.{session_statuses}
+
+-- ---- the statuses
+
+pub close-status : (how : Close) → IsOneOf (status_of (close_end how)) session_statuses
+close-status (close.Ended true) = inl refl
+close-status (close.Ended false) = inr (inl refl)
+close-status close.Paused = inr (inr (inl refl))
+close-status (close.Waiting moment) = inr (inr (inr (inr (inr (inr (inr (inr (inr (inl refl)))))))))
+close-status close.Flooded = inr (inr (inr (inr (inr (inr (inr (inr (inr (inr (inl refl))))))))))
+close-status (close.Asked issue) = inr (inr (inr (inr (inr (inr (inr (inr (inr (inr (inr (inl refl)))))))))))
+
+pub error-status : (why : WorldError) → IsOneOf (status_of (error_end why)) session_statuses
+error-status error.Disk = inr (inr (inr (inl refl)))
+error-status error.Say = inr (inr (inr (inr (inl refl))))
+error-status error.Memory = inr (inr (inr (inr (inr (inl refl)))))
+error-status (error.Limit what) = inr (inr (inr (inr (inr (inr (inl refl))))))
+error-status (error.OtherRun held asked) = inr (inr (inr (inr (inr (inr (inr (inl refl)))))))
+error-status (error.OtherBook index) = inr (inr (inr (inr (inr (inr (inr (inl refl)))))))
+error-status (error.RunUsed agent) = inr (inr (inr (inr (inr (inr (inr (inl refl)))))))
+error-status (error.Damaged file place) = inr (inr (inr (inr (inr (inr (inr (inr (inl refl))))))))
+
+-- only a run that ended well has status 0
+close-done : (how : Close) → status_of (close_end how) ≡ 0 → close_end how ≡ ended_ok
+close-done (close.Ended true) e = refl
+close-done (close.Ended false) e = absurd (omega (arith, e))
+close-done close.Paused e = absurd (omega (arith, e))
+close-done (close.Waiting moment) e = absurd (omega (arith, e))
+close-done close.Flooded e = absurd (omega (arith, e))
+close-done (close.Asked issue) e = absurd (omega (arith, e))
+
+pub error-done : (why : WorldError) → status_of (error_end why) ≡ 0 → ⊥
+error-done error.Disk e = omega (arith, e)
+error-done error.Say e = omega (arith, e)
+error-done error.Memory e = omega (arith, e)
+error-done (error.Limit what) e = omega (arith, e)
+error-done (error.OtherRun held asked) e = omega (arith, e)
+error-done (error.OtherBook index) e = omega (arith, e)
+error-done (error.RunUsed agent) e = omega (arith, e)
+error-done (error.Damaged file place) e = omega (arith, e)
+
+-- no close is a fault
+pub close-nine : (how : Close) → close_end how ≡ unsaid → ⊥
+close-nine (close.Ended true) e = cc
+close-nine (close.Ended false) e = cc
+close-nine close.Paused e = cc
+close-nine (close.Waiting moment) e = cc
+close-nine close.Flooded e = cc
+close-nine (close.Asked issue) e = cc
+
+pub close-eight : (how : Close) → close_end how ≡ disk_failed → ⊥
+close-eight (close.Ended true) e = cc
+close-eight (close.Ended false) e = cc
+close-eight close.Paused e = cc
+close-eight (close.Waiting moment) e = cc
+close-eight close.Flooded e = cc
+close-eight (close.Asked issue) e = cc
+
+pub error-nine : (why : WorldError) → error_end why ≡ unsaid → why ≡ error.Say
+error-nine error.Disk e = absurd (cc)
+error-nine error.Say e = refl
+error-nine error.Memory e = absurd (cc)
+error-nine (error.Limit what) e = absurd (cc)
+error-nine (error.OtherRun held asked) e = absurd (cc)
+error-nine (error.OtherBook index) e = absurd (cc)
+error-nine (error.RunUsed agent) e = absurd (cc)
+error-nine (error.Damaged file place) e = absurd (cc)
+
+pub error-eight : (why : WorldError) → error_end why ≡ disk_failed → why ≡ error.Disk
+error-eight error.Disk e = refl
+error-eight error.Say e = absurd (cc)
+error-eight error.Memory e = absurd (cc)
+error-eight (error.Limit what) e = absurd (cc)
+error-eight (error.OtherRun held asked) e = absurd (cc)
+error-eight (error.OtherBook index) e = absurd (cc)
+error-eight (error.RunUsed agent) e = absurd (cc)
+error-eight (error.Damaged file place) e = absurd (cc)
+
+-- ---- the causes of refusals once the files are open
+
+cause-say : (cause : Cause) → refusal_of cause ≡ error.Say → cause ≡ not_said
+cause-say failed_disk e = absurd (cc)
+cause-say not_said e = refl
+cause-say (used agent) e = absurd (cc)
+cause-say (past_limit what) e = absurd (cc)
+cause-say wants_memory e = absurd (cc)
+
+cause-disk : (cause : Cause) → refusal_of cause ≡ error.Disk → cause ≡ failed_disk
+cause-disk failed_disk e = refl
+cause-disk not_said e = absurd (cc)
+cause-disk (used agent) e = absurd (cc)
+cause-disk (past_limit what) e = absurd (cc)
+cause-disk wants_memory e = absurd (cc)
+
+shown-as : (p q : Phase) (a b : World) → p ≡ q → Shows p a b → Shows q a b
+shown-as p q a b e h = subst (λ (x : Phase). Shows x a b) e h
+
+-- ---- an opening
+
+opening-say : (why : EngineError) → opening_refusal why ≡ error.Say → ⊥
+opening-say engine_error.Disk e = cc
+opening-say (engine_error.Damaged place) e = cc
+opening-say (engine_error.OtherRun held asked) e = cc
+opening-say (engine_error.OtherBook index) e = cc
+opening-say (engine_error.Limit what) e = cc
+opening-say engine_error.Broken e = cc
+opening-say engine_error.Memory e = cc
+
+opening-disk : (why : EngineError) → opening_refusal why ≡ error.Disk → why ≡ engine_error.Disk
+opening-disk engine_error.Disk e = refl
+opening-disk (engine_error.Damaged place) e = absurd (cc)
+opening-disk (engine_error.OtherRun held asked) e = absurd (cc)
+opening-disk (engine_error.OtherBook index) e = absurd (cc)
+opening-disk (engine_error.Limit what) e = absurd (cc)
+opening-disk engine_error.Broken e = absurd (cc)
+opening-disk engine_error.Memory e = absurd (cc)
+
+pub rose-later : (a b c : ℕ) → a ≤ b → Rose b c → Rose a c
+rose-later a b c le rose = omega (arith, le, rose)
+
+module _ (given : Given) (run : ℕ) (old new : SiteView) where
+  open-faults : (start : World) → AreOpen given run old start.site start.engine start.filters → old.disk.faults ≤ start.site.disk.faults
+  open-faults start h = omega (arith, h.journal.opens.only.each.goes_on.faults, h.others.goes_on.faults)
+
+  open-clock : (start : World) → AreOpen given run old start.site start.engine start.filters → start.site.clock.unsaid ≡ old.clock.unsaid
+  open-clock start h = ap (λ (c : ClockView). c.unsaid) (h.others.rest.clock ∙ h.journal.opens.only.rest.clock)
+
+  refused-clock : (why : WorldError) → RefusesOpening why given run old new → new.clock.unsaid ≡ old.clock.unsaid
+  refused-clock why (inl h) = ap (λ (c : ClockView). c.unsaid) h.opens.only.rest.clock
+  refused-clock why (inr h) = ap (λ (c : ClockView). c.unsaid) (h.refuses.refuses.opens.only.rest.clock ∙ h.refuses.before.rest.clock ∙ h.journal.opens.only.rest.clock)
+
+  refused-say : RefusesOpening error.Say given run old new → ⊥
+  refused-say (inl h) = opening-say h.why (sym h.is)
+  refused-say (inr h) = h.refuses.refuses.why
+
+  refused-disk : RefusesOpening error.Disk given run old new → Rose old.disk.faults new.disk.faults
+  refused-disk (inl h) = subst (λ (e : EngineError). IsRefusedOpening given run e old new) (opening-disk h.why (sym h.is)) h.refused
+  refused-disk (inr h) = rose-later old.disk.faults h.refuses.middle.disk.faults new.disk.faults
+      (let one = h.journal.opens.only.each.goes_on.faults in let two = h.refuses.before.goes_on.faults in omega (arith, one, two)) h.refuses.refuses.why
+
+-- ---- the session
+
+module _ (given : Given) (run most : ℕ) (answers : List OperatorAnswer) (old new : SiteView) where
+  pub went-faults : Went given run most answers old new → old.disk.faults ≤ new.disk.faults
+  went-faults h =
+      let last : h.to.site.disk.faults ≡ new.disk.faults = ap (λ (s : SiteView). s.disk.faults) h.to_is in
+      omega (arith, open-faults given run old new h.start h.files, h.cause.faults, last)
+
+  went-same : (h : Went given run most answers old new) → h.to.site.clock.unsaid ≡ h.start.site.clock.unsaid → new.clock.unsaid ≡ old.clock.unsaid
+  went-same h e = ap (λ (s : SiteView). s.clock.unsaid) (sym h.to_is) ∙ e ∙ open-clock given run old new h.start h.files
+
+  -- a line that could not be said ends the session so
+  pub holds-said : (last : End) → HoldsSo given run most answers old new last → (new.clock.unsaid ≡ old.clock.unsaid) ⊎ (last ≡ unsaid)
+  holds-said last h = go h.held
+    where
+      go : ClosesSo given run most answers old new last ⊎ RefusesSo given run most answers old new last → (new.clock.unsaid ≡ old.clock.unsaid) ⊎ (last ≡ unsaid)
+      go (inl c) = by (steps_unsaid c.closed.went.start c.closed.went.to c.closed.went.steps)
+        where
+          by : Unsaid c.closed.went.start c.closed.went.to → (new.clock.unsaid ≡ old.clock.unsaid) ⊎ (last ≡ unsaid)
+          by (none_unsaid e) = inl (went-same c.closed.went e)
+          by (one_unsaid phase e) = absurd (closes_are_no_refusals c.closed.went.to c.close error.Say c.closed.closes (record { cause = not_said; lacks = true; phase = phase; is = refl }))
+      go (inr r) = by r.why
+        where
+          later : (l : RefusesLater r.error given run most answers old new) → Unsaid l.went.start l.went.to → (new.clock.unsaid ≡ old.clock.unsaid) ⊎ (last ≡ unsaid)
+          later l (none_unsaid e) = inl (went-same l.went e)
+          later l (one_unsaid phase e) =
+              let cause : l.refuses.cause ≡ not_said = same-cause l.refuses.cause not_said l.refuses.lacks true (sym l.refuses.phase ∙ phase) in
+              let say : r.error ≡ error.Say = l.refuses.is ∙ ap refusal_of cause in
+              inr (r.ends ∙ ap error_end say)
+            where
+              same-cause : (a b : Cause) (x y : Bool) → refused_by a x ≡ refused_by b y → a ≡ b
+              same-cause a b x y e = cc
+
+          by : HasRefused r.error given run most answers old new → (new.clock.unsaid ≡ old.clock.unsaid) ⊎ (last ≡ unsaid)
+          by (inl o) = inl (refused-clock given run old new r.error o)
+          by (inr l) = later l (steps_unsaid l.went.start l.went.to l.went.steps)
+
+  -- and then the count of such lines rose
+  pub refuses-unsaid : HasRefused error.Say given run most answers old new → Rose old.clock.unsaid new.clock.unsaid
+  refuses-unsaid (inl o) = absurd (refused-say given run old new o)
+  refuses-unsaid (inr l) =
+      let cause : l.refuses.cause ≡ not_said = cause-say l.refuses.cause (sym l.refuses.is) in
+      let phase : l.went.to.phase ≡ refused_by not_said l.refuses.lacks = l.refuses.phase ∙ ap (λ (c : Cause). refused_by c l.refuses.lacks) cause in
+      let rose : Rose l.went.start.site.clock.unsaid l.went.to.site.clock.unsaid =
+      (shown-as l.went.to.phase (refused_by not_said l.refuses.lacks) l.went.start l.went.to phase l.went.cause.shows).0 in
+      subst (λ (s : SiteView). Rose old.clock.unsaid s.clock.unsaid) l.went.to_is
+      (subst (λ (n : ℕ). Rose n l.went.to.site.clock.unsaid) (open-clock given run old new l.went.start l.went.files) rose)
+
+  pub holds-unsaid : (last : End) → last ≡ unsaid → HoldsSo given run most answers old new last → Rose old.clock.unsaid new.clock.unsaid
+  holds-unsaid last is h = go h.held
+    where
+      go : ClosesSo given run most answers old new last ⊎ RefusesSo given run most answers old new last → Rose old.clock.unsaid new.clock.unsaid
+      go (inl c) = absurd (close-nine c.close (sym c.ends ∙ is))
+      go (inr r) = refuses-unsaid (subst (λ (e : WorldError). HasRefused e given run most answers old new) (error-nine r.error (sym r.ends ∙ is)) r.why)
+
+  -- where the disk failed, so did the count of its faults
+  pub refuses-failed : HasRefused error.Disk given run most answers old new → Rose old.disk.faults new.disk.faults
+  refuses-failed (inl o) = refused-disk given run old new o
+  refuses-failed (inr l) =
+      let cause : l.refuses.cause ≡ failed_disk = cause-disk l.refuses.cause (sym l.refuses.is) in
+      let phase : l.went.to.phase ≡ refused_by failed_disk l.refuses.lacks = l.refuses.phase ∙ ap (λ (c : Cause). refused_by c l.refuses.lacks) cause in
+      let rose : Rose l.went.start.site.disk.faults l.went.to.site.disk.faults =
+      shown-as l.went.to.phase (refused_by failed_disk l.refuses.lacks) l.went.start l.went.to phase l.went.cause.shows in
+      subst (λ (s : SiteView). Rose old.disk.faults s.disk.faults) l.went.to_is
+      (rose-later old.disk.faults l.went.start.site.disk.faults l.went.to.site.disk.faults (open-faults given run old new l.went.start l.went.files) rose)
+
+  pub holds-failed : (last : End) → last ≡ disk_failed → HoldsSo given run most answers old new last → Rose old.disk.faults new.disk.faults
+  holds-failed last is h = go h.held
+    where
+      go : ClosesSo given run most answers old new last ⊎ RefusesSo given run most answers old new last → Rose old.disk.faults new.disk.faults
+      go (inl c) = absurd (close-eight c.close (sym c.ends ∙ is))
+      go (inr r) = refuses-failed (subst (λ (e : WorldError). HasRefused e given run most answers old new) (error-eight r.error (sym r.ends ∙ is)) r.why)
+
+  pub holds-status : (last : End) → HoldsSo given run most answers old new last → IsOneOf (status_of last) session_statuses
+  holds-status last h = go h.held
+    where
+      go : ClosesSo given run most answers old new last ⊎ RefusesSo given run most answers old new last → IsOneOf (status_of last) session_statuses
+      go (inl c) = subst (λ (e : End). IsOneOf (status_of e) session_statuses) (sym c.ends) (close-status c.close)
+      go (inr r) = subst (λ (e : End). IsOneOf (status_of e) session_statuses) (sym r.ends) (error-status r.error)
+
+  pub holds-done : (last : End) → status_of last ≡ 0 → HoldsSo given run most answers old new last → last ≡ ended_ok
+  holds-done last is h = go h.held
+    where
+      go : ClosesSo given run most answers old new last ⊎ RefusesSo given run most answers old new last → last ≡ ended_ok
+      go (inl c) = c.ends ∙ close-done c.close (sym (ap status_of c.ends) ∙ is)
+      go (inr r) = absurd (error-done r.error (sym (ap status_of r.ends) ∙ is))

@@ -1,0 +1,64 @@
+-- What each command leaves as it was, and what it counts.
+use Rattle.std.specs.Prelude.{◌≡◌, ◌⊎◌, ℕ, [], ◌∷◌, Option, Some, None}
+use Rattle.cacao_site.specs.Counts.{Rose}
+use Rattle.cacao_site.specs.View.{SiteView}
+use Rattle.cacao_cli_ends.specs.Asked.{Asked, canonises, checks, shows, lists_rules, decides, shadows, rehearses, audits, runs}
+use Rattle.cacao_cli_ends.specs.Ends.{End, disk_failed, unsaid}
+use Rattle.cacao_cli_ends.specs.Comes.{IsOneOf}
+use Rattle.cacao_cli_session.specs.Holding.{CameTo}
+use Rattle.cacao_cli_status_laws.specs.OwnSites.{CountsOwn}
+use Rattle.cacao_cli_ends.specs.Work.{Start}
+use Rattle.cacao_words.specs.Requests.{RunRequest}
+use Rattle.cacao_cli_ends.specs.Stays.{SaysAtMostOnce, WritesNothing}
+
+-- what a `run` leaves that came to its session: what the session did, and one line said at most
+pub record LeavesSession (wanted : RunRequest) (old new : SiteView) : Type 0 where
+  pub start : Start
+  pub of_run : start.run ≡ wanted.run
+  pub most : start.most ≡ wanted.most
+  pub last : End
+  pub came : CameTo start last old new
+
+abbrev pub Leaves : Option Asked → SiteView → SiteView → ℕ → Type 0
+Leaves None old new answer = SaysAtMostOnce old new answer
+Leaves (Some (canonises book)) old new answer = SaysAtMostOnce old new answer
+Leaves (Some (checks books)) old new answer = SaysAtMostOnce old new answer
+Leaves (Some (runs wanted)) old new answer = SaysAtMostOnce old new answer ⊎ LeavesSession wanted old new
+Leaves (Some shows) old new answer = WritesNothing 0 old new
+Leaves (Some (lists_rules agent)) old new answer = WritesNothing agent old new
+Leaves (Some (decides agent packets)) old new answer = WritesNothing agent old new
+Leaves (Some (shadows agent)) old new answer = WritesNothing agent old new
+Leaves (Some (rehearses positions)) old new answer = SaysAtMostOnce old new answer
+Leaves (Some (audits engine filters)) old new answer = SaysAtMostOnce old new answer
+
+-- a call that is refused before it opens a file of the disk says its line, and leaves all else
+abbrev pub LeavesAll : SiteView → SiteView → ℕ → Type 0
+LeavesAll old new answer = IsOneOf answer (1 ∷ 2 ∷ 3 ∷ 4 ∷ 5 ∷ []) → SaysAtMostOnce old new answer
+
+-- A fault of the disk was counted, of a command that opens a file of it; for `rehearse` it is one of the site of its own, which
+-- is used up.
+abbrev pub CountsDisk : Option Asked → SiteView → SiteView → Type 0
+CountsDisk None old new = ⊥
+CountsDisk (Some (canonises book)) old new = ⊥
+CountsDisk (Some (checks books)) old new = ⊥
+CountsDisk (Some (runs wanted)) old new = Rose old.disk.faults new.disk.faults
+CountsDisk (Some shows) old new = Rose old.disk.faults new.disk.faults
+CountsDisk (Some (lists_rules agent)) old new = Rose old.disk.faults new.disk.faults
+CountsDisk (Some (decides agent packets)) old new = Rose old.disk.faults new.disk.faults
+CountsDisk (Some (shadows agent)) old new = Rose old.disk.faults new.disk.faults
+CountsDisk (Some (rehearses positions)) old new = CountsOwn positions disk_failed (λ site. site.disk.faults)
+CountsDisk (Some (audits engine filters)) old new = ⊥
+
+-- a line was counted that could not be said; or `rehearse` could not say one on the site of its own
+abbrev pub CountsUnsaid : Option Asked → SiteView → SiteView → Type 0
+CountsUnsaid None old new = Rose old.clock.unsaid new.clock.unsaid
+CountsUnsaid (Some (canonises book)) old new = Rose old.clock.unsaid new.clock.unsaid
+CountsUnsaid (Some (checks books)) old new = Rose old.clock.unsaid new.clock.unsaid
+CountsUnsaid (Some (runs wanted)) old new = Rose old.clock.unsaid new.clock.unsaid
+CountsUnsaid (Some shows) old new = Rose old.clock.unsaid new.clock.unsaid
+CountsUnsaid (Some (lists_rules agent)) old new = Rose old.clock.unsaid new.clock.unsaid
+CountsUnsaid (Some (decides agent packets)) old new = Rose old.clock.unsaid new.clock.unsaid
+CountsUnsaid (Some (shadows agent)) old new = Rose old.clock.unsaid new.clock.unsaid
+CountsUnsaid (Some (rehearses positions)) old new =
+    Rose old.clock.unsaid new.clock.unsaid ⊎ CountsOwn positions unsaid (λ site. site.clock.unsaid)
+CountsUnsaid (Some (audits engine filters)) old new = Rose old.clock.unsaid new.clock.unsaid

@@ -1,3 +1,0 @@
-mod disks;
-mod links;
-mod shelves;

@@ -1,5 +1,0 @@
-use Rattle.flow_bench.proofs.TakenLemmas.{one_more}
-use Rattle.flow_bench.proofs.played.take_in.Goals as goal
-
-pub returns : goal.returns
-returns c = one_more c.args.flow.now c.apply.new.self c.args.item.now c.requires c.apply.ensures

@@ -1,0 +1,58 @@
+//! Plays files of rows for what a packet filter, its commands, its journal and the graphs and queues of a run stand on: each row of
+//! `data/` is asked, and its last field is what it must answer. Prints how many rows of each file agreed, and each row that did not.
+#![tactic(auto)]
+
+mod answers;
+mod filters;
+mod flows;
+mod graphs;
+mod guarded;
+mod marks;
+mod messages;
+mod nets;
+mod numbers;
+mod queues;
+mod records;
+mod rules;
+mod shadows;
+mod tables;
+
+use answers::Answers;
+use std::io;
+use std::process::ExitCode;
+use std::rt::Files;
+use test_rows::{Tally, read_file};
+
+/// Plays a file of rows; true where all agreed.
+fn play(rt: &(impl Files + Print + AllocGlobal), name: &str) -> io::Result<bool> {
+    let file = format!(in rt.alloc(); "{name}.rows")?;
+    let rows = read_file(rt, file.as_str())?;
+    let mut tally = Tally::new(rt.alloc(), name)?;
+    let mut answers = Answers::new(rt.alloc());
+    for row in rows.as_slice() {
+        let came = answers.answer(rt.alloc(), name, row)?;
+        tally.compare(rt, row, came.as_bytes())?;
+    }
+    tally.end(rt)
+}
+
+fn main(rt: HostRuntime) -> io::Result<ExitCode> {
+    let mut agree = true;
+    for name in [
+        "decimals",
+        "oc2_nets",
+        "oc2_msg",
+        "slpf_rules",
+        "slpf_shadow",
+        "run_records",
+        "reachability",
+        "flow_dues",
+    ] {
+        agree = play(&rt, name)? && agree;
+    }
+    if agree {
+        Ok(ExitCode::SUCCESS)
+    } else {
+        Ok(ExitCode::FAILURE)
+    }
+}

@@ -1,0 +1,180 @@
+// The kinds of rows, by their first field. A field of bytes may be several: they are joined, as `pieces` says.
+//
+// What the program is called on; these rows ask nothing:
+//
+//     site PLAN..               a new shelf without files, and a new site, of a plan as `plans` says
+//     text NAME BYTES..         names a text
+//     book NAME BYTES..         names the text of a playbook, whose members and identifiers are spelled out
+//     file NAME BYTES..         puts a file on the shelf
+//     fill FILE BYTES..         writes a file of the disk from its front on
+//     fail NUMBER               lets the read of the shelf of this number fail, from 0
+//     crash CHOICE PLAN..       a crash that is picked so, and the site behind it, of that plan
+//
+// Calls of the program. The answer is the status and, where anything was said, a colon and the lines, with identifiers cut to their type
+// and their last two digits:
+//
+//     call WORDS.. ANSWER       a call; no word where the words are empty
+//     anew WORDS.. ANSWER       a call on a new shelf and a new site with the files of the rows `file` and `fill` since the last `site`
+//     with NAME WORDS BYTES.. ANSWER       the same, with one more file on the shelf
+//     status WORDS.. STATUS     a call, of which the status alone is asked
+//     records WORDS.. ANSWER    a call, of whose lines those are counted that begin with their number and the moment 0
+//     fronts, cuts, levels      many calls, as `loops` says
+//
+// What the calls have left, and rehearsals:
+//
+//     same FILE NAME ANSWER     whether the bytes of a file of the disk are a text that was named: `yes` or `no`
+//     puts NUMBER               how many parcels were put, in all
+//     commands NUMBER           how many of these were commands
+//     parcel NUMBER ANSWER      a parcel that was put, from 0: its way, agent, run, issue and bytes
+//     lines NUMBER              how many lines were said, in all
+//     rehearsed POSITIONS ANSWER           the records, acts and rules that a rehearsal counts, called as a library
+//     rehearsal POSITIONS BYTES            the text of its playbook
+use crate::answers::{records, shown};
+use crate::loops::{answer_cuts, count_fronts, count_levels};
+use crate::player::Player;
+use program_plays::{Answer, Rehearsed, count_rehearsed, text_rehearsed};
+use std::alloc::{AllocError, Global};
+use test_rows::Row;
+
+/// What came of a row.
+#[derive(Drop)]
+pub(crate) enum Came {
+    /// It asks nothing.
+    Done,
+    Said(Vec<u8>),
+    NotUnderstood,
+}
+
+/// That of a row which asks nothing.
+fn done(is_done: bool) -> Came {
+    if is_done {
+        Came::Done
+    } else {
+        Came::NotUnderstood
+    }
+}
+
+/// That of a text.
+fn said(text: Option<String>) -> Came {
+    match text {
+        Some(text) => Came::Said(text.into_bytes()),
+        None => Came::NotUnderstood,
+    }
+}
+
+/// That of a number.
+fn count(alloc: Global, number: usize) -> Result<Came, AllocError> {
+    Ok(said(Some(format!(in alloc; "{number}")?)))
+}
+
+/// The status and what was said.
+fn whole(alloc: Global, answer: Option<Answer>) -> Result<Came, AllocError> {
+    match answer {
+        Some(answer) => Ok(said(Some(shown(alloc, &answer)?))),
+        None => Ok(Came::NotUnderstood),
+    }
+}
+
+/// The status alone.
+fn status(alloc: Global, answer: Option<Answer>) -> Result<Came, AllocError> {
+    match answer {
+        Some(answer) => count(alloc, usize::from(answer.status)),
+        None => Ok(Came::NotUnderstood),
+    }
+}
+
+/// The status, the number of records, and the other lines.
+fn counted(alloc: Global, answer: Option<Answer>) -> Result<Came, AllocError> {
+    match answer {
+        Some(answer) => Ok(said(Some(records(alloc, &answer)?))),
+        None => Ok(Came::NotUnderstood),
+    }
+}
+
+/// Whether a file of the disk has the text of a name.
+fn same(player: &mut Player, row: &Row) -> Result<Came, AllocError> {
+    let word = match player.is_same(row)? {
+        Some(true) => "yes",
+        Some(false) => "no",
+        None => return Ok(Came::NotUnderstood),
+    };
+    Ok(Came::Said(word.as_bytes().to_vec(player.alloc)?))
+}
+
+/// The text of the playbook of a rehearsal, or what the rehearsal counts.
+fn rehearsal(alloc: Global, row: &Row, is_text: bool) -> Result<Came, AllocError> {
+    let Ok(positions) = row.text(1).parse::<u32>() else {
+        return Ok(Came::NotUnderstood);
+    };
+    if is_text {
+        return Ok(Came::Said(text_rehearsed(alloc, positions)?));
+    }
+    match count_rehearsed(alloc, positions)? {
+        Some(
+            Rehearsed {
+                records,
+                acts,
+                rules,
+            },
+        ) => Ok(said(Some(format!(in alloc; "{records} {acts} {rules}")?))),
+        None => Ok(Came::NotUnderstood),
+    }
+}
+
+/// Plays a row that changes what the program is called on.
+fn prepare(player: &mut Player, row: &Row) -> Result<Option<Came>, AllocError> {
+    let is_done = match row.text(0) {
+        "site" => player.begin(row)?,
+        "text" => player.name_text(row)?,
+        "book" => player.name_book(row)?,
+        "file" => player.add(row)?,
+        "fill" => player.fill(row)?,
+        "crash" => player.crash(row)?,
+        "fail" => player.fail_read(row),
+        _ => return Ok(None),
+    };
+    Ok(Some(done(is_done)))
+}
+
+/// Plays a row that calls the program.
+fn call(player: &mut Player, row: &Row) -> Result<Option<Came>, AllocError> {
+    let alloc = player.alloc;
+    let came = match row.text(0) {
+        "call" => whole(alloc, player.call(row)?)?,
+        "anew" => whole(alloc, player.call_anew(row)?)?,
+        "with" => whole(alloc, player.call_with(row)?)?,
+        "status" => status(alloc, player.call(row)?)?,
+        "records" => counted(alloc, player.call(row)?)?,
+        "fronts" => said(count_fronts(player, row)?),
+        "cuts" => said(answer_cuts(player, row)?),
+        "levels" => said(count_levels(player, row)?),
+        _ => return Ok(None),
+    };
+    Ok(Some(came))
+}
+
+/// Plays a row that asks what the calls have left, or for a rehearsal.
+fn look(player: &mut Player, row: &Row) -> Result<Came, AllocError> {
+    let alloc = player.alloc;
+    match row.text(0) {
+        "same" => same(player, row),
+        "puts" => count(alloc, player.program.put_count()),
+        "lines" => count(alloc, player.program.line_count()),
+        "commands" => count(alloc, player.commands() as usize),
+        "parcel" => Ok(said(player.parcel(row)?)),
+        "rehearsal" => rehearsal(alloc, row, true),
+        "rehearsed" => rehearsal(alloc, row, false),
+        _ => Ok(Came::NotUnderstood),
+    }
+}
+
+/// Plays a row.
+pub(crate) fn play(player: &mut Player, row: &Row) -> Result<Came, AllocError> {
+    if let Some(came) = prepare(player, row)? {
+        return Ok(came);
+    }
+    if let Some(came) = call(player, row)? {
+        return Ok(came);
+    }
+    look(player, row)
+}

@@ -1,0 +1,16 @@
+//! Calls of a site and of a shelf that rows ask for, with their answers as bytes: the same for sites in memory and for those over the
+//! system. No function promises more than that it is safe and ends, but those of `composed`, whose clauses follow from the traits'.
+#![tactic(auto)]
+
+pub mod answers;
+mod composed;
+mod disk;
+mod fields;
+mod many;
+mod shelf;
+mod site;
+
+pub use disk::disk_answer;
+pub use fields::{number, small};
+pub use shelf::shelf_answer;
+pub use site::{parcel_answer, site_answer};
