@@ -413,6 +413,23 @@ class Proof(Repository):
         self.assertEqual(self.says("proved\n"), "")
 
 
+class Builder(Repository):
+    """The compiler that the build without proof hands to `rt try`'s own."""
+
+    def test_its_folder_may_have_spaces(self):
+        import unproved_build
+
+        real, work = self.room / "a toolchain", self.room / "a folder"
+        self.write(real / "bin" / "clang", '#!/bin/sh\nfor word; do echo "$word"; done >words\n: >module.o\n')
+        (real / "bin" / "clang").chmod(0o755)
+        work.mkdir()
+        clang = unproved_build.own_toolchain(work, real) / "bin" / "clang"
+        ended = subprocess.run([clang, "-O0", f"--sysroot={work}/toolchain", "-fsanitize=address", "a file.bc"], cwd=self.room, check=False)
+        self.assertEqual(ended.returncode, 1)
+        self.assertEqual((self.room / "words").read_text().splitlines(), ["-O1", f"--sysroot={real}", "a file.bc"])
+        self.assertTrue((work / "compiling").exists() and (work / "program.o").exists())
+
+
 def main():
     """Runs the tests of each class in a process of its own, and returns whether all passed."""
     classes = [name for name, it in globals().items() if isinstance(it, type) and issubclass(it, Repository) and it is not Repository]
