@@ -121,7 +121,7 @@ pub fn top<L: Shelf, S: Site>(alloc: Global, words: &[String], shelf: &mut L, si
     ensures disk_failed { result ≡ 8 → CountsDisk (asked (map string_bytes words.now)) (S.view site.old) (S.view site.new) }
     ensures disk_steady { result ≢ 8 → result ≢ 9 → (S.view site.new).disk.faults ≡ (S.view site.old).disk.faults }
     ensures unsaid { result ≡ 9 → CountsUnsaid (asked (map string_bytes words.now)) (S.view site.old) (S.view site.new) }
-    ensures said { result ≢ 9 → (S.view site.new).clock.unsaid ≡ (S.view site.old).clock.unsaid }
+    ensures said { result ≢ 9 → (S.view site.new).counts.unsaid ≡ (S.view site.old).counts.unsaid }
     ensures no_memory { result ≡ 10
         → NoFault (L.faults shelf.old) (L.faults shelf.new) (S.view site.old) (S.view site.new) }
     ensures past_limit { IfTold (asked (map string_bytes words.now)) (L.told shelf.old) (S.view site.old) (λ files.

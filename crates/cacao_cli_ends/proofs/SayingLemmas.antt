@@ -3,8 +3,8 @@ use Rattle.std.proofs.Common.{◌≡◌, ◌∙◌, refl, sym, ap, subst, arith,
 use Rattle.std.specs.Prelude.{IfSome}
 use Rattle.cacao_site.specs.DiskCalls.{KeepsDisk}
 use Rattle.cacao_site.specs.LinkCalls.{Gains}
-use Rattle.cacao_site.specs.SayCalls.{KeepsTime}
-use Rattle.cacao_site.specs.View.{DiskView, SiteView}
+use Rattle.cacao_site.specs.SayCalls.{KeepsTime, SaysOnly}
+use Rattle.cacao_site.specs.View.{DiskView, SiteView, device_calls}
 use Rattle.cacao_site.proofs.Beats.{goes_on-refl, goes_on-trans, stays-trans}
 use Rattle.cacao_words.specs.Words.{Text}
 use Rattle.cacao_cli_ends.specs.Ends.{End, text_of}
@@ -27,8 +27,9 @@ pub record SaysSome (k : ℕ) (old new : SiteView) : Type 0 where
   pub disk : KeepsDisk old.disk new.disk
   pub link : SaysAtMost old.link new.link
   pub time : KeepsTime old.clock new.clock
+  pub mishaps : new.counts.mishaps ≡ old.counts.mishaps
   pub told : AreTold old.link.said new.link.said
-  pub calls : Tallies k old.disk.calls new.disk.calls old.link.said new.link.said
+  pub calls : Tallies k (device_calls old) (device_calls new) old.link.said new.link.said
 
 pub keeps-refl : (disk : DiskView) → KeepsDisk disk disk
 keeps-refl disk = record {
@@ -58,9 +59,10 @@ pub some-refl : (k : ℕ) (site : SiteView) → SaysSome k site site
 some-refl k site = record {
   disk = keeps-refl site.disk;
   link = record { puts = refl; taken = refl; empty_takes = refl; pending = refl };
-  time = record { now = refl; asked = refl; furthest = refl; mishaps = refl; shorts = refl };
+  time = record { now = refl; asked = refl; furthest = refl; shorts = refl };
+  mishaps = refl;
   told = told-refl site.link.said;
-  calls = tallies-refl site.disk.calls k site.link.said;
+  calls = tallies-refl (device_calls site) k site.link.said;
 }
 
 told-trans : (a b c : Option (List (ℕ × Text))) → AreTold a b → AreTold b c → AreTold a c
@@ -90,11 +92,11 @@ some-trans k m a b c p q = record {
     now = q.time.now ∙ p.time.now;
     asked = q.time.asked ∙ p.time.asked;
     furthest = q.time.furthest ∙ p.time.furthest;
-    mishaps = q.time.mishaps ∙ p.time.mishaps;
     shorts = q.time.shorts ∙ p.time.shorts;
   };
+  mishaps = q.mishaps ∙ p.mishaps;
   told = told-trans a.link.said b.link.said c.link.said p.told q.told;
-  calls = tallies-trans k m a.disk.calls b.disk.calls c.disk.calls a.link.said b.link.said c.link.said p.told p.calls q.calls;
+  calls = tallies-trans k m (device_calls a) (device_calls b) (device_calls c) a.link.said b.link.said c.link.said p.told p.calls q.calls;
 }
 
 gains-told : (old new : Option (List (ℕ × Text))) (entry : ℕ × Text) → Gains old entry new → AreTold old new
@@ -108,13 +110,18 @@ gains-tally x y None new entry le h = tt
 gains-tally x y (Some old) None entry le h = tt
 gains-tally x y (Some old) (Some new) entry le h = let long : length new ≡ length old + 1 = ap length h ∙ length-append old (entry ∷ []) in omega (arith, le, long)
 
+-- one call of `say`, and none of the disk
+one-call : (old new : SiteView) → SaysOnly old new → device_calls new ≤ device_calls old + 1
+one-call old new only = omega (arith, only.calls, only.says)
+
 pub some-line : (line : Text) (old new : SiteView) → SaysLine line old new → SaysSome 0 old new
 some-line line old new h = record {
   disk = h.only.disk;
   link = record { puts = h.only.puts; taken = h.only.taken; empty_takes = h.only.empty_takes; pending = h.only.pending };
   time = h.only.time;
+  mishaps = h.only.mishaps;
   told = gains-told old.link.said new.link.said (new.disk.beat, line) h.said;
-  calls = gains-tally old.disk.calls new.disk.calls old.link.said new.link.said (new.disk.beat, line) h.only.calls h.said;
+  calls = gains-tally (device_calls old) (device_calls new) old.link.said new.link.said (new.disk.beat, line) (one-call old new h.only) h.said;
 }
 
 same-tally : (x y : ℕ) (old new : Option (List (ℕ × Text))) → y ≤ x + 1 → new ≡ old → Tallies 1 x y old new
@@ -127,8 +134,9 @@ some-failed old new h = record {
   disk = h.only.disk;
   link = record { puts = h.only.puts; taken = h.only.taken; empty_takes = h.only.empty_takes; pending = h.only.pending };
   time = h.only.time;
+  mishaps = h.only.mishaps;
   told = subst (AreTold old.link.said) (sym h.said) (told-refl old.link.said);
-  calls = same-tally old.disk.calls new.disk.calls old.link.said new.link.said h.only.calls h.said;
+  calls = same-tally (device_calls old) (device_calls new) old.link.said new.link.said (one-call old new h.only) h.said;
 }
 
 pub some-same : (k : ℕ) (old new : SiteView) → new ≡ old → SaysSome k old new
@@ -144,7 +152,7 @@ tally-more k x y (Some old) None le h = tt
 tally-more k x y (Some old) (Some new) le h = omega (arith, le, h)
 
 pub some-more : (k : ℕ) (old new : SiteView) → k ≤ 1 → SaysSome k old new → SaysSome 1 old new
-some-more k old new le h = record { disk = h.disk; link = h.link; time = h.time; told = h.told; calls = tally-more k old.disk.calls new.disk.calls old.link.said new.link.said le h.calls }
+some-more k old new le h = record { disk = h.disk; link = h.link; time = h.time; mishaps = h.mishaps; told = h.told; calls = tally-more k (device_calls old) (device_calls new) old.link.said new.link.said le h.calls }
 
 -- ---- the lines of a work, and the last one
 

@@ -11,13 +11,13 @@ use Rattle.cacao_cli_ends.specs.Ends.{End, status_of, text_of, is_fault, unsaid,
 pub record SaysLine (line : Text) (old new : SiteView) : Type 0 where
   pub only : SaysOnly old new
   pub said : Gains old.link.said (new.disk.beat, line) new.link.said
-  pub unsaid : new.clock.unsaid ≡ old.clock.unsaid
+  pub unsaid : new.counts.unsaid ≡ old.counts.unsaid
 
 -- a line could not be said, and nothing else changed
 pub record FailsToSay (old new : SiteView) : Type 0 where
   pub only : SaysOnly old new
   pub said : new.link.said ≡ old.link.said
-  pub unsaid : new.clock.unsaid ≡ next_count old.clock.unsaid
+  pub unsaid : new.counts.unsaid ≡ next_count old.counts.unsaid
 
 -- at most one call of `say` was made, and nothing else changed
 abbrev pub SaysAtMostALine : SiteView → SiteView → Type 0

@@ -2,7 +2,7 @@
 use Rattle.std.specs.Prelude.{◌≡◌, ℕ, ◌+◌, ◌/◌, ◌≤◌, IsTrue, length, Option, IfSome}
 use Rattle.cacao_site.specs.DiskCalls.{EachBeat, IsLeft}
 use Rattle.cacao_site.specs.SayCalls.{KeepsTime}
-use Rattle.cacao_site.specs.View.{LinkView, SiteView}
+use Rattle.cacao_site.specs.View.{LinkView, SiteView, device_calls}
 use Rattle.cacao_cli_ends.specs.Files.{Counts}
 use Rattle.cacao_cli_ends.specs.Ends.{unsaid}
 use Rattle.cacao_cli_ends.specs.Lines.{SaysAtMostALine}
@@ -24,7 +24,7 @@ pub record SaysAtMost (old new : LinkView) : Type 0 where
 -- may have failed to say a line.
 abbrev pub CallsFew : ℕ → SiteView → SiteView → Type 0
 CallsFew bytes old new = IsTrue old.disk.told → IfSome old.link.said (λ before. IfSome new.link.said (λ after.
-    new.disk.calls + length before ≤ old.disk.calls + length after + 4 + bytes / 4096))
+    device_calls new + length before ≤ device_calls old + length after + 4 + bytes / 4096))
 
 -- No file was written, nothing was put or taken, and no time went by: each image that a crash may leave of a file at each beat of
 -- the call is one that it could leave before.
@@ -33,6 +33,7 @@ pub record WritesNothing (file : ℕ) (old new : SiteView) : Type 0 where
   pub written : new.disk.written ≤ old.disk.written
   pub link : SaysAtMost old.link new.link
   pub time : KeepsTime old.clock new.clock
+  pub mishaps : new.counts.mishaps ≡ old.counts.mishaps
   pub calls : CallsFew (length (new.disk.reads file)) old new
 
 -- at most so many reads were counted, where the shelf tells them
@@ -43,4 +44,4 @@ ReadsAtMost most old new = (count : ℕ) × (count ≤ most) × Counts old count
 pub record NoFault (faults_before faults_after : ℕ) (old new : SiteView) : Type 0 where
   pub shelf : faults_after ≡ faults_before
   pub disk : new.disk.faults ≡ old.disk.faults
-  pub say : new.clock.unsaid ≡ old.clock.unsaid
+  pub say : new.counts.unsaid ≡ old.counts.unsaid

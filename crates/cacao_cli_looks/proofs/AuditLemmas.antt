@@ -48,13 +48,13 @@ has-other files n m (inr (inr h)) e a b c = c (sym h.1 ∙ e)
 pub compares-disk : (files : List Text) (old mid : SiteView) (last : End) → Compares files old mid last → mid.disk.faults ≡ old.disk.faults
 compares-disk files old mid last h = ap (λ (s : SiteView). s.disk.faults) h.same
 
-pub compares-said : (files : List Text) (old mid new : SiteView) (last : End) (answer : ℕ) → Compares files old mid last → Tells last mid new answer → (answer ≡ 9 → ⊥) → new.clock.unsaid ≡ old.clock.unsaid
-compares-said files old mid new last answer h tells unlike = last-said last (text_of last) mid new answer tells unlike ∙ ap (λ (s : SiteView). s.clock.unsaid) h.same
+pub compares-said : (files : List Text) (old mid new : SiteView) (last : End) (answer : ℕ) → Compares files old mid last → Tells last mid new answer → (answer ≡ 9 → ⊥) → new.counts.unsaid ≡ old.counts.unsaid
+compares-said files old mid new last answer h tells unlike = last-said last (text_of last) mid new answer tells unlike ∙ ap (λ (s : SiteView). s.counts.unsaid) h.same
 
-pub compares-unsaid : (files : List Text) (old mid new : SiteView) (last : End) (answer : ℕ) → Compares files old mid last → Tells last mid new answer → answer ≡ 9 → new.clock.unsaid ≡ next_count old.clock.unsaid
+pub compares-unsaid : (files : List Text) (old mid new : SiteView) (last : End) (answer : ℕ) → Compares files old mid last → Tells last mid new answer → answer ≡ 9 → new.counts.unsaid ≡ next_count old.counts.unsaid
 compares-unsaid files old mid new last answer h tells e = last-unsaid last (text_of last) mid new answer
     (λ is. tells-other files last 9 h.tells is (λ f. omega (arith, f)) (λ f. omega (arith, f)) (λ f. omega (arith, f)) (λ f. omega (arith, f))) tells e
-    ∙ ap (λ (s : SiteView). next_count s.clock.unsaid) h.same
+    ∙ ap (λ (s : SiteView). next_count s.counts.unsaid) h.same
 
 pub compares-failed : (files : List Text) (old mid new : SiteView) (last : End) (answer : ℕ) → Compares files old mid last → Tells last mid new answer → answer ≡ 8 → ⊥
 compares-failed files old mid new last answer h tells e = go (tells-status last mid new answer tells)

@@ -2,7 +2,7 @@
 use Rattle.std.proofs.Common.{◌≡◌, ◌⊎◌, ◌∙◌, inl, inr, refl, sym, ap, subst, arith, ℕ, ◌+◌, ◌/◌, ◌≤◌, ◌==◌, Bool, true, false, List, length, Option, Some, None}
 use Rattle.std.specs.Prelude.{IfSome, IsTrue}
 use Rattle.cacao_site.specs.DiskCalls.{EachBeat, IsLeft, KeepsDisk}
-use Rattle.cacao_site.specs.View.{SiteView}
+use Rattle.cacao_site.specs.View.{SiteView, device_calls}
 use Rattle.cacao_site.proofs.Beats.{each-keeps, each-stays, since-start}
 use Rattle.cacao_words.specs.Words.{Text}
 use Rattle.cacao_cli_ends.specs.Ends.{End, status_of, no_memory, unsaid}
@@ -53,18 +53,19 @@ nothing-written file old between new opens says = record {
     now = says.time.now ∙ ap (λ c. c.now) opens.only.rest.clock;
     asked = says.time.asked ∙ ap (λ c. c.asked) opens.only.rest.clock;
     furthest = says.time.furthest ∙ ap (λ c. c.furthest) opens.only.rest.clock;
-    mishaps = says.time.mishaps ∙ ap (λ c. c.mishaps) opens.only.rest.clock;
     shorts = says.time.shorts ∙ ap (λ c. c.shorts) opens.only.rest.clock;
   };
-  calls = λ told. few-calls old.disk.calls between.disk.calls new.disk.calls (length (new.disk.reads file) / 4096) old.link.said new.link.said
-      (subst (λ (bytes : List ℕ). between.disk.calls ≤ old.disk.calls + 3 + length bytes / 4096) (sym (says.disk.stays file).reads) (opens.calls told))
-      (subst (λ (said : Option (List (ℕ × Text))). Tallies 1 between.disk.calls new.disk.calls said new.link.said) (ap (λ l. l.said) opens.only.rest.link) says.calls);
+  mishaps = says.mishaps ∙ ap (λ c. c.mishaps) opens.only.rest.counts;
+  calls = λ told. few-calls (device_calls old) (device_calls between) (device_calls new) (length (new.disk.reads file) / 4096) old.link.said new.link.said
+      (subst (λ (bytes : List ℕ). device_calls between ≤ device_calls old + 3 + length bytes / 4096) (sym (says.disk.stays file).reads)
+      (omega (arith, opens.calls told, ap (λ c. c.says) opens.only.rest.counts)))
+      (subst (λ (said : Option (List (ℕ × Text))). Tallies 1 (device_calls between) (device_calls new) said new.link.said) (ap (λ l. l.said) opens.only.rest.link) says.calls);
 }
 
 -- nothing was opened
 pub opens-refl : (file : ℕ) (site : SiteView) → Opens file site site
 opens-refl file site = record {
-  only = record { each = since-start site.disk file; others = λ other ne. (keeps-refl site.disk).stays other; rest = record { link = refl; clock = refl } };
+  only = record { each = since-start site.disk file; others = λ other ne. (keeps-refl site.disk).stays other; rest = record { link = refl; clock = refl; counts = refl } };
   calls = λ told. omega arith;
   written = omega arith;
 }
@@ -93,8 +94,8 @@ not-eight end last mid new answer is other tells e = go (ended end last mid new 
     go (inl f) = other (sym f ∙ e)
     go (inr c) = cut-eight answer c e
 
-pub opened-unsaid : (file : ℕ) (old mid : SiteView) → Opens file old mid → mid.clock.unsaid ≡ old.clock.unsaid
-opened-unsaid file old mid opens = ap (λ c. c.unsaid) opens.only.rest.clock
+pub opened-unsaid : (file : ℕ) (old mid : SiteView) → Opens file old mid → mid.counts.unsaid ≡ old.counts.unsaid
+opened-unsaid file old mid opens = ap (λ c. c.unsaid) opens.only.rest.counts
 
 pub not-nine : (end last : End) → last ≡ end → (status_of end ≡ 9 → ⊥) → status_of last ≡ 9 → ⊥
 not-nine end last is other e = other (sym (ap status_of is) ∙ e)

@@ -107,11 +107,11 @@ module _ (lines : List Text) (end : End) (Holds : List ℕ → Type 0) (old mid 
       go (inr (inr (inl f))) = omega (arith, e, f)
       go (inr (inr (inr f))) = f
 
-  pub went-said : Went lines end Holds old mid last → Tells last mid new answer → (answer ≡ 9 → ⊥) → new.clock.unsaid ≡ old.clock.unsaid
-  went-said h tells unlike = works-said lines end h.between mid new last answer h.says tells unlike ∙ ap (λ c. c.unsaid) h.opens.only.rest.clock
+  pub went-said : Went lines end Holds old mid last → Tells last mid new answer → (answer ≡ 9 → ⊥) → new.counts.unsaid ≡ old.counts.unsaid
+  went-said h tells unlike = works-said lines end h.between mid new last answer h.says tells unlike ∙ ap (λ c. c.unsaid) h.opens.only.rest.counts
 
-  pub went-unsaid : Went lines end Holds old mid last → (status_of end ≡ 9 → ⊥) → Tells last mid new answer → answer ≡ 9 → new.clock.unsaid ≡ next_count old.clock.unsaid
-  went-unsaid h other tells e = works-unsaid lines end h.between mid new last answer other h.says tells e ∙ ap next_count (ap (λ c. c.unsaid) h.opens.only.rest.clock)
+  pub went-unsaid : Went lines end Holds old mid last → (status_of end ≡ 9 → ⊥) → Tells last mid new answer → answer ≡ 9 → new.counts.unsaid ≡ next_count old.counts.unsaid
+  went-unsaid h other tells e = works-unsaid lines end h.between mid new last answer other h.says tells e ∙ ap next_count (ap (λ c. c.unsaid) h.opens.only.rest.counts)
 
 -- ---- the cases
 

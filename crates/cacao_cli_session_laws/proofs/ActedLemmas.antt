@@ -18,10 +18,10 @@ use Rattle.flow_steps.specs.Steps.{IsAddressed}
 use Rattle.flow_steps.specs.Unbroken.{AreFiltersSure}
 use Rattle.flow_steps.specs.Worlds.{Notes, looked, rests, waits}
 use Rattle.flow_steps.proofs.Came.{same_last}
-use Rattle.flow_world.specs.Closes.{IsClose}
+use Rattle.flow_world_parts.specs.Closes.{IsClose}
 use Rattle.flow_world.specs.Sessions.{Went}
-use Rattle.flow_world.specs.declared.close.Close.{Close}
-use Rattle.flow_world.specs.declared.close.Close.TheVariants as close
+use Rattle.flow_world_parts.specs.declared.close.Close.{Close}
+use Rattle.flow_world_parts.specs.declared.close.Close.TheVariants as close
 use Rattle.cacao_cli_session_laws.specs.Returning.{ActsOnAll, HasActFor, IsRepliedLast, IsTakenLast}
 use Rattle.cacao_cli_ends.specs.Work.{Start}
 use Rattle.cacao_cli_session_laws.proofs.FloodLemmas.{hand-empty, takes-all}
@@ -74,7 +74,7 @@ module _ (given : Given) (run most : ℕ) (answers : List OperatorAnswer) (old m
       let all : handles.handled ++ handles.at_hand ≡ handles.handled = ap (λ (l : List (ℕ × Parcel)). handles.handled ++ l) empty ∙ append-nil handles.handled in
       all-since (λ e. IsCommand e.1 → HasActFor e.1 mid) old.link.taken mid.link.taken handles.handled
       (subst (λ (l : List (ℕ × Parcel)). GainsAll old.link.taken l mid.link.taken) all (takes-all given run most answers old mid sound told went))
-      (All-weaker (λ e. IsCommand e.1 → HasItsAct went.to e.1) (λ e. IsCommand e.1 → HasActFor e.1 mid) (λ e to command. act-there sure e.1 command (to command)) handles.handled handles.commands)
+      (All-weaker (λ e. IsCommand e.1 → HasItsAct went.to e.1) (λ e. IsCommand e.1 → HasActFor e.1 mid) (λ e to command. act-there sure e.1 command (to command)) handles.handled (went.sums.acts went.files.others.many))
 
   -- no parcel is in hand where it closed
   closes-empty : (how : Close) → IsClose how went.to → went.sums.handles.at_hand ≡ []
@@ -119,6 +119,9 @@ module _ (start : Start) (given : Given) (answers : List OperatorAnswer) (old mi
     flooded-no-reply = go by.ignores
       where
         go : IgnoresIt by.beat by.parcel by.old by.new → ⊥
-        go (inl d) = d.why (subst IsAddressed (sym same) r.is_back.addressed)
+        go (inl d) = elim d.why [
+          | inl not ↦ not (subst IsAddressed (sym same) r.is_back.addressed)
+          | inr lacks ↦ true≢false (sym r.is_back.back ∙ sym (ap (λ (p : Parcel). p.back) same) ∙ lacks.is_command)
+        ]
         go (inr (inl i)) = i.no_reply read (subst (λ (p : Parcel). IsReplyTo by.old.engine.history p read) (sym same) (subst (λ (h : HistoryView). IsReplyTo h r.parcel read) by.history replies))
         go (inr (inr (v, w, repeats))) = true≢false (sym r.is_back.back ∙ sym (ap (λ (p : Parcel). p.back) same) ∙ repeats.holds_command.command)

@@ -2,10 +2,10 @@
 use Rattle.std.proofs.Common.{◌≡◌, inl, inr, refl, ap, subst, arith, ℕ, true, false, List, [], ◌∷◌, Err}
 use Rattle.cacao_site.specs.Counts.{DidNotRise, Rose}
 use Rattle.cacao_site.specs.View.{SiteView}
-use Rattle.flow_world.specs.declared.close.Close.{Close}
-use Rattle.flow_world.specs.declared.close.Close.TheVariants as close
-use Rattle.flow_world.specs.declared.error.WorldError.{WorldError}
-use Rattle.flow_world.specs.declared.error.WorldError.TheVariants as error
+use Rattle.flow_world_parts.specs.declared.close.Close.{Close}
+use Rattle.flow_world_parts.specs.declared.close.Close.TheVariants as close
+use Rattle.flow_world_parts.specs.declared.error.WorldError.{WorldError}
+use Rattle.flow_world_parts.specs.declared.error.WorldError.TheVariants as error
 use Rattle.session_laws.specs.Complete.{EndsSo, IsUndisturbed, StopsSo, TellsOfAnother}
 use Rattle.cacao_cli_ends.specs.Ends.{End, status_of, no_memory, shelf_failed}
 use Rattle.cacao_cli_ends.specs.Comes.{IsOneOf}
@@ -68,10 +68,10 @@ refusal-not error.Say = (λ e. omega (arith, e), λ e. omega (arith, e))
 refusal-not error.Memory = (λ e. omega (arith, e), λ e. omega (arith, e))
 
 -- the counts did not rise before the last line
-pub undisturbed-before : (old mid new : SiteView) → SaysAtMostALine mid new → new.clock.unsaid ≡ mid.clock.unsaid → IsUndisturbed old new → IsUndisturbed old mid
+pub undisturbed-before : (old mid new : SiteView) → SaysAtMostALine mid new → new.counts.unsaid ≡ mid.counts.unsaid → IsUndisturbed old new → IsUndisturbed old mid
 undisturbed-before old mid new behind said u = record {
   faults = subst (λ (n : ℕ). DidNotRise old.disk.faults n) faults u.faults;
-  unsaid = subst (λ (n : ℕ). DidNotRise old.clock.unsaid n) said u.unsaid;
+  unsaid = subst (λ (n : ℕ). DidNotRise old.counts.unsaid n) said u.unsaid;
   shorts = subst (λ (n : ℕ). DidNotRise old.clock.shorts n) shorts u.shorts;
 }
   where

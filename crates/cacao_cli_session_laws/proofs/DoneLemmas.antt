@@ -3,7 +3,7 @@ use Rattle.std.proofs.Common.{◌≡◌, ◌∙◌, sym, ap, subst, ℕ, Bool, L
 use Rattle.std.specs.Prelude.{Contains, IsSome, IsTrue}
 use Rattle.cacao_site.specs.Counts.{DidNotRise}
 use Rattle.cacao_site.specs.Sound.{IsSound}
-use Rattle.cacao_site.specs.View.{ClockView, LinkView, SiteView}
+use Rattle.cacao_site.specs.View.{CountsView, LinkView, SiteView}
 use Rattle.run_records.specs.declared.record.Record.{Record}
 use Rattle.run_records.specs.declared.record.Record.TheVariants as entry
 use Rattle.flow_rules.specs.Givens.{Given}
@@ -12,25 +12,25 @@ use Rattle.flow_laws.specs.Images.{IsActs, IsRecords}
 use Rattle.flow_laws.proofs.OneList.{acts_of_layout, none_of_empty, same_records}
 use Rattle.flow_steps.specs.Complete.{IsComplete}
 use Rattle.flow_world.specs.Sessions.{HasClosed, IsStart, KeepsAgreement, Went}
-use Rattle.flow_world.specs.declared.close.Close.TheVariants as close
+use Rattle.flow_world_parts.specs.declared.close.Close.TheVariants as close
 use Rattle.session_laws.proofs.Answering.{send_is_acted_on}
 use Rattle.cacao_cli_session_laws.specs.Completing.{EachSendIsDone, FileHasNoRecord, IsDone}
 use Rattle.cacao_cli_session_laws.proofs.ReturnedRuns.{closes-filters, closes-sure, had-records, holds-there, sound-reads, sure-records}
 
 module _ (old mid : SiteView) (run : ℕ) (sound : IsSound mid) (is : IsStart old run) where
   module _ (given : Given) (most : ℕ) (answers : List OperatorAnswer) (told : IsTrue mid.disk.told) where
-    pub complete : (went : Went given run most answers old mid) → DidNotRise old.clock.mishaps mid.clock.mishaps → IsComplete went.start went.to
+    pub complete : (went : Went given run most answers old mid) → DidNotRise old.counts.mishaps mid.counts.mishaps → IsComplete went.start went.to
     complete went still_ =
         let first = went.files.journal.opens.only.rest in
         let second = went.files.others.rest in
         let link = ap (λ (l : LinkView). l.pending) (second.link ∙ first.link) in
-        let clock = ap (λ (c : ClockView). c.mishaps) (second.clock ∙ first.clock) in
+        let counts = ap (λ (c : CountsView). c.mishaps) (second.counts ∙ first.counts) in
         let told_there : IsSome went.start.site.link.pending = subst (λ o. IsSome o) (sym link) is.pending in
-        let at_end : DidNotRise old.clock.mishaps went.to.site.clock.mishaps = subst (λ (s : SiteView). DidNotRise old.clock.mishaps s.clock.mishaps) (sym went.to_is) still_ in
-        went.sums.complete told_there (subst (λ (k : ℕ). DidNotRise k went.to.site.clock.mishaps) (sym clock) at_end)
+        let at_end : DidNotRise old.counts.mishaps went.to.site.counts.mishaps = subst (λ (s : SiteView). DidNotRise old.counts.mishaps s.counts.mishaps) (sym went.to_is) still_ in
+        went.sums.complete went.files.others.many told_there (subst (λ (k : ℕ). DidNotRise k went.to.site.counts.mishaps) (sym counts) at_end)
 
     -- each Send of a run that ended in one session is done
-    pub ended-done : (well : Bool) → HasClosed (close.Ended well) given run most answers old mid → DidNotRise old.clock.mishaps mid.clock.mishaps → FileHasNoRecord old → KeepsAgreement old mid → EachSendIsDone run mid
+    pub ended-done : (well : Bool) → HasClosed (close.Ended well) given run most answers old mid → DidNotRise old.counts.mishaps mid.counts.mishaps → FileHasNoRecord old → KeepsAgreement old mid → EachSendIsDone run mid
     ended-done well closed still_ none agreed records are task issue agent moment bytes has =
         let went = closed.went in
         let sure = closes-sure given run most answers old mid (sound-reads mid sound) told went (close.Ended well) closed.closes in

@@ -23,11 +23,11 @@ use Rattle.flow_steps.specs.Sides.{HoldsWithUnsure}
 use Rattle.flow_steps.specs.Unbroken.{IsJournalSure}
 use Rattle.flow_steps.specs.Unsure.{UnsureByStep}
 use Rattle.flow_steps.specs.Worlds.{Notes}
-use Rattle.flow_world.specs.Errors.{opening_refusal}
-use Rattle.flow_world.specs.Openings.{RefusesJournal, RefusesOpening}
+use Rattle.flow_world_parts.specs.Errors.{opening_refusal}
+use Rattle.flow_world_parts.specs.Openings.{RefusesJournal, RefusesOpening}
 use Rattle.flow_world.specs.Sessions.{HasRefused, IsStart, Went}
-use Rattle.flow_world.specs.declared.error.WorldError.{WorldError}
-use Rattle.flow_world.specs.declared.error.WorldError.TheVariants as error
+use Rattle.flow_world_parts.specs.declared.error.WorldError.{WorldError}
+use Rattle.flow_world_parts.specs.declared.error.WorldError.TheVariants as error
 use Rattle.session_laws.proofs.Opening.{OnlyOpens, opens_refused}
 use Rattle.session_laws.proofs.Undamaged.{reads_agree}
 use Rattle.cacao_cli_session_laws.specs.Completing.{AddsNoExpire}
@@ -154,7 +154,7 @@ module _ (old mid new : SiteView) (run : ℕ) (sound_old : IsSound old) (sound :
 
   -- ---- sessions
 
-  module _ (given : Given) (most : ℕ) (answers : List OperatorAnswer) (told : IsTrue mid.disk.told) (went : Went given run most answers old mid) (still_ : DidNotRise old.clock.mishaps mid.clock.mishaps) where
+  module _ (given : Given) (most : ℕ) (answers : List OperatorAnswer) (told : IsTrue mid.disk.told) (went : Went given run most answers old mid) (still_ : DidNotRise old.counts.mishaps mid.counts.mishaps) where
     all : IsComplete went.start went.to
     all = complete old mid run sound is given most answers told went still_
 
@@ -220,7 +220,7 @@ module _ (old mid new : SiteView) (run : ℕ) (sound_old : IsSound old) (sound :
         by (inl sure) = gained went.sums.adds.added (gains-added given run most answers old mid (sound-reads mid sound) told went sure).has none-among
         by (inr h) = unsure-none h.0 h.1
 
-  pub refused-adds : (why : WorldError) (given : Given) (most : ℕ) (answers : List OperatorAnswer) → IsTrue mid.disk.told → DidNotRise old.clock.mishaps mid.clock.mishaps
+  pub refused-adds : (why : WorldError) (given : Given) (most : ℕ) (answers : List OperatorAnswer) → IsTrue mid.disk.told → DidNotRise old.counts.mishaps mid.counts.mishaps
       → HasRefused why given run most answers old mid → AddsNoExpire old new
   refused-adds why given most answers told still_ (inl opening) = refused-none why given opening
   refused-adds why given most answers told still_ (inr later) = went-none given most answers told later.went still_

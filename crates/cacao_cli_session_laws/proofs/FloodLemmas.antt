@@ -24,7 +24,7 @@ use Rattle.flow_steps.specs.Sums.{total}
 use Rattle.flow_steps.specs.Unbroken.{AreFiltersSure, IsJournalSure}
 use Rattle.flow_steps.specs.Worlds.{Notes, Phase, World}
 use Rattle.flow_steps.proofs.Failing.{fails_notes}
-use Rattle.flow_world.specs.Openings.{IsFilterOpen}
+use Rattle.flow_world_parts.specs.Openings.{IsFilterOpen}
 use Rattle.flow_world.specs.Sessions.{Went}
 use Rattle.cacao_cli_session_laws.specs.Returning.{FloodsSo, GainsActs}
 use Rattle.cacao_cli_ends.specs.Work.{Start}
@@ -215,7 +215,7 @@ module _ (given : Given) (run most : ℕ) (answers : List OperatorAnswer) (old m
 
   pub gained-acts : AreFiltersSure went.to → (agent : ℕ) → IsAgent agent → GainsActs agent (acts_of agent went.sums.grow.acted) old mid
   gained-acts sure agent is =
-      let all : length went.start.filters ≡ 16 = went.begins.filters.all in
+      let all : length went.start.filters ≡ 16 = went.files.others.many in
       let found = there-at given run most answers old mid sound told went went.start.filters (agent - 1) (omega (arith, is.0, is.1, all)) in
       let same : suc (agent - 1) ≡ agent = omega (arith, is.0) in
       let grown : HasGrown found.0 went.to.filters (agent - 1) (acts_of agent went.sums.grow.acted) =

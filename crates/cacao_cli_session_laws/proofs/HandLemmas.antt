@@ -34,9 +34,9 @@ use Rattle.flow_steps.specs.Worlds.{IsGoing, Notes, Phase, World, holds, looked,
 use Rattle.flow_steps.proofs.Asked.{step_not_opened}
 use Rattle.flow_steps.proofs.Handling.{steps_handle}
 use Rattle.flow_steps.proofs.Timely.{in_time_bounds, opened_in_time, steps_in_time}
-use Rattle.flow_world.specs.Closes.{IsRefusal}
+use Rattle.flow_world_parts.specs.Closes.{IsRefusal}
 use Rattle.flow_world.specs.Sessions.{Went}
-use Rattle.flow_world.specs.declared.error.WorldError.TheVariants as error
+use Rattle.flow_world_parts.specs.declared.error.WorldError.TheVariants as error
 use Rattle.session_laws.specs.Ends.{PassesAt, TurnAt}
 use Rattle.session_laws.specs.Ends.PassesAt.{by_begin, by_move, by_upgrade, by_told, by_expire, by_reply, by_act}
 use Rattle.session_laws.proofs.Shown.{steps_in_turn}
@@ -91,7 +91,7 @@ module _ (start : Start) (old mid : SiteView) (sound : ReadsImages mid) (told : 
   -- what the files of the agents gained
   gained-past : went.to.notes.unsure_act ≡ None → (agent : ℕ) → IsAgent agent → GainsActs agent (acts_of agent went.sums.grow.acted) old mid
   gained-past none agent is =
-      let all : length went.start.filters ≡ 16 = went.begins.filters.all in
+      let all : length went.start.filters ≡ 16 = went.files.others.many in
       let found = there-at given start.run start.most answers old mid sound told went went.start.filters (agent - 1) (omega (arith, is.0, is.1, all)) in
       let same : suc (agent - 1) ≡ agent = omega (arith, is.0) in
       let grown : HasGrown found.0 went.to.filters (agent - 1) (acts_of agent went.sums.grow.acted) =

@@ -1,7 +1,7 @@
 -- What a session raises, and with which status it ends.
 use Rattle.std.proofs.Common.{◌≡◌, ◌⊎◌, inl, inr, ◌∙◌, refl, sym, ap, subst, arith, ℕ, ◌≤◌, Bool, true, false, List}
 use Rattle.cacao_site.specs.Counts.{Rose}
-use Rattle.cacao_site.specs.View.{ClockView, SiteView}
+use Rattle.cacao_site.specs.View.{CountsView, SiteView}
 use Rattle.operator_answers.specs.declared.answers.OperatorAnswer.{OperatorAnswer}
 use Rattle.engine_history.specs.declared.error.EngineError.{EngineError}
 use Rattle.engine_history.specs.declared.error.EngineError.TheVariants as engine_error
@@ -9,14 +9,14 @@ use Rattle.engine_history.specs.Openings.{IsRefusedOpening}
 use Rattle.flow_rules.specs.Givens.{Given}
 use Rattle.flow_steps.specs.Causes.{Shows}
 use Rattle.flow_steps.specs.Worlds.{Cause, Phase, World, disk_failed as failed_disk, not_said, past as past_limit, refused as refused_by, run_used as used, wants_memory}
-use Rattle.flow_world.specs.Closes.{refusal_of}
-use Rattle.flow_world.specs.Errors.{opening_refusal}
-use Rattle.flow_world.specs.Openings.{AreOpen, RefusesOpening}
+use Rattle.flow_world_parts.specs.Closes.{refusal_of}
+use Rattle.flow_world_parts.specs.Errors.{opening_refusal}
+use Rattle.flow_world_parts.specs.Openings.{AreOpen, RefusesOpening}
 use Rattle.flow_world.specs.Sessions.{HasRefused, RefusesLater, Went}
-use Rattle.flow_world.specs.declared.close.Close.{Close}
-use Rattle.flow_world.specs.declared.close.Close.TheVariants as close
-use Rattle.flow_world.specs.declared.error.WorldError.{WorldError}
-use Rattle.flow_world.specs.declared.error.WorldError.TheVariants as error
+use Rattle.flow_world_parts.specs.declared.close.Close.{Close}
+use Rattle.flow_world_parts.specs.declared.close.Close.TheVariants as close
+use Rattle.flow_world_parts.specs.declared.error.WorldError.{WorldError}
+use Rattle.flow_world_parts.specs.declared.error.WorldError.TheVariants as error
 use Rattle.flow_world.proofs.CloseLemmas.{closes_are_no_refusals}
 use Rattle.cacao_cli_ends.specs.Ends.{End, status_of, disk_failed, ended_ok, unsaid}
 use Rattle.cacao_cli_ends.specs.Comes.{IsOneOf}
@@ -146,12 +146,12 @@ module _ (given : Given) (run : ℕ) (old new : SiteView) where
   open-faults : (start : World) → AreOpen given run old start.site start.engine start.filters → old.disk.faults ≤ start.site.disk.faults
   open-faults start h = omega (arith, h.journal.opens.only.each.goes_on.faults, h.others.goes_on.faults)
 
-  open-clock : (start : World) → AreOpen given run old start.site start.engine start.filters → start.site.clock.unsaid ≡ old.clock.unsaid
-  open-clock start h = ap (λ (c : ClockView). c.unsaid) (h.others.rest.clock ∙ h.journal.opens.only.rest.clock)
+  open-counts : (start : World) → AreOpen given run old start.site start.engine start.filters → start.site.counts.unsaid ≡ old.counts.unsaid
+  open-counts start h = ap (λ (c : CountsView). c.unsaid) (h.others.rest.counts ∙ h.journal.opens.only.rest.counts)
 
-  refused-clock : (why : WorldError) → RefusesOpening why given run old new → new.clock.unsaid ≡ old.clock.unsaid
-  refused-clock why (inl h) = ap (λ (c : ClockView). c.unsaid) h.opens.only.rest.clock
-  refused-clock why (inr h) = ap (λ (c : ClockView). c.unsaid) (h.refuses.refuses.opens.only.rest.clock ∙ h.refuses.before.rest.clock ∙ h.journal.opens.only.rest.clock)
+  refused-counts : (why : WorldError) → RefusesOpening why given run old new → new.counts.unsaid ≡ old.counts.unsaid
+  refused-counts why (inl h) = ap (λ (c : CountsView). c.unsaid) h.opens.only.rest.counts
+  refused-counts why (inr h) = ap (λ (c : CountsView). c.unsaid) (h.refuses.refuses.opens.only.rest.counts ∙ h.refuses.before.rest.counts ∙ h.journal.opens.only.rest.counts)
 
   refused-say : RefusesOpening error.Say given run old new → ⊥
   refused-say (inl h) = opening-say h.why (sym h.is)
@@ -170,22 +170,22 @@ module _ (given : Given) (run most : ℕ) (answers : List OperatorAnswer) (old n
       let last : h.to.site.disk.faults ≡ new.disk.faults = ap (λ (s : SiteView). s.disk.faults) h.to_is in
       omega (arith, open-faults given run old new h.start h.files, h.cause.faults, last)
 
-  went-same : (h : Went given run most answers old new) → h.to.site.clock.unsaid ≡ h.start.site.clock.unsaid → new.clock.unsaid ≡ old.clock.unsaid
-  went-same h e = ap (λ (s : SiteView). s.clock.unsaid) (sym h.to_is) ∙ e ∙ open-clock given run old new h.start h.files
+  went-same : (h : Went given run most answers old new) → h.to.site.counts.unsaid ≡ h.start.site.counts.unsaid → new.counts.unsaid ≡ old.counts.unsaid
+  went-same h e = ap (λ (s : SiteView). s.counts.unsaid) (sym h.to_is) ∙ e ∙ open-counts given run old new h.start h.files
 
   -- a line that could not be said ends the session so
-  pub holds-said : (last : End) → HoldsSo given run most answers old new last → (new.clock.unsaid ≡ old.clock.unsaid) ⊎ (last ≡ unsaid)
+  pub holds-said : (last : End) → HoldsSo given run most answers old new last → (new.counts.unsaid ≡ old.counts.unsaid) ⊎ (last ≡ unsaid)
   holds-said last h = go h.held
     where
-      go : ClosesSo given run most answers old new last ⊎ RefusesSo given run most answers old new last → (new.clock.unsaid ≡ old.clock.unsaid) ⊎ (last ≡ unsaid)
+      go : ClosesSo given run most answers old new last ⊎ RefusesSo given run most answers old new last → (new.counts.unsaid ≡ old.counts.unsaid) ⊎ (last ≡ unsaid)
       go (inl c) = by (steps_unsaid c.closed.went.start c.closed.went.to c.closed.went.steps)
         where
-          by : Unsaid c.closed.went.start c.closed.went.to → (new.clock.unsaid ≡ old.clock.unsaid) ⊎ (last ≡ unsaid)
+          by : Unsaid c.closed.went.start c.closed.went.to → (new.counts.unsaid ≡ old.counts.unsaid) ⊎ (last ≡ unsaid)
           by (none_unsaid e) = inl (went-same c.closed.went e)
           by (one_unsaid phase e) = absurd (closes_are_no_refusals c.closed.went.to c.close error.Say c.closed.closes (record { cause = not_said; lacks = true; phase = phase; is = refl }))
       go (inr r) = by r.why
         where
-          later : (l : RefusesLater r.error given run most answers old new) → Unsaid l.went.start l.went.to → (new.clock.unsaid ≡ old.clock.unsaid) ⊎ (last ≡ unsaid)
+          later : (l : RefusesLater r.error given run most answers old new) → Unsaid l.went.start l.went.to → (new.counts.unsaid ≡ old.counts.unsaid) ⊎ (last ≡ unsaid)
           later l (none_unsaid e) = inl (went-same l.went e)
           later l (one_unsaid phase e) =
               let cause : l.refuses.cause ≡ not_said = same-cause l.refuses.cause not_said l.refuses.lacks true (sym l.refuses.phase ∙ phase) in
@@ -195,25 +195,25 @@ module _ (given : Given) (run most : ℕ) (answers : List OperatorAnswer) (old n
               same-cause : (a b : Cause) (x y : Bool) → refused_by a x ≡ refused_by b y → a ≡ b
               same-cause a b x y e = cc
 
-          by : HasRefused r.error given run most answers old new → (new.clock.unsaid ≡ old.clock.unsaid) ⊎ (last ≡ unsaid)
-          by (inl o) = inl (refused-clock given run old new r.error o)
+          by : HasRefused r.error given run most answers old new → (new.counts.unsaid ≡ old.counts.unsaid) ⊎ (last ≡ unsaid)
+          by (inl o) = inl (refused-counts given run old new r.error o)
           by (inr l) = later l (steps_unsaid l.went.start l.went.to l.went.steps)
 
   -- and then the count of such lines rose
-  pub refuses-unsaid : HasRefused error.Say given run most answers old new → Rose old.clock.unsaid new.clock.unsaid
+  pub refuses-unsaid : HasRefused error.Say given run most answers old new → Rose old.counts.unsaid new.counts.unsaid
   refuses-unsaid (inl o) = absurd (refused-say given run old new o)
   refuses-unsaid (inr l) =
       let cause : l.refuses.cause ≡ not_said = cause-say l.refuses.cause (sym l.refuses.is) in
       let phase : l.went.to.phase ≡ refused_by not_said l.refuses.lacks = l.refuses.phase ∙ ap (λ (c : Cause). refused_by c l.refuses.lacks) cause in
-      let rose : Rose l.went.start.site.clock.unsaid l.went.to.site.clock.unsaid =
+      let rose : Rose l.went.start.site.counts.unsaid l.went.to.site.counts.unsaid =
       (shown-as l.went.to.phase (refused_by not_said l.refuses.lacks) l.went.start l.went.to phase l.went.cause.shows).0 in
-      subst (λ (s : SiteView). Rose old.clock.unsaid s.clock.unsaid) l.went.to_is
-      (subst (λ (n : ℕ). Rose n l.went.to.site.clock.unsaid) (open-clock given run old new l.went.start l.went.files) rose)
+      subst (λ (s : SiteView). Rose old.counts.unsaid s.counts.unsaid) l.went.to_is
+      (subst (λ (n : ℕ). Rose n l.went.to.site.counts.unsaid) (open-counts given run old new l.went.start l.went.files) rose)
 
-  pub holds-unsaid : (last : End) → last ≡ unsaid → HoldsSo given run most answers old new last → Rose old.clock.unsaid new.clock.unsaid
+  pub holds-unsaid : (last : End) → last ≡ unsaid → HoldsSo given run most answers old new last → Rose old.counts.unsaid new.counts.unsaid
   holds-unsaid last is h = go h.held
     where
-      go : ClosesSo given run most answers old new last ⊎ RefusesSo given run most answers old new last → Rose old.clock.unsaid new.clock.unsaid
+      go : ClosesSo given run most answers old new last ⊎ RefusesSo given run most answers old new last → Rose old.counts.unsaid new.counts.unsaid
       go (inl c) = absurd (close-nine c.close (sym c.ends ∙ is))
       go (inr r) = refuses-unsaid (subst (λ (e : WorldError). HasRefused e given run most answers old new) (error-nine r.error (sym r.ends ∙ is)) r.why)
 

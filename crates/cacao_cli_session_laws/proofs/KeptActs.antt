@@ -17,10 +17,10 @@ use Rattle.flow_steps.specs.Ready.{FilterStands, HoldsActsWithUnsure}
 use Rattle.flow_steps.specs.Unsure.{UnsureByFilter}
 use Rattle.flow_steps.specs.Worlds.{Notes}
 use Rattle.flow_steps.proofs.Unsure.{steps_unsure_act}
-use Rattle.flow_world.specs.Openings.{IsFileCause, RefusesJournal, RefusesOpening, RefusesSecond}
+use Rattle.flow_world_parts.specs.Openings.{IsFileCause, RefusesJournal, RefusesOpening, RefusesSecond}
 use Rattle.flow_world.specs.Sessions.{Went}
-use Rattle.flow_world.specs.declared.error.WorldError.{WorldError}
-use Rattle.flow_world.specs.declared.error.WorldError.TheVariants as error
+use Rattle.flow_world_parts.specs.declared.error.WorldError.{WorldError}
+use Rattle.flow_world_parts.specs.declared.error.WorldError.TheVariants as error
 use Rattle.cacao_cli_ends.specs.Lines.{SaysAtMostALine}
 use Rattle.cacao_cli_session_laws.specs.Returning.{GainsActs, KeepsActs}
 use Rattle.cacao_cli_session_laws.proofs.ExpireLemmas.{disk-or-not}
@@ -142,7 +142,7 @@ module _ (old mid : SiteView) (sound : IsSound mid) (told : IsTrue mid.disk.told
 
   pub went-acts : KeepsActs old mid
   went-acts still_ agent is before are =
-      let all : length went.start.filters ≡ 16 = went.begins.filters.all in
+      let all : length went.start.filters ≡ 16 = went.files.others.many in
       let found = there-at given run most answers old mid (sound-reads mid sound) told went went.start.filters (agent - 1) (omega (arith, is.0, is.1, all)) in
       has-acts agent is found.0 found.1
 

@@ -19,9 +19,9 @@ use Rattle.flow_steps.specs.Unbroken.{AreFiltersSure, EndedByFilter}
 use Rattle.flow_steps.specs.Unsure.{UnsureByFilter}
 use Rattle.flow_steps.specs.Worlds.{Cause, Notes, Phase, World, disk_failed, holds, past, refused, wants_memory}
 use Rattle.flow_steps.proofs.Unsure.{steps_unsure_act}
-use Rattle.flow_world.specs.Closes.{IsRefusal}
+use Rattle.flow_world_parts.specs.Closes.{IsRefusal}
 use Rattle.flow_world.specs.Sessions.{Went}
-use Rattle.flow_world.specs.declared.error.WorldError.TheVariants as error
+use Rattle.flow_world_parts.specs.declared.error.WorldError.TheVariants as error
 use Rattle.session_laws.proofs.WholeActs.{acts_undamaged}
 use Rattle.cacao_cli_session_laws.proofs.ReturnedRuns.{HoldsFilter, ReadsImages, cause-past, same-cause, sound-there, there-at, told-there}
 
@@ -97,7 +97,7 @@ module _ (given : Given) (run most : ℕ) (answers : List OperatorAnswer) (old m
 
   pub stands-filter : went.to.notes.unsure_act ≡ None → (agent : ℕ) → IsAgent agent → HoldsFilter given run most answers old mid sound told went agent
   stands-filter none agent is_agent =
-      let all : length went.to.filters ≡ 16 = went.sums.grow.many ∙ went.begins.filters.all in
+      let all : length went.to.filters ≡ 16 = went.sums.grow.many ∙ went.files.others.many in
       let found = there-at given run most answers old mid sound told went went.to.filters (agent - 1) (omega (arith, is_agent.0, is_agent.1, all)) in
       stands-there none agent is_agent.0 found.0 found.1
 

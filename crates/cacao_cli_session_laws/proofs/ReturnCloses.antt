@@ -20,8 +20,8 @@ use Rattle.flow_steps.specs.Sums.{total}
 use Rattle.flow_steps.specs.Unbroken.{IsJournalSure}
 use Rattle.flow_steps.specs.Worlds.{Notes, Phase, rests}
 use Rattle.flow_world.specs.Sessions.{HasClosed, Went}
-use Rattle.flow_world.specs.declared.close.Close.{Close}
-use Rattle.flow_world.specs.declared.close.Close.TheVariants as close
+use Rattle.flow_world_parts.specs.declared.close.Close.{Close}
+use Rattle.flow_world_parts.specs.declared.close.Close.TheVariants as close
 use Rattle.session_laws.specs.Ends.{EndsInTurn, IsInTurn}
 use Rattle.session_laws.specs.Ends as ends_in
 use Rattle.session_laws.specs.Returned.{ReadsAsRun}

@@ -38,13 +38,13 @@ use Rattle.flow_steps.specs.Steps.{HasRun, IsActCause}
 use Rattle.flow_steps.specs.Unbroken.{AreFiltersSure, EndedByFilter, IsJournalSure}
 use Rattle.flow_steps.specs.Unsure.{UnsureByStep}
 use Rattle.flow_steps.specs.Worlds.{Cause, Phase, World, disk_failed, holds, not_said, past, refused, run_used, wants_memory}
-use Rattle.flow_world.specs.Closes.{IsClose, IsRefusal, refusal_of}
-use Rattle.flow_world.specs.Openings.{RefusesOpening}
+use Rattle.flow_world_parts.specs.Closes.{IsClose, IsRefusal, refusal_of}
+use Rattle.flow_world_parts.specs.Openings.{RefusesOpening}
 use Rattle.flow_world.specs.Sessions.{Went}
-use Rattle.flow_world.specs.declared.close.Close.{Close}
-use Rattle.flow_world.specs.declared.close.Close.TheVariants as close
-use Rattle.flow_world.specs.declared.error.WorldError.{WorldError}
-use Rattle.flow_world.specs.declared.error.WorldError.TheVariants as error
+use Rattle.flow_world_parts.specs.declared.close.Close.{Close}
+use Rattle.flow_world_parts.specs.declared.close.Close.TheVariants as close
+use Rattle.flow_world_parts.specs.declared.error.WorldError.{WorldError}
+use Rattle.flow_world_parts.specs.declared.error.WorldError.TheVariants as error
 use Rattle.flow_world.proofs.CloseLemmas.{closes_are_no_refusals}
 use Rattle.session_laws.specs.Ends.{TurnAt}
 use Rattle.session_laws.specs.Returned.{ReadsAsRun}
@@ -390,7 +390,7 @@ module _ (given : Given) (run most : ℕ) (answers : List OperatorAnswer) (old m
 
   holds-filter : AreFiltersSure went.to → (agent : ℕ) → IsAgent agent → HoldsFilter agent
   holds-filter sure agent is_agent =
-      let all = sure.filters.all in
+      let all : length went.to.filters ≡ 16 = went.sums.grow.many ∙ went.files.others.many in
       let found = there-at went.to.filters (agent - 1) (omega (arith, is_agent.0, is_agent.1, all)) in
       holds-there sure agent is_agent.0 found.0 found.1
 

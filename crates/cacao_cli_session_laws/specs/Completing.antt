@@ -84,8 +84,8 @@ pub record CompletesSo (start : Start) (old new : SiteView) (answer : ℕ) : Typ
   pub no_other : HasOwnFile start old → answer ≢ 12
   pub to_end : HasOwnFile start old → IsUndisturbed old new
       → IsOneOf answer (0 ∷ 6 ∷ 7 ∷ 16 ∷ 15 ∷ 11 ∷ 10 ∷ 3 ∷ [])
-  pub none_expires : DidNotRise old.clock.mishaps new.clock.mishaps → AddsNoExpire old new
-  pub sends_done : DidNotRise old.clock.mishaps new.clock.mishaps → FileHasNoRecord old → (answer ≡ 0) ⊎ (answer ≡ 6)
+  pub none_expires : DidNotRise old.counts.mishaps new.counts.mishaps → AddsNoExpire old new
+  pub sends_done : DidNotRise old.counts.mishaps new.counts.mishaps → FileHasNoRecord old → (answer ≡ 0) ⊎ (answer ≡ 6)
       → EachSendIsDone start.run new
 
 -- of `run`, with the texts of its files, each of which has a tree where it wants one

@@ -10,9 +10,9 @@ use Rattle.flow_core.specs.Setups.{AreAccepted}
 use Rattle.flow_rules.specs.Accepted.{Accepted}
 use Rattle.flow_rules.specs.Givens.{Given}
 use Rattle.flow_world.specs.Sessions.{HasClosed, HasRefused, IsStart, KeepsAgreement}
-use Rattle.flow_world.specs.declared.close.Close.{Close}
-use Rattle.flow_world.specs.declared.close.Close.TheVariants as close
-use Rattle.flow_world.specs.declared.error.WorldError.{WorldError}
+use Rattle.flow_world_parts.specs.declared.close.Close.{Close}
+use Rattle.flow_world_parts.specs.declared.close.Close.TheVariants as close
+use Rattle.flow_world_parts.specs.declared.error.WorldError.{WorldError}
 use Rattle.session_laws.specs.Complete.{EndsSo, IsForThisRun, IsUndisturbed, NoneFindsAnother, StopsSo, UndisturbedCompletes}
 use Rattle.session_laws.specs.Undamaged.{ComesOfTexts}
 use Rattle.cacao_words.specs.Requests.{RunRequest}
@@ -41,9 +41,9 @@ use Rattle.cacao_cli_ends.proofs.UnsaidLemmas.{last-said}
 use Rattle.cacao_cli_session_laws.proofs.CompleteLemmas.{close-listed, close-other, end_statuses, fails-end, not-unsaid, refusal-listed, refusal-not, refusal-other, says-none, undisturbed-before}
 
 module _ (no_other : NoneFindsAnother) (completes : UndisturbedCompletes) (start : Start) (old mid new : SiteView) (last : End) (answer : ℕ) (sound_old : IsSound old) (sound : IsSound mid) (is : IsStart old start.run)
-    (unsaid : answer ≡ 9 → Rose old.clock.unsaid new.clock.unsaid) (tells : Tells last mid new answer) where
-  said-all : IsUndisturbed old new → new.clock.unsaid ≡ mid.clock.unsaid
-  said-all u = last-said last (text_of last) mid new answer tells (λ e. not-unsaid old.clock.unsaid new.clock.unsaid (unsaid e) u.unsaid)
+    (unsaid : answer ≡ 9 → Rose old.counts.unsaid new.counts.unsaid) (tells : Tells last mid new answer) where
+  said-all : IsUndisturbed old new → new.counts.unsaid ≡ mid.counts.unsaid
+  said-all u = last-said last (text_of last) mid new answer tells (λ e. not-unsaid old.counts.unsaid new.counts.unsaid (unsaid e) u.unsaid)
 
   before : IsUndisturbed old new → IsUndisturbed old mid
   before u = undisturbed-before old mid new (tells-line last mid new answer tells) (said-all u) u
@@ -54,7 +54,7 @@ module _ (no_other : NoneFindsAnother) (completes : UndisturbedCompletes) (start
     where
       go : (answer ≡ status_of last) ⊎ IsCutOff answer → IsOneOf answer end_statuses
       go (inl f) = subst (λ (n : ℕ). IsOneOf n end_statuses) (sym (f ∙ ap status_of e)) one
-      go (inr (inl f)) = absurd (not-unsaid old.clock.unsaid new.clock.unsaid (unsaid f) u.unsaid)
+      go (inr (inl f)) = absurd (not-unsaid old.counts.unsaid new.counts.unsaid (unsaid f) u.unsaid)
       go (inr (inr (inl f))) = inr (inr (inr (inr (inr (inr (inl f))))))
       go (inr (inr (inr h))) = absurd h
 
@@ -88,12 +88,12 @@ module _ (no_other : NoneFindsAnother) (completes : UndisturbedCompletes) (start
       go (inl same) = ap (λ (s : SiteView). s.disk.reads file) same
       go (inr says) = (says.disk.stays file).reads
 
-  still-before : DidNotRise old.clock.mishaps new.clock.mishaps → DidNotRise old.clock.mishaps mid.clock.mishaps
-  still-before still_ = subst (λ (n : ℕ). DidNotRise old.clock.mishaps n) (go (tells-line last mid new answer tells)) still_
+  still-before : DidNotRise old.counts.mishaps new.counts.mishaps → DidNotRise old.counts.mishaps mid.counts.mishaps
+  still-before still_ = subst (λ (n : ℕ). DidNotRise old.counts.mishaps n) (go (tells-line last mid new answer tells)) still_
     where
-      go : SaysAtMostALine mid new → new.clock.mishaps ≡ mid.clock.mishaps
-      go (inl same) = ap (λ (s : SiteView). s.clock.mishaps) same
-      go (inr says) = says.time.mishaps
+      go : SaysAtMostALine mid new → new.counts.mishaps ≡ mid.counts.mishaps
+      go (inl same) = ap (λ (s : SiteView). s.counts.mishaps) same
+      go (inr says) = says.mishaps
 
   faults-there : new.disk.faults ≡ mid.disk.faults
   faults-there = go (tells-line last mid new answer tells)
@@ -142,7 +142,7 @@ module _ (no_other : NoneFindsAnother) (completes : UndisturbedCompletes) (start
       comes : (o : HasOwnFile start old) (u : IsUndisturbed old new) → ((how : Close) → HasClosed how h.given start.run start.most h.answers old mid → EndsSo how) × ((why : WorldError) → HasRefused why h.given start.run start.most h.answers old mid → StopsSo why)
       comes o u = completes h.given start.run start.most h.answers old mid accepted_is is (own-file h.given o h.accepted) sound (before u)
 
-      done-by : (how : Close) → last ≡ close_end how → HasClosed how h.given start.run start.most h.answers old mid → DidNotRise old.clock.mishaps new.clock.mishaps → FileHasNoRecord old
+      done-by : (how : Close) → last ≡ close_end how → HasClosed how h.given start.run start.most h.answers old mid → DidNotRise old.counts.mishaps new.counts.mishaps → FileHasNoRecord old
           → (answer ≡ 0) ⊎ (answer ≡ 6) → EachSendIsDone start.run new
       done-by (close.Ended well) e c still_ none either =
           done-there old mid new bytes-there start.run (ended-done old mid start.run sound is h.given start.most h.answers agreed.told well c (still-before still_) none agreed)
@@ -173,7 +173,7 @@ module _ (no_other : NoneFindsAnother) (completes : UndisturbedCompletes) (start
   }
 
 module _ (no_other : NoneFindsAnother) (completes : UndisturbedCompletes) (wanted : RunRequest) (files : Files) (old mid new : SiteView) (last : End) (answer : ℕ) (sound_old : IsSound old) (sound : IsSound mid) (is : IsStart old wanted.run)
-    (unsaid : answer ≡ 9 → Rose old.clock.unsaid new.clock.unsaid) (tells : Tells last mid new answer) where
+    (unsaid : answer ≡ 9 → Rose old.counts.unsaid new.counts.unsaid) (tells : Tells last mid new answer) where
   run-completes : Performs (work (Some (runs wanted)) (reading files (files_of (Some (runs wanted))))) old mid last → (texts : List NamedText) → HasTexts files wanted texts → HasTrees wanted texts
       → CompletesSo (start_of wanted texts) old new answer
   run-completes performs texts has trees = go (run_case wanted files)
@@ -207,7 +207,7 @@ module _ (no_other : NoneFindsAnother) (completes : UndisturbedCompletes) (wante
       cut-undone (inr (inr h)) e = h
 
       cut-listed : IsUndisturbed old new → IsCutOff answer → IsOneOf answer end_statuses
-      cut-listed u (inl f) = absurd (not-unsaid old.clock.unsaid new.clock.unsaid (unsaid f) u.unsaid)
+      cut-listed u (inl f) = absurd (not-unsaid old.counts.unsaid new.counts.unsaid (unsaid f) u.unsaid)
       cut-listed u (inr (inl f)) = inr (inr (inr (inr (inr (inr (inl f))))))
       cut-listed u (inr (inr h)) = absurd h
 
@@ -237,7 +237,7 @@ completes-ended no_other completes (Some (checks books)) shelf old mid new last 
 completes-ended no_other completes (Some (runs wanted)) shelf old mid new last answer sound_old sound p tells = λ is. if-told (files_of (Some (runs wanted))) shelf.told _ (λ files seen. λ texts has trees.
     go is files texts has trees (seen-read shelf.told (files_of (Some (runs wanted))) files p.reads.count p.read seen p.reads.reads))
   where
-    unsaid : answer ≡ 9 → Rose old.clock.unsaid new.clock.unsaid
+    unsaid : answer ≡ 9 → Rose old.counts.unsaid new.counts.unsaid
     unsaid e = unsaid-ended (Some (runs wanted)) shelf old new answer (record { last = last; between = mid; performed = p; tells = tells }) e
 
     go : IsStart old wanted.run → (files : Files) (texts : List NamedText) → HasTexts files wanted texts → HasTrees wanted texts

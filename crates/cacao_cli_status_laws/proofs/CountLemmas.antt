@@ -36,11 +36,11 @@ use Rattle.cacao_cli_ends.proofs.UnsaidLemmas.{last-said, last-unsaid, works-sai
 use Rattle.cacao_cli_ends.proofs.LineLemmas.{IsCutOff, tells-status}
 use Rattle.cacao_cli_ends.proofs.ReadLemmas.{Read, empty-read}
 
-performs-said : (w : Work) (old mid new : SiteView) (last : End) (answer : ℕ) → Performs w old mid last → Tells last mid new answer → (answer ≡ 9 → ⊥) → new.clock.unsaid ≡ old.clock.unsaid
+performs-said : (w : Work) (old mid new : SiteView) (last : End) (answer : ℕ) → Performs w old mid last → Tells last mid new answer → (answer ≡ 9 → ⊥) → new.counts.unsaid ≡ old.counts.unsaid
 performs-said (ends lines end) old mid new last answer h tells unlike = works-said lines end old mid new last answer h tells unlike
 performs-said (judges trees mode kept) old mid new last answer (inl h) tells unlike = performs-said kept old mid new last answer h.1 tells unlike
-performs-said (judges trees mode kept) old mid new last answer (inr (inl h)) tells unlike = last-said last (text_of last) mid new answer tells unlike ∙ ap (λ (s : SiteView). s.clock.unsaid) h.same
-performs-said (judges trees mode kept) old mid new last answer (inr (inr h)) tells unlike = last-said last (text_of last) mid new answer tells unlike ∙ ap (λ (s : SiteView). s.clock.unsaid) h.same
+performs-said (judges trees mode kept) old mid new last answer (inr (inl h)) tells unlike = last-said last (text_of last) mid new answer tells unlike ∙ ap (λ (s : SiteView). s.counts.unsaid) h.same
+performs-said (judges trees mode kept) old mid new last answer (inr (inr h)) tells unlike = last-said last (text_of last) mid new answer tells unlike ∙ ap (λ (s : SiteView). s.counts.unsaid) h.same
 performs-said (opens_filter agent look) old mid new last answer h tells unlike = opens-said agent look old mid new last answer h tells unlike
 performs-said opens_run old mid new last answer h tells unlike = run-said old mid new last answer h tells unlike
 performs-said (compares files) old mid new last answer h tells unlike = compares-said files old mid new last answer h tells unlike
@@ -121,15 +121,15 @@ IsHanded (starts start) = Unit {0}
 rose-next : (n m : ℕ) → m ≡ next_count n → Rose n m
 rose-next n m e = omega (arith, e)
 
-performs-unsaid : (w : Work) (old mid new : SiteView) (last : End) (answer : ℕ) → IsHanded w → NotUnsaid w → Performs w old mid last → Tells last mid new answer → answer ≡ 9 → Rose old.clock.unsaid new.clock.unsaid
-performs-unsaid (ends lines end) old mid new last answer handed other h tells e = rose-next old.clock.unsaid new.clock.unsaid (works-unsaid lines end old mid new last answer other.0 h tells e)
+performs-unsaid : (w : Work) (old mid new : SiteView) (last : End) (answer : ℕ) → IsHanded w → NotUnsaid w → Performs w old mid last → Tells last mid new answer → answer ≡ 9 → Rose old.counts.unsaid new.counts.unsaid
+performs-unsaid (ends lines end) old mid new last answer handed other h tells e = rose-next old.counts.unsaid new.counts.unsaid (works-unsaid lines end old mid new last answer other.0 h tells e)
 performs-unsaid (judges trees mode kept) old mid new last answer handed other (inl h) tells e = performs-unsaid kept old mid new last answer handed other h.1 tells e
-performs-unsaid (judges trees mode kept) old mid new last answer handed other (inr (inl h)) tells e = rose-next old.clock.unsaid new.clock.unsaid
-    (last-unsaid last (text_of last) mid new answer (λ is. let k : status_of last ≡ 1 = ap status_of h.ends in omega (arith, is, k)) tells e ∙ ap (λ (s : SiteView). next_count s.clock.unsaid) h.same)
+performs-unsaid (judges trees mode kept) old mid new last answer handed other (inr (inl h)) tells e = rose-next old.counts.unsaid new.counts.unsaid
+    (last-unsaid last (text_of last) mid new answer (λ is. let k : status_of last ≡ 1 = ap status_of h.ends in omega (arith, is, k)) tells e ∙ ap (λ (s : SiteView). next_count s.counts.unsaid) h.same)
 performs-unsaid (judges trees mode kept) old mid new last answer handed other (inr (inr h)) tells e = absurd (omega (arith, e, (no-more last no_memory mid new answer h.ends refl tells).1))
-performs-unsaid (opens_filter agent look) old mid new last answer handed other h tells e = rose-next old.clock.unsaid new.clock.unsaid (opens-unsaid agent look old mid new last answer h tells e)
-performs-unsaid opens_run old mid new last answer handed other h tells e = rose-next old.clock.unsaid new.clock.unsaid (run-unsaid old mid new last answer h tells e)
-performs-unsaid (compares files) old mid new last answer handed other h tells e = rose-next old.clock.unsaid new.clock.unsaid (compares-unsaid files old mid new last answer h tells e)
+performs-unsaid (opens_filter agent look) old mid new last answer handed other h tells e = rose-next old.counts.unsaid new.counts.unsaid (opens-unsaid agent look old mid new last answer h tells e)
+performs-unsaid opens_run old mid new last answer handed other h tells e = rose-next old.counts.unsaid new.counts.unsaid (run-unsaid old mid new last answer h tells e)
+performs-unsaid (compares files) old mid new last answer handed other h tells e = rose-next old.counts.unsaid new.counts.unsaid (compares-unsaid files old mid new last answer h tells e)
 performs-unsaid (rehearsals positions) old mid new last answer handed other h tells e = absurd handed
 performs-unsaid (starts start) old mid new last answer handed other h tells e = start-unsaid start old mid new last answer h tells e
 
@@ -309,7 +309,7 @@ handed-work (Some asked) read h = go (has_too_many asked) read
     go false (Err end) = tt
     go false (Ok texts) = handed-texts asked texts h
 
-rose-unsaid : (asked : Option Asked) (shelf : ShelfCall) (old new : SiteView) (answer : ℕ) → WithSite asked → Ended asked shelf old new answer → answer ≡ 9 → Rose old.clock.unsaid new.clock.unsaid
+rose-unsaid : (asked : Option Asked) (shelf : ShelfCall) (old new : SiteView) (answer : ℕ) → WithSite asked → Ended asked shelf old new answer → answer ≡ 9 → Rose old.counts.unsaid new.counts.unsaid
 rose-unsaid asked shelf old new answer has h e = performs-unsaid (work asked h.performed.read) old h.between new h.last answer (handed-work asked h.performed.read has)
     (no-nine asked shelf.told h.performed.reads.count h.performed.read h.performed.reads.reads) h.performed.performs h.tells e
 
@@ -325,7 +325,7 @@ unsaid-ended (Some (shadows agent)) shelf old new answer h e = rose-unsaid (Some
 unsaid-ended (Some (audits engine filters)) shelf old new answer h e = rose-unsaid (Some (audits engine filters)) shelf old new answer tt h e
 unsaid-ended (Some (rehearses positions)) shelf old new answer h e = rehearses-unsaid positions old h.between new h.last answer (rehearse-performed positions shelf old h.between h.last h.performed) h.tells e
 
-pub said-ended : (asked : Option Asked) (shelf : ShelfCall) (old new : SiteView) (answer : ℕ) → Ended asked shelf old new answer → (answer ≡ 9 → ⊥) → new.clock.unsaid ≡ old.clock.unsaid
+pub said-ended : (asked : Option Asked) (shelf : ShelfCall) (old new : SiteView) (answer : ℕ) → Ended asked shelf old new answer → (answer ≡ 9 → ⊥) → new.counts.unsaid ≡ old.counts.unsaid
 said-ended asked shelf old new answer h unlike = performs-said (work asked h.performed.read) old h.between new h.last answer h.performed.performs h.tells unlike
 
 -- a failed read is told, unless its line could not be said

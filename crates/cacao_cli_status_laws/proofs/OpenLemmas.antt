@@ -60,13 +60,13 @@ opens-failed agent look old mid new last answer (inr (inl h)) tells e = absurd (
 opens-failed agent look old mid new last answer (inr (inr (inl h))) tells e = subst (λ (n : ℕ). Rose old.disk.faults n) (sym (last-disk last (text_of last) mid new answer tells)) h.cause
 opens-failed agent look old mid new last answer (inr (inr (inr h))) tells e = absurd (not-eight no_memory last mid new answer h.ends (λ f. omega (arith, f)) tells e)
 
-pub opens-said : (agent : ℕ) (look : Look) (old mid new : SiteView) (last : End) (answer : ℕ) → Performs (opens_filter agent look) old mid last → Tells last mid new answer → (answer ≡ 9 → ⊥) → new.clock.unsaid ≡ old.clock.unsaid
+pub opens-said : (agent : ℕ) (look : Look) (old mid new : SiteView) (last : End) (answer : ℕ) → Performs (opens_filter agent look) old mid last → Tells last mid new answer → (answer ≡ 9 → ⊥) → new.counts.unsaid ≡ old.counts.unsaid
 opens-said agent look old mid new last answer (inl h) tells unlike = works-said h.lines done h.between mid new last answer h.says tells unlike ∙ opened-unsaid agent old h.between h.opens
 opens-said agent look old mid new last answer (inr (inl h)) tells unlike = last-said last (text_of last) mid new answer tells unlike ∙ opened-unsaid agent old mid h.opens
 opens-said agent look old mid new last answer (inr (inr (inl h))) tells unlike = last-said last (text_of last) mid new answer tells unlike ∙ opened-unsaid agent old mid h.opens
 opens-said agent look old mid new last answer (inr (inr (inr h))) tells unlike = last-said last (text_of last) mid new answer tells unlike ∙ opened-unsaid agent old mid h.opens
 
-pub opens-unsaid : (agent : ℕ) (look : Look) (old mid new : SiteView) (last : End) (answer : ℕ) → Performs (opens_filter agent look) old mid last → Tells last mid new answer → answer ≡ 9 → new.clock.unsaid ≡ next_count old.clock.unsaid
+pub opens-unsaid : (agent : ℕ) (look : Look) (old mid new : SiteView) (last : End) (answer : ℕ) → Performs (opens_filter agent look) old mid last → Tells last mid new answer → answer ≡ 9 → new.counts.unsaid ≡ next_count old.counts.unsaid
 opens-unsaid agent look old mid new last answer (inl h) tells e =
     works-unsaid h.lines done h.between mid new last answer (λ f. omega (arith, f)) h.says tells e ∙ ap next_count (opened-unsaid agent old h.between h.opens)
 opens-unsaid agent look old mid new last answer (inr (inl h)) tells e =

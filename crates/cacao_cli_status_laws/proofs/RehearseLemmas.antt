@@ -9,10 +9,10 @@ use Rattle.cacao_site.specs.View.{SiteView}
 use Rattle.memory_site.specs.declared.site.MemorySite.{MemorySite}
 use Rattle.flow_setup.specs.declared.setup_errors.SetupError.TheVariants as setup_error
 use Rattle.flow_rules.specs.Givens.{Given}
-use Rattle.flow_world.specs.declared.close.Close.{Close}
-use Rattle.flow_world.specs.declared.close.Close.TheVariants as close
-use Rattle.flow_world.specs.declared.error.WorldError.{WorldError}
-use Rattle.flow_world.specs.declared.error.WorldError.TheVariants as refusal
+use Rattle.flow_world_parts.specs.declared.close.Close.{Close}
+use Rattle.flow_world_parts.specs.declared.close.Close.TheVariants as close
+use Rattle.flow_world_parts.specs.declared.error.WorldError.{WorldError}
+use Rattle.flow_world_parts.specs.declared.error.WorldError.TheVariants as refusal
 use Rattle.rehearsal.specs.Books.{rehearsal_text}
 use Rattle.rehearsal.specs.NewSites.{EndsByPlan, MayClose, MayComeOfNew, TellsOfBefore}
 use Rattle.rehearsal.specs.Plans.{GoesByPlan}
@@ -239,8 +239,8 @@ module _ (positions n : ℕ) where
 pub rehearses-disk : (positions : ℕ) (old mid : SiteView) (last : End) → Rehearses positions old mid last → mid.disk.faults ≡ old.disk.faults
 rehearses-disk positions old mid last h = ap (λ (s : SiteView). s.disk.faults) h.same
 
-pub rehearses-said : (positions : ℕ) (old mid new : SiteView) (last : End) (answer : ℕ) → Rehearses positions old mid last → Tells last mid new answer → (answer ≡ 9 → ⊥) → new.clock.unsaid ≡ old.clock.unsaid
-rehearses-said positions old mid new last answer h tells unlike = last-said last (text_of last) mid new answer tells unlike ∙ ap (λ (s : SiteView). s.clock.unsaid) h.same
+pub rehearses-said : (positions : ℕ) (old mid new : SiteView) (last : End) (answer : ℕ) → Rehearses positions old mid last → Tells last mid new answer → (answer ≡ 9 → ⊥) → new.counts.unsaid ≡ old.counts.unsaid
+rehearses-said positions old mid new last answer h tells unlike = last-said last (text_of last) mid new answer tells unlike ∙ ap (λ (s : SiteView). s.counts.unsaid) h.same
 
 -- what has this status is told of a run
 ran : (positions : ℕ) (last : End) → TellsRehearsal positions last → (status_of last ≡ 1 → ⊥) → (status_of last ≡ 10 → ⊥) → RehearsalTo positions last
@@ -271,7 +271,7 @@ module _ (positions : ℕ) (h : RehearsalTo positions disk_failed) where
   counts-fault = let rose = fault-rose h.runs in record { came = h; rose = rose; used_up = λ within. no-rise (view_of h.site).disk.faults (view_of h.left).disk.faults rose (h.by_plan.steady within) }
 
 module _ (positions : ℕ) (h : RehearsalTo positions unsaid) where
-  unsaid-rose : EndsRun positions h.given (view_of h.site) (view_of h.left) unsaid → Rose (view_of h.site).clock.unsaid (view_of h.left).clock.unsaid
+  unsaid-rose : EndsRun positions h.given (view_of h.site) (view_of h.left) unsaid → Rose (view_of h.site).counts.unsaid (view_of h.left).counts.unsaid
   unsaid-rose (inl r) = let e = r.ends in absurd (cc)
   unsaid-rose (inr (inl r)) = absurd (close-nine r.how (sym r.ends))
   unsaid-rose (inr (inr (inl r))) =
@@ -279,17 +279,17 @@ module _ (positions : ℕ) (h : RehearsalTo positions unsaid) where
       (subst (λ (w : WorldError). Refuses h.given w (view_of h.site) (view_of h.left)) (error-nine r.why (sym r.ends)) r.refuses)
   unsaid-rose (inr (inr (inr r))) = let e = r.ends in absurd (cc)
 
-  counts-unsaid : CountsOwn positions unsaid (λ (s : SiteView). s.clock.unsaid)
-  counts-unsaid = let rose = unsaid-rose h.runs in record { came = h; rose = rose; used_up = λ within. no-rise (view_of h.site).clock.unsaid (view_of h.left).clock.unsaid rose (h.by_plan.heard within) }
+  counts-unsaid : CountsOwn positions unsaid (λ (s : SiteView). s.counts.unsaid)
+  counts-unsaid = let rose = unsaid-rose h.runs in record { came = h; rose = rose; used_up = λ within. no-rise (view_of h.site).counts.unsaid (view_of h.left).counts.unsaid rose (h.by_plan.heard within) }
 
 pub rehearses-unsaid : (positions : ℕ) (old mid new : SiteView) (last : End) (answer : ℕ) → Rehearses positions old mid last → Tells last mid new answer → answer ≡ 9
-    → Rose old.clock.unsaid new.clock.unsaid ⊎ CountsOwn positions unsaid (λ (s : SiteView). s.clock.unsaid)
+    → Rose old.counts.unsaid new.counts.unsaid ⊎ CountsOwn positions unsaid (λ (s : SiteView). s.counts.unsaid)
 rehearses-unsaid positions old mid new last answer h tells e = go (nine-or-not last)
   where
-    go : (last ≡ unsaid) ⊎ (status_of last ≡ 9 → ⊥) → Rose old.clock.unsaid new.clock.unsaid ⊎ CountsOwn positions unsaid (λ (s : SiteView). s.clock.unsaid)
+    go : (last ≡ unsaid) ⊎ (status_of last ≡ 9 → ⊥) → Rose old.counts.unsaid new.counts.unsaid ⊎ CountsOwn positions unsaid (λ (s : SiteView). s.counts.unsaid)
     go (inl is) = let k : status_of last ≡ 9 = ap status_of is in
         inr (counts-unsaid positions (subst (RehearsalTo positions) is (ran positions last h.tells (λ f. omega (arith, k, f)) (λ f. omega (arith, k, f)))))
-    go (inr other) = inl (rose-next old.clock.unsaid new.clock.unsaid (last-unsaid last (text_of last) mid new answer other tells e ∙ ap (λ (s : SiteView). next_count s.clock.unsaid) h.same))
+    go (inr other) = inl (rose-next old.counts.unsaid new.counts.unsaid (last-unsaid last (text_of last) mid new answer other tells e ∙ ap (λ (s : SiteView). next_count s.counts.unsaid) h.same))
 
 pub rehearses-failed : (positions : ℕ) (old mid new : SiteView) (last : End) (answer : ℕ) → Rehearses positions old mid last → Tells last mid new answer → answer ≡ 8
     → CountsOwn positions disk_failed (λ (s : SiteView). s.disk.faults)

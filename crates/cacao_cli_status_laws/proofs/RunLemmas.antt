@@ -58,14 +58,14 @@ module _ (old mid new : SiteView) (last : End) (answer : ℕ) where
   run-failed (inr (inr (inr (inl h)))) tells e = subst (λ (n : ℕ). Rose old.disk.faults n) (sym (last-disk last (text_of last) mid new answer tells)) h.cause
   run-failed (inr (inr (inr (inr h)))) tells e = absurd (went-steady [] no_memory (λ image. Unit {0}) old mid new last answer (of-wanted old mid last h) (λ f. omega (arith, f)) tells e)
 
-  pub run-said : Performs opens_run old mid last → Tells last mid new answer → (answer ≡ 9 → ⊥) → new.clock.unsaid ≡ old.clock.unsaid
+  pub run-said : Performs opens_run old mid last → Tells last mid new answer → (answer ≡ 9 → ⊥) → new.counts.unsaid ≡ old.counts.unsaid
   run-said (inl h) tells unlike = went-said (lines_of h.text) done IsReport old mid new last answer (of-said old mid last h) tells unlike
   run-said (inr (inl h)) tells unlike = went-said [] (damaged 0 h.place) IsBad old mid new last answer (of-none old mid last h) tells unlike
   run-said (inr (inr (inl h))) tells unlike = went-said [] (past TaskCount) run.IsTooLarge old mid new last answer (of-many old mid last h) tells unlike
   run-said (inr (inr (inr (inl h)))) tells unlike = went-said [] disk_failed (λ image. Unit {0}) old mid new last answer (of-failed old mid last h) tells unlike
   run-said (inr (inr (inr (inr h)))) tells unlike = went-said [] no_memory (λ image. Unit {0}) old mid new last answer (of-wanted old mid last h) tells unlike
 
-  pub run-unsaid : Performs opens_run old mid last → Tells last mid new answer → answer ≡ 9 → new.clock.unsaid ≡ next_count old.clock.unsaid
+  pub run-unsaid : Performs opens_run old mid last → Tells last mid new answer → answer ≡ 9 → new.counts.unsaid ≡ next_count old.counts.unsaid
   run-unsaid (inl h) tells e = went-unsaid (lines_of h.text) done IsReport old mid new last answer (of-said old mid last h) (λ f. omega (arith, f)) tells e
   run-unsaid (inr (inl h)) tells e = went-unsaid [] (damaged 0 h.place) IsBad old mid new last answer (of-none old mid last h) (λ f. omega (arith, f)) tells e
   run-unsaid (inr (inr (inl h))) tells e = went-unsaid [] (past TaskCount) run.IsTooLarge old mid new last answer (of-many old mid last h) (λ f. omega (arith, f)) tells e

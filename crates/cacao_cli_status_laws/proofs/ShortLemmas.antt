@@ -8,10 +8,10 @@ use Rattle.operator_answers.specs.declared.answers.OperatorAnswer.{OperatorAnswe
 use Rattle.flow_steps.specs.Causes.{IsShort, Shows}
 use Rattle.flow_steps.specs.Worlds.{Phase}
 use Rattle.flow_world.specs.Sessions.{HasClosed}
-use Rattle.flow_world.specs.declared.close.Close.{Close}
-use Rattle.flow_world.specs.declared.close.Close.TheVariants as close
-use Rattle.flow_world.specs.declared.error.WorldError.{WorldError}
-use Rattle.flow_world.specs.declared.error.WorldError.TheVariants as error
+use Rattle.flow_world_parts.specs.declared.close.Close.{Close}
+use Rattle.flow_world_parts.specs.declared.close.Close.TheVariants as close
+use Rattle.flow_world_parts.specs.declared.error.WorldError.{WorldError}
+use Rattle.flow_world_parts.specs.declared.error.WorldError.TheVariants as error
 use Rattle.cacao_words.specs.Requests.{RunRequest}
 use Rattle.cacao_cli_ends.specs.Asked.{Asked, canonises, checks, runs, shows, lists_rules, decides, shadows, rehearses, audits}
 use Rattle.cacao_cli_status_laws.specs.Ended.{Ended}

@@ -40,42 +40,42 @@ tells-line last mid new answer h = line-at-last last (text_of last) mid new answ
 module _ (start : Start) (old mid new : SiteView) (last : End) (answer : ℕ) where
   -- ---- lines that could not be said
 
-  still-said : mid ≡ old → Tells last mid new answer → (answer ≡ 9 → ⊥) → new.clock.unsaid ≡ old.clock.unsaid
-  still-said e tells unlike = last-said last (text_of last) mid new answer tells unlike ∙ ap (λ (s : SiteView). s.clock.unsaid) e
+  still-said : mid ≡ old → Tells last mid new answer → (answer ≡ 9 → ⊥) → new.counts.unsaid ≡ old.counts.unsaid
+  still-said e tells unlike = last-said last (text_of last) mid new answer tells unlike ∙ ap (λ (s : SiteView). s.counts.unsaid) e
 
-  pub start-said : Performs (starts start) old mid last → Tells last mid new answer → (answer ≡ 9 → ⊥) → new.clock.unsaid ≡ old.clock.unsaid
+  pub start-said : Performs (starts start) old mid last → Tells last mid new answer → (answer ≡ 9 → ⊥) → new.counts.unsaid ≡ old.counts.unsaid
   start-said (inl h) tells unlike = still-said h.same tells unlike
   start-said (inr (inl h)) tells unlike = still-said h.same tells unlike
   start-said (inr (inr (inl h))) tells unlike = still-said h.same tells unlike
   start-said (inr (inr (inr (inl h)))) tells unlike = go (holds-said h.given start.run start.most h.answers old mid last h.holds)
     where
-      go : (mid.clock.unsaid ≡ old.clock.unsaid) ⊎ (last ≡ unsaid) → new.clock.unsaid ≡ old.clock.unsaid
+      go : (mid.counts.unsaid ≡ old.counts.unsaid) ⊎ (last ≡ unsaid) → new.counts.unsaid ≡ old.counts.unsaid
       go (inl e) = last-said last (text_of last) mid new answer tells unlike ∙ e
       go (inr is) = absurd (unlike (no-more last unsaid mid new answer is refl tells).1)
   start-said (inr (inr (inr (inr h)))) tells unlike = still-said h.same tells unlike
 
   -- the last line alone
-  still-unsaid : mid.clock.unsaid ≡ old.clock.unsaid → (status_of last ≡ 9 → ⊥) → Tells last mid new answer → answer ≡ 9 → Rose old.clock.unsaid new.clock.unsaid
-  still-unsaid e other tells is = next-rose old.clock.unsaid mid.clock.unsaid new.clock.unsaid e (last-unsaid last (text_of last) mid new answer other tells is)
+  still-unsaid : mid.counts.unsaid ≡ old.counts.unsaid → (status_of last ≡ 9 → ⊥) → Tells last mid new answer → answer ≡ 9 → Rose old.counts.unsaid new.counts.unsaid
+  still-unsaid e other tells is = next-rose old.counts.unsaid mid.counts.unsaid new.counts.unsaid e (last-unsaid last (text_of last) mid new answer other tells is)
 
   other-end : (end : End) → last ≡ end → (status_of end ≡ 9 → ⊥) → status_of last ≡ 9 → ⊥
   other-end end is other e = other (sym (ap status_of is) ∙ e)
 
-  pub start-unsaid : Performs (starts start) old mid last → Tells last mid new answer → answer ≡ 9 → Rose old.clock.unsaid new.clock.unsaid
-  start-unsaid (inl h) tells e = still-unsaid (ap (λ (s : SiteView). s.clock.unsaid) h.same) (other-end _ h.ends (λ f. omega (arith, f))) tells e
-  start-unsaid (inr (inl h)) tells e = still-unsaid (ap (λ (s : SiteView). s.clock.unsaid) h.same) (other-end _ h.ends (λ f. omega (arith, f))) tells e
-  start-unsaid (inr (inr (inl h))) tells e = still-unsaid (ap (λ (s : SiteView). s.clock.unsaid) h.same) (other-end _ h.ends (λ f. omega (arith, f))) tells e
+  pub start-unsaid : Performs (starts start) old mid last → Tells last mid new answer → answer ≡ 9 → Rose old.counts.unsaid new.counts.unsaid
+  start-unsaid (inl h) tells e = still-unsaid (ap (λ (s : SiteView). s.counts.unsaid) h.same) (other-end _ h.ends (λ f. omega (arith, f))) tells e
+  start-unsaid (inr (inl h)) tells e = still-unsaid (ap (λ (s : SiteView). s.counts.unsaid) h.same) (other-end _ h.ends (λ f. omega (arith, f))) tells e
+  start-unsaid (inr (inr (inl h))) tells e = still-unsaid (ap (λ (s : SiteView). s.counts.unsaid) h.same) (other-end _ h.ends (λ f. omega (arith, f))) tells e
   start-unsaid (inr (inr (inr (inl h)))) tells e = go (nine-or-not last)
     where
-      by : (status_of last ≡ 9 → ⊥) → (mid.clock.unsaid ≡ old.clock.unsaid) ⊎ (last ≡ unsaid) → Rose old.clock.unsaid new.clock.unsaid
+      by : (status_of last ≡ 9 → ⊥) → (mid.counts.unsaid ≡ old.counts.unsaid) ⊎ (last ≡ unsaid) → Rose old.counts.unsaid new.counts.unsaid
       by other (inl same) = still-unsaid same other tells e
       by other (inr is) = absurd (other (ap status_of is))
 
-      go : (last ≡ unsaid) ⊎ (status_of last ≡ 9 → ⊥) → Rose old.clock.unsaid new.clock.unsaid
-      go (inl is) = rose-same old.clock.unsaid mid.clock.unsaid new.clock.unsaid (holds-unsaid h.given start.run start.most h.answers old mid last is h.holds)
-          (ap (λ (s : SiteView). s.clock.unsaid) (no-more last unsaid mid new answer is refl tells).0)
+      go : (last ≡ unsaid) ⊎ (status_of last ≡ 9 → ⊥) → Rose old.counts.unsaid new.counts.unsaid
+      go (inl is) = rose-same old.counts.unsaid mid.counts.unsaid new.counts.unsaid (holds-unsaid h.given start.run start.most h.answers old mid last is h.holds)
+          (ap (λ (s : SiteView). s.counts.unsaid) (no-more last unsaid mid new answer is refl tells).0)
       go (inr other) = by other (holds-said h.given start.run start.most h.answers old mid last h.holds)
-  start-unsaid (inr (inr (inr (inr h)))) tells e = still-unsaid (ap (λ (s : SiteView). s.clock.unsaid) h.same) (other-end _ h.ends (λ f. omega (arith, f))) tells e
+  start-unsaid (inr (inr (inr (inr h)))) tells e = still-unsaid (ap (λ (s : SiteView). s.counts.unsaid) h.same) (other-end _ h.ends (λ f. omega (arith, f))) tells e
 
   -- ---- faults of the disk
 

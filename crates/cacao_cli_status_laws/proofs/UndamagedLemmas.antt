@@ -14,10 +14,10 @@ use Rattle.flow_rules.specs.Givens.{Given}
 use Rattle.operator_answers.specs.declared.answers.OperatorAnswer.{OperatorAnswer}
 use Rattle.flow_laws.specs.Good.{IsGood}
 use Rattle.flow_world.specs.Sessions.{HasRefused}
-use Rattle.flow_world.specs.declared.close.Close.{Close}
-use Rattle.flow_world.specs.declared.close.Close.TheVariants as close
-use Rattle.flow_world.specs.declared.error.WorldError.{WorldError}
-use Rattle.flow_world.specs.declared.error.WorldError.TheVariants as error
+use Rattle.flow_world_parts.specs.declared.close.Close.{Close}
+use Rattle.flow_world_parts.specs.declared.close.Close.TheVariants as close
+use Rattle.flow_world_parts.specs.declared.error.WorldError.{WorldError}
+use Rattle.flow_world_parts.specs.declared.error.WorldError.TheVariants as error
 use Rattle.session_laws.specs.Undamaged.{ComesOfTexts, GoodIsUndamaged, IsUndamaged, NoneFindsDamage}
 use Rattle.cacao_cli_ends.specs.Asked.{Asked, canonises, checks, runs, shows, lists_rules, decides, shadows, rehearses, audits}
 use Rattle.cacao_cli_status_laws.specs.Ended.{Ended, Performs}

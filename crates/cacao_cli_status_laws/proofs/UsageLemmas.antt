@@ -5,7 +5,7 @@ use Rattle.std.specs.Option.{option_map_or}
 use Rattle.std.proofs.lemmas.List.{length-map}
 use Rattle.serde_json.specs.Data.{Data}
 use Rattle.cacao_site.specs.LinkCalls.{GainsAll}
-use Rattle.cacao_site.specs.View.{DiskView, LinkView, SiteView}
+use Rattle.cacao_site.specs.View.{CountsView, DiskView, LinkView, SiteView, device_calls}
 use Rattle.run_records.specs.Layout.{act_layout, layout}
 use Rattle.run_records.specs.declared.act.Act.{Act}
 use Rattle.run_records.specs.declared.record.Record.{Record}
@@ -18,9 +18,9 @@ use Rattle.flow_steps.specs.Written.{act_bytes, record_bytes}
 use Rattle.flow_steps.proofs.Failing.{fails_notes}
 use Rattle.flow_steps.proofs.Unsure.{steps_unsure}
 use Rattle.cacao_site.specs.declared.parcel.Parcel.{Parcel}
-use Rattle.flow_world.specs.Openings.{RefusesOpening, blocks_to}
+use Rattle.flow_world_parts.specs.Openings.{RefusesOpening, blocks_to}
 use Rattle.flow_world.specs.Sessions.{HasRefused, Went}
-use Rattle.flow_world.specs.declared.error.WorldError.{WorldError}
+use Rattle.flow_world_parts.specs.declared.error.WorldError.{WorldError}
 use Rattle.cacao_words.specs.Requests.{RunRequest}
 use Rattle.cacao_words.specs.Words.{Text}
 use Rattle.cacao_cli_ends.specs.Asked.{Asked, canonises, checks, runs, shows, lists_rules, decides, shadows, rehearses, audits}
@@ -50,7 +50,7 @@ few-tally x y (Some a) (Some b) h = omega (arith, h)
 
 few-some : (old new : SiteView) → SaysSome 1 old new → IsFew (opens_only []) old new
 few-some old new says = record {
-  calls = λ told. few-tally old.disk.calls new.disk.calls old.link.said new.link.said says.calls;
+  calls = λ told. few-tally (device_calls old) (device_calls new) old.link.said new.link.said says.calls;
   written = omega (arith, says.disk.written);
   one = omega arith;
 }
@@ -76,7 +76,7 @@ few-file x y q (Some a) (Some b) h = omega (arith, h)
 
 few-opened : (file : ℕ) (old new : SiteView) → WritesNothing file old new → IsFew (opens_only (new.disk.reads file ∷ [])) old new
 few-opened file old new h = record {
-  calls = λ told. few-file old.disk.calls new.disk.calls (blocks (new.disk.reads file)) old.link.said new.link.said (h.calls told);
+  calls = λ told. few-file (device_calls old) (device_calls new) (blocks (new.disk.reads file)) old.link.said new.link.said (h.calls told);
   written = omega (arith, h.written);
   one = omega arith;
 }
@@ -87,7 +87,7 @@ few-opened file old new h = record {
 record IsFewer (usage : Usage) (old new : SiteView) : Type 0 where
   pub told : AreTold old.link.said new.link.said
   pub calls : IsTrue old.disk.told → IfSome old.link.said (λ before. IfSome new.link.said (λ after.
-      new.disk.calls + length before ≤ old.disk.calls + length after + 9 + 5 * length usage.opened + total blocks usage.opened + 4 * length usage.appended))
+      device_calls new + length before ≤ device_calls old + length after + 9 + 5 * length usage.opened + total blocks usage.opened + 4 * length usage.appended))
   pub written : new.disk.written ≤ old.disk.written + 9 * length usage.opened + total entry_bytes usage.appended + total entry_bytes usage.failed
   pub one : length usage.failed ≤ 1
 
@@ -101,7 +101,7 @@ last-call x y z n b e (Some p) (Some q) (Some r) told few says = omega (arith, f
 
 few-then : (usage : Usage) (old mid new : SiteView) → IsFewer usage old mid → SaysSome 1 mid new → IsFew usage old new
 few-then usage old mid new few says = record {
-  calls = λ told. last-call old.disk.calls mid.disk.calls new.disk.calls (5 * length usage.opened) (total blocks usage.opened) (4 * length usage.appended)
+  calls = λ told. last-call (device_calls old) (device_calls mid) (device_calls new) (5 * length usage.opened) (total blocks usage.opened) (4 * length usage.appended)
       old.link.said mid.link.said new.link.said few.told (few.calls told) says.calls;
   written = omega (arith, few.written, says.disk.written);
   one = few.one;
@@ -163,11 +163,14 @@ told-then old new e told = subst IsTrue (sym e) told
 said-of : (old new : SiteView) → new.link ≡ old.link → new.link.said ≡ old.link.said
 said-of old new e = ap (λ (l : LinkView). l.said) e
 
+says-of : (old new : SiteView) → new.counts ≡ old.counts → new.counts.says ≡ old.counts.says
+says-of old new e = ap (λ (c : CountsView). c.says) e
+
 opening-few : (error : WorldError) (given : Given) (run : ℕ) (old mid : SiteView) (r : RefusesOpening error given run old mid) → IsFewer (opening_usage r) old mid
 opening-few error given run old mid (inl r) = record {
   told = told-same old.link.said mid.link.said (said-of old mid r.opens.only.rest.link);
-  calls = λ told. none-said old.disk.calls mid.disk.calls (5 * length (mid.disk.reads 0 ∷ [])) (total blocks (mid.disk.reads 0 ∷ [])) (4 * 0) old.link.said mid.link.said
-      (said-of old mid r.opens.only.rest.link) (let few = r.opens.calls told in omega (arith, few));
+  calls = λ told. none-said (device_calls old) (device_calls mid) (5 * length (mid.disk.reads 0 ∷ [])) (total blocks (mid.disk.reads 0 ∷ [])) (4 * 0) old.link.said mid.link.said
+      (said-of old mid r.opens.only.rest.link) (let few = r.opens.calls told in let says = says-of old mid r.opens.only.rest.counts in omega (arith, few, says));
   written = omega (arith, r.opens.written);
   one = omega arith;
 }
@@ -192,7 +195,8 @@ opening-few error given run old mid (inr r) =
           let a = one.calls told in
           let b = two.calls told_one in
           let c = three.calls told_two in
-          none-said old.disk.calls mid.disk.calls (5 * length files) (total blocks files) (4 * 0) old.link.said mid.link.said said (omega (arith, a, b, c, many, filled));
+          let says : mid.counts.says ≡ old.counts.says = says-of r.refuses.middle mid three.only.rest.counts ∙ says-of r.middle r.refuses.middle two.rest.counts ∙ says-of old r.middle one.only.rest.counts in
+          none-said (device_calls old) (device_calls mid) (5 * length files) (total blocks files) (4 * 0) old.link.said mid.link.said said (omega (arith, a, b, c, says, many, filled));
       written = let a = one.written in let b = two.written in let c = three.written in omega (arith, a, b, c);
       one = omega arith;
     }
@@ -254,6 +258,7 @@ module _ (given : Given) (run most : ℕ) (answers : List OperatorAnswer) (old m
       let start = went.start.site in
       let files : List (List ℕ) = went.files.middle.disk.reads 0 ∷ reads_to 16 start.disk in
       let many : length files ≡ 17 = ap suc (length-reads 16 start.disk) in
+      let stand : length went.start.filters ≡ 16 = two.many in
       let filled : total blocks files ≡ blocks (went.files.middle.disk.reads 0) + blocks_to 16 start.disk =
       ap (λ (b : ℕ). blocks (went.files.middle.disk.reads 0) + b) (blocks-reads 16 start.disk) in
       let records : List (List ℕ) = map layout sums.adds.added in
@@ -262,7 +267,7 @@ module _ (given : Given) (run most : ℕ) (answers : List OperatorAnswer) (old m
       let a = length-map sums.adds.added layout in let b = length-map w.notes.acted (λ (e : ℕ × Act). act_layout e.1) in let c = length-append records acts in omega (arith, a, b, c) in
       let grown : length w.engine.history.records ≡ length went.start.engine.history.records + length sums.adds.added =
       ap length sums.adds.is ∙ length-append went.start.engine.history.records sums.adds.added in
-      let last_calls : w.site.disk.calls ≡ mid.disk.calls = ap (λ (s : SiteView). s.disk.calls) went.to_is in
+      let last_calls : device_calls w.site ≡ device_calls mid = ap device_calls went.to_is in
       let last_written : w.site.disk.written ≡ mid.disk.written = ap (λ (s : SiteView). s.disk.written) went.to_is in
       let said_start : start.link.said ≡ old.link.said = said-of went.files.middle start two.rest.link ∙ said-of old went.files.middle one.only.rest.link in
       let gains : GainsAll old.link.said sums.speaks.said mid.link.said =
@@ -288,14 +293,15 @@ module _ (given : Given) (run most : ℕ) (answers : List OperatorAnswer) (old m
             let b = two.calls told_one in
             let c = sums.calls in
             let d = sums.speaks.many in
-            more-said old.disk.calls mid.disk.calls (5 * length files) (total blocks files) (4 * length (records ++ acts)) old.link.said mid.link.said sums.speaks.said gains
-            (omega (arith, a, b, c, d, many, filled, entries, grown, last_calls));
+            let says : start.counts.says ≡ old.counts.says = says-of went.files.middle start two.rest.counts ∙ says-of old went.files.middle one.only.rest.counts in
+            more-said (device_calls old) (device_calls mid) (5 * length files) (total blocks files) (4 * length (records ++ acts)) old.link.said mid.link.said sums.speaks.said gains
+            (omega (arith, a, b, c, d, says, many, stand, filled, entries, grown, last_calls));
         written =
             let a = one.written in
             let b = two.written in
-            let c : w.site.disk.written ≤ start.disk.written + 9 * 17 + total record_bytes sums.adds.added
+            let c : w.site.disk.written ≤ start.disk.written + 9 * (1 + length went.start.filters) + total record_bytes sums.adds.added
             + (option_map_or record_bytes w.notes.unsure 0 + total act_bytes w.notes.acted + option_map_or act_bytes w.notes.unsure_act 0) = sums.written in
-            omega (arith, a, b, c, many, behind, unsure, last_written);
+            omega (arith, a, b, c, many, stand, behind, unsure, last_written);
         one = few-failed;
       }
 

@@ -15,9 +15,9 @@ use Rattle.flow_steps.specs.Causes.{Shows}
 use Rattle.flow_steps.specs.Unbroken.{IsJournalSure}
 use Rattle.flow_steps.specs.Unsure.{UnsureByStep}
 use Rattle.flow_steps.specs.Worlds.{Phase}
-use Rattle.flow_world.specs.Openings.{RefusesOpening}
+use Rattle.flow_world_parts.specs.Openings.{RefusesOpening}
 use Rattle.flow_world.specs.Sessions.{HasRefused, Went}
-use Rattle.flow_world.specs.declared.error.WorldError.{WorldError}
+use Rattle.flow_world_parts.specs.declared.error.WorldError.{WorldError}
 use Rattle.cacao_words.specs.Requests.{RunRequest}
 use Rattle.cacao_cli_ends.specs.Asked.{runs}
 use Rattle.cacao_cli_status_laws.specs.Ended.{Performs}

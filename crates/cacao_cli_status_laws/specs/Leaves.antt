@@ -51,14 +51,14 @@ CountsDisk (Some (audits engine filters)) old new = ⊥
 
 -- a line was counted that could not be said; or `rehearse` could not say one on the site of its own
 abbrev pub CountsUnsaid : Option Asked → SiteView → SiteView → Type 0
-CountsUnsaid None old new = Rose old.clock.unsaid new.clock.unsaid
-CountsUnsaid (Some (canonises book)) old new = Rose old.clock.unsaid new.clock.unsaid
-CountsUnsaid (Some (checks books)) old new = Rose old.clock.unsaid new.clock.unsaid
-CountsUnsaid (Some (runs wanted)) old new = Rose old.clock.unsaid new.clock.unsaid
-CountsUnsaid (Some shows) old new = Rose old.clock.unsaid new.clock.unsaid
-CountsUnsaid (Some (lists_rules agent)) old new = Rose old.clock.unsaid new.clock.unsaid
-CountsUnsaid (Some (decides agent packets)) old new = Rose old.clock.unsaid new.clock.unsaid
-CountsUnsaid (Some (shadows agent)) old new = Rose old.clock.unsaid new.clock.unsaid
+CountsUnsaid None old new = Rose old.counts.unsaid new.counts.unsaid
+CountsUnsaid (Some (canonises book)) old new = Rose old.counts.unsaid new.counts.unsaid
+CountsUnsaid (Some (checks books)) old new = Rose old.counts.unsaid new.counts.unsaid
+CountsUnsaid (Some (runs wanted)) old new = Rose old.counts.unsaid new.counts.unsaid
+CountsUnsaid (Some shows) old new = Rose old.counts.unsaid new.counts.unsaid
+CountsUnsaid (Some (lists_rules agent)) old new = Rose old.counts.unsaid new.counts.unsaid
+CountsUnsaid (Some (decides agent packets)) old new = Rose old.counts.unsaid new.counts.unsaid
+CountsUnsaid (Some (shadows agent)) old new = Rose old.counts.unsaid new.counts.unsaid
 CountsUnsaid (Some (rehearses positions)) old new =
-    Rose old.clock.unsaid new.clock.unsaid ⊎ CountsOwn positions unsaid (λ site. site.clock.unsaid)
-CountsUnsaid (Some (audits engine filters)) old new = Rose old.clock.unsaid new.clock.unsaid
+    Rose old.counts.unsaid new.counts.unsaid ⊎ CountsOwn positions unsaid (λ site. site.counts.unsaid)
+CountsUnsaid (Some (audits engine filters)) old new = Rose old.counts.unsaid new.counts.unsaid

@@ -6,8 +6,8 @@ use Rattle.memory_site.specs.declared.site.MemorySite.{MemorySite}
 use Rattle.cacao_check.specs.declared.breaks.Break.{Break}
 use Rattle.flow_core.specs.SetupReading.{BreaksRule}
 use Rattle.flow_rules.specs.Givens.{Given}
-use Rattle.flow_world.specs.declared.close.Close.{Close}
-use Rattle.flow_world.specs.declared.error.WorldError.{WorldError}
+use Rattle.flow_world_parts.specs.declared.close.Close.{Close}
+use Rattle.flow_world_parts.specs.declared.error.WorldError.{WorldError}
 use Rattle.rehearsal.specs.Books.{rehearsal_text}
 use Rattle.rehearsal.specs.Plans.{GoesByPlan}
 use Rattle.rehearsal.specs.Rehearsals.{ClosesOtherwise, FailsToCount, Refuses, RunsWell}

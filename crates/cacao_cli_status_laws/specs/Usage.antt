@@ -2,15 +2,15 @@
 use Rattle.std.proofs.Common.{inl, inr}
 use Rattle.std.specs.Prelude.{ℕ, zero, suc, ◌+◌, ◌*◌, ◌/◌, ◌≤◌, ◌⊎◌, IsTrue, List, [], ◌∷◌, ◌++◌, length, map, Option, Some, None}
 use Rattle.std.specs.Prelude.{IfSome, option_map, option_to_list}
-use Rattle.cacao_site.specs.View.{DiskView, SiteView}
+use Rattle.cacao_site.specs.View.{DiskView, SiteView, device_calls}
 use Rattle.run_records.specs.Layout.{act_layout, layout}
 use Rattle.run_records.specs.declared.act.Act.{Act}
 use Rattle.operator_answers.specs.declared.answers.OperatorAnswer.{OperatorAnswer}
 use Rattle.flow_rules.specs.Givens.{Given}
 use Rattle.flow_steps.specs.Sums.{total}
-use Rattle.flow_world.specs.Openings.{RefusesOpening}
+use Rattle.flow_world_parts.specs.Openings.{RefusesOpening}
 use Rattle.flow_world.specs.Sessions.{HasRefused, Went}
-use Rattle.flow_world.specs.declared.error.WorldError.{WorldError}
+use Rattle.flow_world_parts.specs.declared.error.WorldError.{WorldError}
 use Rattle.cacao_cli_ends.specs.Asked.{Asked, canonises, checks, runs, shows, lists_rules, decides, shadows, rehearses, audits}
 use Rattle.cacao_cli_ends.specs.Ends.{End}
 use Rattle.cacao_cli_session.specs.Holding.{ClosesSo, HoldsSession, RefusesSo}
@@ -34,8 +34,8 @@ entry_bytes entry = length entry + 6
 -- was appended and one for each line said, at most. Bytes: nine for each file, and six more than it has for each entry, at most.
 pub record IsFew (usage : Usage) (old new : SiteView) : Type 0 where
   pub calls : IsTrue old.disk.told → IfSome old.link.said (λ before. IfSome new.link.said (λ after.
-      new.disk.calls + length before
-      ≤ old.disk.calls + length after + 10 + 5 * length usage.opened + total blocks usage.opened + 4 * length usage.appended))
+      device_calls new + length before
+      ≤ device_calls old + length after + 10 + 5 * length usage.opened + total blocks usage.opened + 4 * length usage.appended))
   pub written : new.disk.written
       ≤ old.disk.written + 9 * length usage.opened + total entry_bytes usage.appended + total entry_bytes usage.failed
   pub one : length usage.failed ≤ 1

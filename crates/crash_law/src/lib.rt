@@ -3,6 +3,7 @@
 
 ghost use Rattle.std.specs.Prelude.{◌≡◌, ℕ, IfOk};
 ghost use Rattle.cacao_site.specs.DiskCalls.{IsDurable};
+ghost use Rattle.cacao_site.specs.View.{device_calls};
 ghost use Rattle.memory_site.specs.MemorySite.{view_of};
 ghost use Rattle.flow_laws.specs.Sessions.{IsRestart};
 
@@ -14,7 +15,7 @@ use std::alloc::AllocError;
 pub fn crash(site: MemorySite, choice: u64) -> Result<MemorySite, AllocError>
     ensures restart { IfOk result (λ left. IsRestart (view_of site) (view_of site).disk.beat (view_of left)) }
     ensures durable { IfOk result (λ left. (file : ℕ) → IsDurable file (view_of left).disk) }
-    ensures calls { IfOk result (λ left. (view_of left).disk.calls ≡ 0) }
+    ensures calls { IfOk result (λ left. device_calls (view_of left) ≡ 0) }
 {
     site.crash(choice)
 }

@@ -66,14 +66,15 @@ is_image file image =
     nat_le (length file.synced) (length image)
     && (nat_le (length image) file.longest && agrees file.touched file.synced image (length file.synced))
 
--- a disk that began at a beat with these contents
-abbrev pub disk_view : List (List ℕ) → List Call → ℕ → ℕ → ℕ → ℕ → DiskView
-disk_view starts log start calls written faults = record {
+-- a disk that began at a beat with these contents, after so many device calls and so many calls of it
+abbrev pub disk_view : List (List ℕ) → List Call → ℕ → ℕ → ℕ → ℕ → ℕ → DiskView
+disk_view starts log start made calls written faults = record {
   told = true;
   reads = λ file. (file_after starts log file).reads;
   left = λ file beat image. is_image (file_after starts (take (beat - start) log) file) image;
-  beat = count_after start calls;
+  beat = count_after start made;
   calls = calls;
   written = written;
   faults = faults;
+  label = [];
 }

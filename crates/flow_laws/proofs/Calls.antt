@@ -1,7 +1,7 @@
 -- From what a call says of the site to agreement at each of its beats.
 use Rattle.std.proofs.Common.{◌≡◌, ◌≢◌, ◌⊎◌, inl, inr, ℕ, suc, ◌≤◌, ◌<◌, nat_le, Bool, true, false, List, [], ◌∷◌, ◌++◌, refl, sym, ◌∙◌, subst, ap, IsTrue, arith, All, if◌then◌else◌}
 use Rattle.std.specs.Prelude.{Contains, Option, Some, None, IfSome}
-use Rattle.std.proofs.lemmas.Bool.{both_ways, cases_lt, lt-leb, le-leb}
+use Rattle.std.proofs.lemmas.Bool.{both_ways, cases_eq, cases_lt, lt-leb, le-leb}
 use Rattle.std.proofs.lemmas.List.{append-nil}
 use Rattle.std.proofs.lemmas.List.Elements.{filter-append, Contains-push_cases}
 use Rattle.cacao_site.specs.View.{SiteView}
@@ -15,13 +15,14 @@ use Rattle.run_records.specs.declared.record.Record.{Record}
 use Rattle.run_records.specs.declared.act.Act.{Act}
 use Rattle.flow_laws.specs.Acts.{HasReply, IsBytes}
 use Rattle.flow_laws.specs.Images.{up_to, told_list, puts_to, puts_of, WasSaid, IsRecords, IsActs, IsAgent, HasImage, AnyJournal, EachJournal, EachFilter, HasBegun}
-use Rattle.flow_laws.specs.Held.{Speech, IsLineOf, HasOpenSend}
+use Rattle.flow_laws.specs.Held.{Speech, IsLineOf, IsRunLine, HasOpenSend}
 use Rattle.flow_laws.specs.Beats.{OnlyChanges, Among, GainsRecord, IsFurther, IsFurtherAct}
 use Rattle.flow_laws.specs.Since.{Agreed, AgreedSince}
-use Rattle.flow_laws.specs.Fresh.{IsFresh}
+use Rattle.flow_laws.specs.Fresh.{IsFresh, IsUnused}
 use Rattle.flow_laws.specs.Journals.{run_of}
 use Rattle.flow_laws.specs.Sessions.{IsStart}
 use Rattle.flow_laws.proofs.Basics.{begun, same_entry}
+use Rattle.flow_laws.proofs.OneList.{same_acts}
 use Rattle.flow_laws.proofs.Shrink.{SamePuts, SamePast, images_shrink}
 use Rattle.flow_laws.proofs.Record.{record_is_gained}
 use Rattle.flow_laws.proofs.Act.{act_is_gained}
@@ -350,3 +351,93 @@ module _ (speech : Speech) (start old new : SiteView) (so_far : AgreedSince spee
         } in
         let kept = line_is_said speech (puts_of start) old old.disk.beat new beat line (record { only = only; stands = stands }) now.good now.held in
         record { good = kept.0; held = kept.1; fresh = λ run own fresh. fresh_shrinks old old.disk.beat new beat images (same_puts puts beat from) run (now.fresh run own fresh) })
+
+    -- a line was said that is of no record of this run
+    pub since_other_line : (bytes : List ℕ) → KeepsDisk old.disk new.disk → new.link.puts ≡ old.link.puts → Gains old.link.said (new.disk.beat, bytes) new.link.said
+        → AnyJournal old old.disk.beat (λ records. IsRunLine speech (run_of records) bytes → ⊥) → AgreedSince speech start new
+    since_other_line line keeps puts gained other = extend keeps.goes_on
+        (record {
+          puts = λ beat lt. ap (λ (l : Option (List (ℕ × Parcel))). up_to beat (told_list l)) puts;
+          said = λ beat lt. gained_before beat new.disk.beat old.link.said new.link.said line gained (omega (arith, lt, keeps.goes_on.later));
+        })
+        (λ beat from to.
+        let images : (file : ℕ) → file ≤ 16 → Among file old old.disk.beat new beat = λ file le image left. keeps_stay keeps file le beat image from to left in
+        let only : OnlyChanges speech None None None old old.disk.beat new beat = record {
+          past = keeps.goes_on.past 0;
+          images = λ file le elsewhere. images file le;
+          puts = same_puts puts beat from;
+          lines = λ image records left are bytes is_line said. elim (line_cases line keeps.goes_on.later gained beat from to bytes said) [
+            | inl is ↦ absurd (other image records (images 0 (omega arith) image left) are (subst (λ (l : List ℕ). IsRunLine speech (run_of records) l) is is_line))
+            | inr was ↦ inr was
+          ];
+        } in
+        let kept = images_shrink speech (puts_of start) old old.disk.beat new beat only now.good now.held in
+        record { good = kept.0; held = kept.1; fresh = λ run own fresh. fresh_shrinks old old.disk.beat new beat images (same_puts puts beat from) run (now.fresh run own fresh) })
+
+    -- a filter's file gained an act on a command that was put, or may have: no journal need have begun
+    pub since_act_put : (agent : ℕ) (acts : List Act) (act : Act) → IsAgent agent → OnlyFile agent old new (λ image. IsActs image acts ⊎ IsActs image (acts ++ act ∷ []))
+        → HasImage old agent old.disk.beat → ((image : List ℕ) → IsLeft old.disk agent old.disk.beat image → IsActs image acts) → IsFurtherAct old old.disk.beat agent acts act
+        → (at : ℕ) (parcel : Parcel) → Contains (puts_to old old.disk.beat) (at, parcel) → act.run ≡ parcel.run → AgreedSince speech start new
+    since_act_put agent acts act is only some before further at parcel put of = extend only.each.goes_on (same_link (ap (λ l. l.puts) only.rest.link) (ap (λ l. l.said) only.rest.link)) (λ beat from to.
+        let not_zero : 0 ≢ agent = λ e. absurd (omega (arith, e, is.0)) in
+        let kept = act_is_gained speech (puts_of start) old old.disk.beat new beat agent acts act (record {
+          is_agent = is;
+          only = only_file agent _ only beat from to;
+          some = some;
+          before = before;
+          now = λ image left. only.each.each so_far.told beat image from to left;
+          further = further;
+        }) now.good now.held in
+        record {
+          good = kept.0;
+          held = kept.1;
+          fresh = λ run own fresh. record {
+            unused = λ image left empty.
+                let was = (now.fresh run own fresh).unused image (other_stays agent 0 _ only not_zero beat from to image left) empty in
+                record {
+                  acts = λ a file those x is_one there are has. elim (cases_eq a agent) [
+                    | inl e ↦ by_agent run was file those x are has
+                        (only.each.each so_far.told beat file from to (subst (λ (n : ℕ). IsLeft new.disk n beat file) e there))
+                    | inr ne ↦ was.acts a file those x is_one (other_stays agent a _ only ne beat from to file there) are has
+                  ];
+                  puts = λ one it has. was.puts one it (subst (λ (l : List (ℕ × Parcel)). Contains l (one, it)) (same_puts (ap (λ l. l.puts) only.rest.link) beat from) has);
+                };
+          };
+        })
+      where
+        of_old : (run : ℕ) → IsUnused old run old.disk.beat → (x : Act) → Contains acts x → x.run ≢ run
+        of_old run was x has = was.acts agent some.image acts x is some.left (before some.image some.left) has
+
+        by_agent : (run : ℕ) → IsUnused old run old.disk.beat → (file : List ℕ) (those : List Act) (x : Act) → IsActs file those → Contains those x
+            → IsActs file acts ⊎ IsActs file (acts ++ act ∷ []) → x.run ≢ run
+        by_agent run was file those x are has (inl as_before) = of_old run was x (subst (λ (l : List Act). Contains l x) (same_acts file those acts are as_before) has)
+        by_agent run was file those x are has (inr as_now) = elim (Contains-push_cases acts act x (subst (λ (l : List Act). Contains l x) (same_acts file those (acts ++ act ∷ []) are as_now) has)) [
+          | inl old_one ↦ of_old run was x old_one
+          | inr same ↦ λ e. was.puts at parcel put (sym of ∙ (ap (λ (y : Act). y.run) same ∙ e))
+        ]
+
+    -- a reply was put, or lost: no journal need have begun
+    pub since_reply_put : (parcel : Parcel) (puts : Puts parcel old new) → parcel.back ≡ true → IsAgent parcel.agent
+        → EachFilter old old.disk.beat parcel.agent (λ acts. HasReply acts parcel.run parcel.issue (IsBytes parcel.bytes)) → HasImage old parcel.agent old.disk.beat → AgreedSince speech start new
+    since_reply_put parcel puts reply is acted some = extend puts.disk.disk.goes_on (put_link parcel puts) (λ beat from to. elim (put_cases parcel puts beat from to) [
+      | inl same ↦ put_quiet parcel puts beat from to same
+      | inr more ↦
+          let kept = reply_is_put speech (puts_of start) old old.disk.beat new beat parcel (record { only = put_only parcel puts beat from to more; back = reply; is_agent = is; acted = acted }) now.good now.held in
+          record {
+            good = kept.0;
+            held = kept.1;
+            fresh = λ run own fresh. record {
+              unused = λ image left empty.
+                  let was = (now.fresh run own fresh).unused image (put_images parcel puts beat from to 0 (omega arith) image left) empty in
+                  let there = acted some.image some.left in
+                  record {
+                    acts = λ a file those x is_one left_there are has. was.acts a file those x is_one (put_images parcel puts beat from to a is_one.1 file left_there) are has;
+                    puts = λ one it has. elim (Contains-push_cases (puts_to old old.disk.beat) (beat, parcel) (one, it) (subst (λ (l : List (ℕ × Parcel)). Contains l (one, it)) more has)) [
+                      | inl before ↦ was.puts one it before
+                      | inr e ↦ λ f. was.acts parcel.agent some.image there.acts there.so.act is some.left there.are there.so.has
+                          (there.so.of_run ∙ (ap (λ (p : Parcel). p.run) (same_entry e) ∙ f))
+                    ];
+                  };
+            };
+          }
+    ])

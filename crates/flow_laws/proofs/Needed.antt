@@ -21,9 +21,10 @@ use Rattle.flow_laws.proofs.Calls.{entry_now}
 -- a site at beat 0 with these images, where these parcels were put and these lines said
 abbrev pub site_of : (ℕ → ℕ → List ℕ → Bool) → List (ℕ × Parcel) → List (ℕ × List ℕ) → SiteView
 site_of left puts said = record {
-  disk = record { told = true; reads = λ file. []; left = left; beat = 0; calls = 0; written = 0; faults = 0 };
+  disk = record { told = true; reads = λ file. []; left = left; beat = 0; calls = 0; written = 0; faults = 0; label = [] };
   link = record { puts = Some puts; taken = Some []; empty_takes = Some []; pending = Some []; said = Some said };
-  clock = record { now = 0; asked = 0; furthest = 0; mishaps = 0; shorts = 0; unsaid = 0 };
+  clock = record { now = 0; asked = 0; furthest = 0; shorts = 0 };
+  counts = record { says = 0; unsaid = 0; mishaps = 0 };
 }
 
 abbrev pub is_short : List ℕ → Bool

@@ -56,7 +56,7 @@ replies_now h parcel now next is = ap moment_of is.is
 records_same : (old new : World) → new.engine ≡ old.engine → new.engine.history.records ≡ old.engine.history.records
 records_same old new e = ap (λ (v : EngineView). v.history.records) e
 
-adds_none : (old new : World) → new.engine.history.records ≡ old.engine.history.records → old.site.clock.now ≤ new.site.clock.now → new.notes.left ≡ old.notes.left → Adds old new
+pub adds_none : (old new : World) → new.engine.history.records ≡ old.engine.history.records → old.site.clock.now ≤ new.site.clock.now → new.notes.left ≡ old.notes.left → Adds old new
 adds_none old new same later left = record {
   added = [];
   is = same ∙ sym (append-nil old.engine.history.records);
@@ -102,6 +102,14 @@ acts_now : (old new : World) (beat : ℕ) (parcel : Parcel) (v w : ActuatorView)
 acts_now old new beat parcel v w is =
     same_now old.site new.site (is.acts.puts.time.now ∙ ap (λ (c : ClockView). c.now) is.acts.offers.adds.file.rest.clock)
 
+-- a filter that refused counted nothing on the site
+pub fails_counts : (v : ActuatorView) (parcel : Parcel) (moment : ℕ) (old new : SiteView) (error : ActError) → MayHaveDone error v parcel moment old new → new.counts ≡ old.counts
+fails_counts v parcel moment old new act_error.Disk offers = offers.adds.file.rest.counts
+fails_counts v parcel moment old new act_error.Memory may = elim may [ inl e ↦ ap (λ (s : SiteView). s.counts) e | inr offers ↦ offers.adds.file.rest.counts ]
+fails_counts v parcel moment old new (act_error.Damaged place) e = ap (λ (s : SiteView). s.counts) e
+fails_counts v parcel moment old new (act_error.Full length) e = ap (λ (s : SiteView). s.counts) e
+fails_counts v parcel moment old new act_error.Broken e = ap (λ (s : SiteView). s.counts) e
+
 pub fails_clock : (v : ActuatorView) (parcel : Parcel) (moment : ℕ) (old new : SiteView) (error : ActError) → MayHaveDone error v parcel moment old new → new.clock ≡ old.clock
 fails_clock v parcel moment old new act_error.Disk offers = offers.adds.file.rest.clock
 fails_clock v parcel moment old new act_error.Memory may = elim may [ inl e ↦ ap (λ (s : SiteView). s.clock) e | inr offers ↦ offers.adds.file.rest.clock ]
@@ -109,7 +117,7 @@ fails_clock v parcel moment old new (act_error.Damaged place) e = ap (λ (s : Si
 fails_clock v parcel moment old new (act_error.Full length) e = ap (λ (s : SiteView). s.clock) e
 fails_clock v parcel moment old new act_error.Broken e = ap (λ (s : SiteView). s.clock) e
 
-step_adds : (old new : World) → Step old new → Adds old new
+pub step_adds : (old new : World) → Step old new → Adds old new
 step_adds old new (opens_clock answer is) = adds_none old new (records_same old new is.goes.sides.engine) (omega (arith, is.goes.reaches.later, is.goes.reaches.now)) (ap (λ (n : Notes). n.left) is.goes.notes)
 step_adds old new (finds_run_used agent is) = adds_none old new (records_same old new is.only.sides.engine) (now_of old.site new.site is.only.site) (left_of old new is.only.notes)
 step_adds old new (asks_clock moment answer is) = adds_none old new (records_same old new is.goes.sides.engine) (omega (arith, is.goes.reaches.later, is.goes.reaches.now)) (ap (λ (n : Notes). n.left) is.goes.notes)
@@ -172,7 +180,7 @@ given_tried IsNext old new (limited what is) = record {
   answers = ap (λ (n : Notes). n.answers) is.notes;
 }
 
-given_same : (old new : World) → new.engine.history.seen ≡ old.engine.history.seen → new.notes.answers ≡ old.notes.answers → SameGiven old new
+pub given_same : (old new : World) → new.engine.history.seen ≡ old.engine.history.seen → new.notes.answers ≡ old.notes.answers → SameGiven old new
 given_same old new e answers = record { run = ap (λ (s : Shown). s.run) e; given = ap (λ (s : Shown). s.given) e; answers = answers }
 
 seen_of : (v w : EngineView) → w ≡ v → w.history.seen ≡ v.history.seen
@@ -181,7 +189,7 @@ seen_of v w e = ap (λ (x : EngineView). x.history.seen) e
 answers_of : (old new : World) → new.notes ≡ old.notes → new.notes.answers ≡ old.notes.answers
 answers_of old new e = ap (λ (n : Notes). n.answers) e
 
-step_given : (old new : World) → Step old new → SameGiven old new
+pub step_given : (old new : World) → Step old new → SameGiven old new
 step_given old new (opens_clock answer is) = given_same old new (seen_of old.engine new.engine is.goes.sides.engine) (ap (λ (n : Notes). n.answers) is.goes.notes)
 step_given old new (finds_run_used agent is) = given_same old new (seen_of old.engine new.engine is.only.sides.engine) (ap (λ (n : Notes). n.answers) is.only.notes)
 step_given old new (asks_clock moment answer is) = given_same old new (seen_of old.engine new.engine is.goes.sides.engine) (ap (λ (n : Notes). n.answers) is.goes.notes)
@@ -206,9 +214,9 @@ step_given old new (repeats_reply beat parcel v w is) = given_same old new (seen
 step_given old new (fails_to_act beat parcel v w error cause is) = given_same old new (seen_of old.engine new.engine is.engine) (ap (λ (n : Notes). n.answers) (fails_notes error parcel v old new is.notes))
 step_given old new (wants_memory_now is) = given_same old new (seen_of old.engine new.engine is.only.sides.engine) (ap (λ (n : Notes). n.answers) is.only.notes)
 
+pub given-trans : (a b c : World) → SameGiven a b → SameGiven b c → SameGiven a c
+given-trans a b c p q = record { run = q.run ∙ p.run; given = q.given ∙ p.given; answers = q.answers ∙ p.answers }
+
 pub steps_same_given : EachSameGiven
 steps_same_given a b nothing = record { run = refl; given = refl; answers = refl }
-steps_same_given a b (and_then {mid} steps step) =
-    let p = steps_same_given a mid steps in
-    let q = step_given mid b step in
-    record { run = q.run ∙ p.run; given = q.given ∙ p.given; answers = q.answers ∙ p.answers }
+steps_same_given a b (and_then {mid} steps step) = given-trans a mid b (steps_same_given a mid steps) (step_given mid b step)

@@ -84,7 +84,7 @@ tries_kept start old new IsNext offered (done is) kept = kept_with start new (of
 tries_kept start old new IsNext offered (failed is) kept = kept_with start new (offered is.refuses.0.0) (empty_refused new.phase _ false is.phase)
 tries_kept start old new IsNext offered (limited what is) kept = same_site start old new is.refuses.0.2 (empty_refused new.phase _ false is.phase) kept
 
-step_kept : (start : SiteView) (old new : World) → IsFresh start old.engine.history.seen.run start.disk.beat → Step old new → HasKept start old → HasKept start new
+pub step_kept : (start : SiteView) (old new : World) → IsFresh start old.engine.history.seen.run start.disk.beat → Step old new → HasKept start old → HasKept start new
 step_kept start old new fresh (opens_clock answer is) kept = goes_towards start old new _ answer is.goes kept
 step_kept start old new fresh (finds_run_used agent is) kept = only_refuses start old new _ false is.only kept
 step_kept start old new fresh (asks_clock moment answer is) kept = goes_towards start old new moment answer is.goes kept

@@ -114,7 +114,7 @@ asks_next a old new moment steps step asks next in_time is = elim (cases_lt old.
   | inr within ↦ still a old new steps step asks (omega (arith, is, within))
 ]
 
-step_asks : (a old new : World) → Steps a old → AsksOnly a old → Step old new → AsksOnly a new
+pub step_asks : (a old new : World) → Steps a old → AsksOnly a old → Step old new → AsksOnly a new
 step_asks a old new steps asks (opens_clock answer is) = opens_first a old new answer steps is.phase (opens_clock answer is) is.goes.reaches.furthest
 step_asks a old new steps asks (finds_run_used agent is) = still a old new steps (finds_run_used agent is) asks (furthest_of old.site new.site is.only.site)
 step_asks a old new steps asks (asks_clock moment answer is) = asks_next a old new moment steps (asks_clock moment answer is) asks is.next is.in_time is.goes.reaches.furthest
@@ -156,7 +156,7 @@ tried_ignored IsNext old new (limited what is) = ap (λ (n : Notes). n.ignored) 
 one_more : (old new : World) → old.notes.ignored < most_ignored → new.notes ≡ record old.notes { ignored = old.notes.ignored + 1 } → new.notes.ignored ≤ most_ignored
 one_more old new calm e = let is : new.notes.ignored ≡ old.notes.ignored + 1 = ap (λ (n : Notes). n.ignored) e in omega (arith, is, calm)
 
-step_ignores : (old new : World) → old.notes.ignored ≤ most_ignored → Step old new → new.notes.ignored ≤ most_ignored
+pub step_ignores : (old new : World) → old.notes.ignored ≤ most_ignored → Step old new → new.notes.ignored ≤ most_ignored
 step_ignores old new few (opens_clock answer is) = same_ignored old new (ap (λ (n : Notes). n.ignored) is.goes.notes) few
 step_ignores old new few (finds_run_used agent is) = same_ignored old new (ap (λ (n : Notes). n.ignored) is.only.notes) few
 step_ignores old new few (asks_clock moment answer is) = same_ignored old new (ap (λ (n : Notes). n.ignored) is.goes.notes) few

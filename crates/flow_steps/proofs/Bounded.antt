@@ -29,7 +29,7 @@ use Rattle.flow_engine.specs.EngineView.{EngineView}
 use Rattle.flow_engine.specs.OpenIssues.{ArePut, OpenIssues}
 use Rattle.flow_engine.specs.declared.puts.Puts.{Puts}
 use Rattle.slpf_actuator.specs.ActuatorView.{ActuatorView}
-use Rattle.flow_steps.specs.Sides.{AreFilters}
+use Rattle.flow_steps.specs.Sides.{FiltersReady}
 use Rattle.flow_steps.specs.Spent.{all_acts, all_counts, most_acts, most_records, most_spent}
 use Rattle.flow_steps.specs.Turns.{most_ignored}
 use Rattle.flow_steps.proofs.AllPuts.{first_quiet}
@@ -167,14 +167,14 @@ acts_each (v ∷ filters) each =
     let first = each 0 v refl in
     omega (arith, rest, first)
 
-pub acts_few : (filters : List ActuatorView) (site : SiteView) → AreFilters filters site → all_acts filters ≤ most_acts * 16
+pub acts_few : (filters : List ActuatorView) (site : SiteView) → FiltersReady filters site → all_acts filters ≤ most_acts * 16
 acts_few filters site are =
     let each = acts_each filters (λ k v there. (are.each k v there).ready.history.few) in
-    omega (arith, each, are.all)
+    omega (arith, each, are.few)
 
 -- ---- all
 
-pub spent_few : (v : EngineView) (filters : List ActuatorView) (site : SiteView) (ignored now : ℕ) → IsHistory v.history → ArePut v.history.seen v.puts → AreFilters filters site
+pub spent_few : (v : EngineView) (filters : List ActuatorView) (site : SiteView) (ignored now : ℕ) → IsHistory v.history → ArePut v.history.seen v.puts → FiltersReady filters site
     → ignored ≤ most_ignored → now ≤ last_moment → 10 * length v.history.records + all_counts v.puts + all_acts filters + ignored + now ≤ most_spent
 spent_few v filters site ignored now history are filters_are few within =
     omega (arith, records_few v.history history, issues_few v.history history, puts_few v.history.seen v.puts are, counts_few v.history.seen v.puts are, acts_few filters site filters_are, few, within)

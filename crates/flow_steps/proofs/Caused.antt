@@ -4,7 +4,7 @@ use Rattle.std.specs.Prelude.{Any, Option, Some, None, count_by, length, nat_lt,
 use Rattle.std.specs.List.{list_any}
 use Rattle.std.specs.Option.{option_map_or, option_or}
 use Rattle.cacao_site.specs.Counts.{Rose}
-use Rattle.cacao_site.specs.View.{ClockView, SiteView}
+use Rattle.cacao_site.specs.View.{CountsView, SiteView}
 use Rattle.cacao_site.specs.declared.parcel.Parcel.{Parcel}
 use Rattle.run_records.specs.Ranges.{last_moment}
 use Rattle.run_records.specs.declared.act.Act.{Act}
@@ -31,7 +31,7 @@ use Rattle.flow_steps.specs.Steps.Step.{opens_clock, finds_run_used, asks_clock,
 use Rattle.flow_steps.specs.Steps.Step.{puts_first, resends, takes, finds_none, fails_to_take, drops, replies, ignores_reply, acts_on, repeats_reply, fails_to_act, wants_memory_now}
 use Rattle.flow_steps.specs.Steps.Steps.{nothing, and_then}
 use Rattle.flow_steps.specs.Worlds.{Cause, Notes, Phase, World, opened, rests, looked, owes, holds, waits, refused, disk_failed, not_said, run_used, past, wants_memory}
-use Rattle.flow_steps.proofs.Adding.{fails_clock}
+use Rattle.flow_steps.proofs.Adding.{fails_counts}
 use Rattle.flow_steps.proofs.Handling.{get_set_same}
 use Rattle.flow_steps.proofs.Resent.{step_asked}
 
@@ -40,26 +40,26 @@ use Rattle.flow_steps.proofs.Resent.{step_asked}
 -- the counts after a step
 record Counted (old new : World) : Type 0 where
   pub faults : old.site.disk.faults ≤ new.site.disk.faults
-  pub unsaid : old.site.clock.unsaid ≤ new.site.clock.unsaid
+  pub unsaid : old.site.counts.unsaid ≤ new.site.counts.unsaid
 
-of_clock : (old new : SiteView) → new.clock ≡ old.clock → old.clock.unsaid ≤ new.clock.unsaid
-of_clock old new e = let same = ap (λ (c : ClockView). c.unsaid) e in omega (arith, same)
+of_counts : (old new : SiteView) → new.counts ≡ old.counts → old.counts.unsaid ≤ new.counts.unsaid
+of_counts old new e = let same = ap (λ (c : CountsView). c.unsaid) e in omega (arith, same)
 
-of_unsaid : (old new : SiteView) → new.clock.unsaid ≡ old.clock.unsaid → old.clock.unsaid ≤ new.clock.unsaid
+of_unsaid : (old new : SiteView) → new.counts.unsaid ≡ old.counts.unsaid → old.counts.unsaid ≤ new.counts.unsaid
 of_unsaid old new e = omega (arith, e)
 
 of_site : (old new : World) → new.site ≡ old.site → Counted old new
 of_site old new e = record {
   faults = let same = ap (λ (s : SiteView). s.disk.faults) e in omega (arith, same);
-  unsaid = of_clock old.site new.site (ap (λ (s : SiteView). s.clock) e);
+  unsaid = of_counts old.site new.site (ap (λ (s : SiteView). s.counts) e);
 }
 
 tried_counts : (IsNext : Record → Type 0) (old new : World) → Tries IsNext old new → Counted old new
 tried_counts IsNext old new (done is) = record {
   faults = is.appends.adds.offers.file.each.goes_on.faults;
-  unsaid = of_clock old.site new.site is.appends.adds.offers.file.rest.clock;
+  unsaid = of_counts old.site new.site is.appends.adds.offers.file.rest.counts;
 }
-tried_counts IsNext old new (failed is) = record { faults = is.refuses.0.0.file.each.goes_on.faults; unsaid = of_clock old.site new.site is.refuses.0.0.file.rest.clock }
+tried_counts IsNext old new (failed is) = record { faults = is.refuses.0.0.file.each.goes_on.faults; unsaid = of_counts old.site new.site is.refuses.0.0.file.rest.counts }
 tried_counts IsNext old new (limited what is) = of_site old new is.refuses.0.2
 
 fails_faults : (v : ActuatorView) (parcel : Parcel) (moment : ℕ) (old new : SiteView) (error : ActError) → MayHaveDone error v parcel moment old new → old.disk.faults ≤ new.disk.faults
@@ -82,22 +82,22 @@ step_counts old new (tells issue told is) = tried_counts _ old new is.tries
 step_counts old new (expires issue is) = tried_counts _ old new is.tries
 step_counts old new (says bytes is) = record { faults = is.speaks.only.disk.goes_on.faults; unsaid = is.speaks.only.unsaid }
 step_counts old new (fails_to_say bytes is) = record { faults = is.speaks.only.disk.goes_on.faults; unsaid = is.speaks.only.unsaid }
-step_counts old new (puts_first issue is) = record { faults = is.puts.sends.put.disk.disk.goes_on.faults; unsaid = of_unsaid old.site new.site is.puts.sends.put.time.unsaid }
-step_counts old new (resends issue is) = record { faults = is.puts.sends.put.disk.disk.goes_on.faults; unsaid = of_unsaid old.site new.site is.puts.sends.put.time.unsaid }
-step_counts old new (takes parcel is) = record { faults = is.only.disk.disk.goes_on.faults; unsaid = of_unsaid old.site new.site is.only.time.unsaid }
-step_counts old new (finds_none is) = record { faults = is.only.disk.disk.goes_on.faults; unsaid = of_unsaid old.site new.site is.only.time.unsaid }
-step_counts old new (fails_to_take is) = record { faults = is.only.disk.disk.goes_on.faults; unsaid = of_unsaid old.site new.site is.only.time.unsaid }
+step_counts old new (puts_first issue is) = record { faults = is.puts.sends.put.disk.disk.goes_on.faults; unsaid = of_unsaid old.site new.site is.puts.sends.put.unsaid }
+step_counts old new (resends issue is) = record { faults = is.puts.sends.put.disk.disk.goes_on.faults; unsaid = of_unsaid old.site new.site is.puts.sends.put.unsaid }
+step_counts old new (takes parcel is) = record { faults = is.only.disk.disk.goes_on.faults; unsaid = of_unsaid old.site new.site is.only.unsaid }
+step_counts old new (finds_none is) = record { faults = is.only.disk.disk.goes_on.faults; unsaid = of_unsaid old.site new.site is.only.unsaid }
+step_counts old new (fails_to_take is) = record { faults = is.only.disk.disk.goes_on.faults; unsaid = of_unsaid old.site new.site is.only.unsaid }
 step_counts old new (drops beat parcel is) = of_site old new is.site
 step_counts old new (replies beat parcel is) = tried_counts _ old new is.tries
 step_counts old new (ignores_reply beat parcel is) = of_site old new is.site
 step_counts old new (acts_on beat parcel v w is) = record {
   faults = let one = is.acts.offers.adds.file.each.goes_on.faults in let two = is.acts.puts.disk.disk.goes_on.faults in omega (arith, one, two);
-  unsaid = let one = of_clock old.site is.acts.between is.acts.offers.adds.file.rest.clock in let two = is.acts.puts.time.unsaid in omega (arith, one, two);
+  unsaid = let one = of_counts old.site is.acts.between is.acts.offers.adds.file.rest.counts in let two = is.acts.puts.unsaid in omega (arith, one, two);
 }
-step_counts old new (repeats_reply beat parcel v w is) = record { faults = is.repeats.puts.disk.disk.goes_on.faults; unsaid = of_unsaid old.site new.site is.repeats.puts.time.unsaid }
+step_counts old new (repeats_reply beat parcel v w is) = record { faults = is.repeats.puts.disk.disk.goes_on.faults; unsaid = of_unsaid old.site new.site is.repeats.puts.unsaid }
 step_counts old new (fails_to_act beat parcel v w error cause is) = record {
   faults = fails_faults v parcel old.site.clock.now old.site new.site error is.refuses.site;
-  unsaid = of_clock old.site new.site (fails_clock v parcel old.site.clock.now old.site new.site error is.refuses.site);
+  unsaid = of_counts old.site new.site (fails_counts v parcel old.site.clock.now old.site new.site error is.refuses.site);
 }
 step_counts old new (wants_memory_now is) = of_site old new is.only.site
 
@@ -252,7 +252,7 @@ rose_later : (a b c : ℕ) → a ≤ b → Rose b c → Rose a c
 rose_later a b c le is = omega (arith, le, is)
 
 -- what a step shows from the start of that step, it shows from an earlier world
-shows_from : (p : Phase) (a mid b : World) → a.phase ≡ opened → Steps a mid → Step mid b → b.phase ≡ p → a.site.disk.faults ≤ mid.site.disk.faults → a.site.clock.unsaid ≤ mid.site.clock.unsaid → ShowsStep p mid b → Shows p a b
+shows_from : (p : Phase) (a mid b : World) → a.phase ≡ opened → Steps a mid → Step mid b → b.phase ≡ p → a.site.disk.faults ≤ mid.site.disk.faults → a.site.counts.unsaid ≤ mid.site.counts.unsaid → ShowsStep p mid b → Shows p a b
 shows_from opened a mid b at steps step is_phase faults unsaid is = tt
 shows_from rests a mid b at steps step is_phase faults unsaid is = tt
 shows_from looked a mid b at steps step is_phase faults unsaid is = tt
@@ -260,7 +260,7 @@ shows_from owes a mid b at steps step is_phase faults unsaid is = tt
 shows_from (holds beat parcel) a mid b at steps step is_phase faults unsaid is = tt
 shows_from (waits due_) a mid b at steps step is_phase faults unsaid is = record { asked = is.asked; own = is.own; short = is.short; why = step_asked a mid b due_ at steps step is_phase }
 shows_from (refused disk_failed lacks) a mid b at steps step is_phase faults unsaid is = rose_later a.site.disk.faults mid.site.disk.faults b.site.disk.faults faults is
-shows_from (refused not_said lacks) a mid b at steps step is_phase faults unsaid is = (rose_later a.site.clock.unsaid mid.site.clock.unsaid b.site.clock.unsaid unsaid is.0, is.1)
+shows_from (refused not_said lacks) a mid b at steps step is_phase faults unsaid is = (rose_later a.site.counts.unsaid mid.site.counts.unsaid b.site.counts.unsaid unsaid is.0, is.1)
 shows_from (refused (run_used agent) lacks) a mid b at steps step is_phase faults unsaid is = is
 shows_from (refused (past limit.Moment) lacks) a mid b at steps step is_phase faults unsaid is = is
 shows_from (refused (past limit.Journal) lacks) a mid b at steps step is_phase faults unsaid is = is

@@ -32,7 +32,7 @@ use Rattle.flow_steps.specs.Steps.{Expires, Step, Steps}
 use Rattle.flow_steps.specs.Steps.Step.{opens_clock, finds_run_used, asks_clock, finds_late, begins, moves, upgrades, tells, expires, says, fails_to_say}
 use Rattle.flow_steps.specs.Steps.Step.{puts_first, resends, takes, finds_none, fails_to_take, drops, replies, ignores_reply, acts_on, repeats_reply, fails_to_act, wants_memory_now}
 use Rattle.flow_steps.specs.Steps.Steps.{nothing, and_then}
-use Rattle.flow_steps.specs.Worlds.{Notes, Phase, World, opened, looked}
+use Rattle.flow_steps.specs.Worlds.{HasAllFilters, Notes, Phase, World, opened, looked}
 use Rattle.flow_steps.proofs.Adding.{of_option}
 use Rattle.flow_steps.proofs.Came.{same_last, steps_came}
 use Rattle.flow_steps.proofs.Failing.{fails_notes}
@@ -56,7 +56,7 @@ tried_told IsNext old new (done is) told = link_same old.site new.site is.append
 tried_told IsNext old new (failed is) told = link_same old.site new.site is.refuses.0.0.file.rest.link told
 tried_told IsNext old new (limited what is) told = site_same old.site new.site is.refuses.0.2 told
 
-step_told : (old new : World) → Step old new → IsSome old.site.link.pending → IsSome new.site.link.pending
+pub step_told : (old new : World) → Step old new → IsSome old.site.link.pending → IsSome new.site.link.pending
 step_told old new (opens_clock answer is) told = some_more old.site.link.pending new.site.link.pending _ is.goes.reaches.pending.1 told
 step_told old new (finds_run_used agent is) told = site_same old.site new.site is.only.site told
 step_told old new (asks_clock moment answer is) told = some_more old.site.link.pending new.site.link.pending _ is.goes.reaches.pending.1 told
@@ -82,7 +82,7 @@ step_told old new (repeats_reply beat parcel v w is) told = some_more old.site.l
 step_told old new (fails_to_act beat parcel v w error cause is) told = link_same old.site new.site (fails_said v parcel old.site.clock.now old.site new.site error is.refuses.site) told
 step_told old new (wants_memory_now is) told = site_same old.site new.site is.only.site told
 
-steps_told : (a b : World) → Steps a b → IsSome a.site.link.pending → IsSome b.site.link.pending
+pub steps_told : (a b : World) → Steps a b → IsSome a.site.link.pending → IsSome b.site.link.pending
 steps_told a b nothing told = told
 steps_told a b (and_then {mid} steps step) told = step_told mid b step (steps_told a mid steps told)
 
@@ -180,10 +180,10 @@ step_unsure_so old new r (repeats_reply beat parcel v w is) none has = none_unsu
 step_unsure_so old new r (fails_to_act beat parcel v w error cause is) none has = none_unsure old new r (ap (λ (n : Notes). n.unsure) (fails_notes error parcel v old new is.notes)) none has
 step_unsure_so old new r (wants_memory_now is) none has = none_unsure old new r (ap (λ (n : Notes). n.unsure) is.only.notes) none has
 
-none_expires : (a b : World) → a.phase ≡ opened → a.engine.puts ≡ [] → IsSome a.site.link.pending → DidNotRise a.site.clock.mishaps b.site.clock.mishaps → Steps a b
+none_expires : (a b : World) → HasAllFilters a → a.phase ≡ opened → a.engine.puts ≡ [] → IsSome a.site.link.pending → DidNotRise a.site.counts.mishaps b.site.counts.mishaps → Steps a b
     → (front back : List Record) (r : Record) → b.engine.history.records ≡ (a.engine.history.records ++ front) ++ r ∷ back → IsNoExpire r
 unfolding AppendsSo
-none_expires a b at none told still_ steps front back r is =
+none_expires a b all at none told still_ steps front back r is =
     let came = steps_came a b steps front back r is in
     elim (step_so came.old came.new r came.step came.has) [
       | inl so ↦ so
@@ -191,17 +191,17 @@ none_expires a b at none told still_ steps front back r is =
           let first = (steps_put_or_lose a came.old came.before).later in
           let one = (steps_put_or_lose came.old came.new (and_then nothing came.step)).later in
           let last = (steps_put_or_lose came.new b came.after).later in
-          let same : came.old.site.clock.mishaps ≡ a.site.clock.mishaps = omega (arith, first, one, last, still_.0) in
-          absurd (no_expiry a came.old came.new none (not_looked a.phase at) (same, still_.1) came.before (steps_told a came.old came.before told) bad.0 bad.1)
+          let same : came.old.site.counts.mishaps ≡ a.site.counts.mishaps = omega (arith, first, one, last, still_.0) in
+          absurd (no_expiry a came.old came.new all none (not_looked a.phase at) (same, still_.1) came.before (steps_told a came.old came.before told) bad.0 bad.1)
     ]
   where
     not_looked : (p : Phase) → p ≡ opened → p ≢ looked
     not_looked p e f = let g : opened ≡ looked = sym e ∙ f in absurd (cc)
 
-no_unsure_expiry : (a b : World) → a.phase ≡ opened → a.engine.puts ≡ [] → IsSome a.site.link.pending → DidNotRise a.site.clock.mishaps b.site.clock.mishaps → Steps a b
+no_unsure_expiry : (a b : World) → HasAllFilters a → a.phase ≡ opened → a.engine.puts ≡ [] → IsSome a.site.link.pending → DidNotRise a.site.counts.mishaps b.site.counts.mishaps → Steps a b
     → a.notes.unsure ≡ None → IfSome b.notes.unsure IsNoExpire
 unfolding AppendsSo
-no_unsure_expiry a b at none told still_ steps sure = by b.notes.unsure refl
+no_unsure_expiry a b all at none told still_ steps sure = by b.notes.unsure refl
   where
     not_looked : (p : Phase) → p ≡ opened → p ≢ looked
     not_looked p e f = let g : opened ≡ looked = sym e ∙ f in absurd (cc)
@@ -212,10 +212,10 @@ no_unsure_expiry a b at none told still_ steps sure = by b.notes.unsure refl
         let last = steps_unsure a b r sure steps e in
         let first = (steps_put_or_lose a last.old last.before).later in
         let one = (steps_put_or_lose last.old b (and_then nothing last.step)).later in
-        let same : last.old.site.clock.mishaps ≡ a.site.clock.mishaps = omega (arith, first, one, still_.0) in
+        let same : last.old.site.counts.mishaps ≡ a.site.counts.mishaps = omega (arith, first, one, still_.0) in
         elim (step_unsure_so last.old b r last.step last.was last.has) [
           | inl so ↦ so
-          | inr bad ↦ absurd (no_expiry a last.old b none (not_looked a.phase at) (same, still_.1) last.before (steps_told a last.old last.before told) bad.0 bad.1)
+          | inr bad ↦ absurd (no_expiry a last.old b all none (not_looked a.phase at) (same, still_.1) last.before (steps_told a last.old last.before told) bad.0 bad.1)
         ]
 
 -- ---- where a run has ended each issue has its end
@@ -259,9 +259,9 @@ is_over h n it history ended there = by h.records history.so_far
         record { has = has; over = has.ended (over.issues n it there) }
 
 pub steps_complete : EachComplete
-steps_complete a b at none stands told still_ steps = record {
-  none_expires = none_expires a b at none told still_ steps;
-  none_unsure = no_unsure_expiry a b at none told still_ steps;
+steps_complete a b all at none stands told still_ steps = record {
+  none_expires = none_expires a b all at none told still_ steps;
+  none_unsure = no_unsure_expiry a b all at none told still_ steps;
   has_end = λ empty ended n it there.
       let is = is_over b.engine.history n it (steps_ready a b stands steps).engine.history ended there in
       record {
@@ -275,4 +275,4 @@ steps_complete a b at none stands told still_ steps = record {
     no_expire : a.engine.history.records ≡ [] → (r : Record) → Contains b.engine.history.records r → IsNoExpire r
     no_expire empty r has =
         let parts = contains_split b.engine.history.records r has in
-        none_expires a b at none told still_ steps parts.0 parts.1 r (parts.2 ∙ ap (λ (l : List Record). (l ++ parts.0) ++ r ∷ parts.1) (sym empty))
+        none_expires a b all at none told still_ steps parts.0 parts.1 r (parts.2 ∙ ap (λ (l : List Record). (l ++ parts.0) ++ r ∷ parts.1) (sym empty))

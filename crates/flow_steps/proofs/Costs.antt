@@ -2,7 +2,8 @@
 use Rattle.std.proofs.Common.{◌≡◌, inl, inr, ℕ, zero, suc, ◌+◌, ◌-◌, ◌≤◌, Bool, true, false, List, [], ◌∷◌, length, refl, sym, ◌∙◌, subst, ap, arith}
 use Rattle.std.specs.Prelude.{Some, slice_get, slice_set, nat_lt, if◌then◌else◌}
 use Rattle.std.proofs.lemmas.List.{length-append}
-use Rattle.cacao_site.specs.View.{SiteView}
+use Rattle.cacao_site.specs.SiteCalls.{LeavesDisk}
+use Rattle.cacao_site.specs.View.{CountsView, SiteView, device_calls}
 use Rattle.cacao_site.specs.declared.parcel.Parcel.{Parcel}
 use Rattle.run_journal.specs.Durable.{header_calls}
 use Rattle.run_records.specs.Ranges.{last_moment}
@@ -98,7 +99,7 @@ headers_same old new e f = ap (λ (v : EngineView). header_calls v.history.prepa
 -- no entry was appended
 none : (old new : World) (owed owed' over : ℕ) → IsLike old.phase (headers old) (headers old) owed 0 → if_going new.phase (headers new) ≤ headers old → owed_lines new.phase ≡ owed' → over ≡ slack new.phase
     → length new.engine.history.records ≡ length old.engine.history.records → length new.notes.acted ≡ length old.notes.acted
-    → new.site.disk.calls + owed' ≤ old.site.disk.calls + owed + over → Costs old new
+    → device_calls new.site + owed' ≤ device_calls old.site + owed + over → Costs old new
 none old new owed owed' over was left is slack_is records acted calls =
     record { calls = omega (arith, was.left_is, was.owed_is, left, is, slack_is, records, acted, calls) }
 
@@ -108,18 +109,26 @@ long_of v w e = ap (λ (x : EngineView). length x.history.records) e
 acted_of : (old new : World) → new.notes ≡ old.notes → length new.notes.acted ≡ length old.notes.acted
 acted_of old new e = ap (λ (n : Notes). length n.acted) e
 
-calls_same : (old new : SiteView) → new ≡ old → new.disk.calls ≡ old.disk.calls
-calls_same old new e = ap (λ (s : SiteView). s.disk.calls) e
+calls_same : (old new : SiteView) → new ≡ old → device_calls new ≡ device_calls old
+calls_same old new e = ap device_calls e
+
+-- nothing was said
+says_same : (old new : SiteView) → new.counts ≡ old.counts → new.counts.says ≡ old.counts.says
+says_same old new e = ap (λ (c : CountsView). c.says) e
+
+-- no device call was made
+leaves_calls : (old new : SiteView) → LeavesDisk old new → device_calls new ≡ device_calls old
+leaves_calls old new leaves = omega (arith, leaves.calls, leaves.says)
 
 refused_none : (old new : World) (owed : ℕ) (cause : Cause) (lacks : Bool) → IsLike old.phase (headers old) (headers old) owed 0 → new.phase ≡ refused cause lacks → one_if lacks ≡ owed
     → length new.engine.history.records ≡ length old.engine.history.records → length new.notes.acted ≡ length old.notes.acted
-    → new.site.disk.calls ≤ old.site.disk.calls + 5 → Costs old new
+    → device_calls new.site ≤ device_calls old.site + 5 → Costs old new
 refused_none old new owed cause lacks was phase lack records acted calls =
     let is = like_refused new.phase (headers new) cause lacks phase in
     none old new owed (one_if lacks) 5 was (omega (arith, is.left_is)) is.owed_is (sym is.over_is) records acted (omega (arith, calls, lack))
 
 going_none : (old new : World) → IsLike old.phase (headers old) (headers old) 0 0 → IsLike new.phase (headers new) (headers new) 0 0 → headers new ≡ headers old
-    → length new.engine.history.records ≡ length old.engine.history.records → length new.notes.acted ≡ length old.notes.acted → new.site.disk.calls ≡ old.site.disk.calls → Costs old new
+    → length new.engine.history.records ≡ length old.engine.history.records → length new.notes.acted ≡ length old.notes.acted → device_calls new.site ≡ device_calls old.site → Costs old new
 going_none old new was is same records acted calls =
     none old new 0 0 0 was (omega (arith, is.left_is, same)) is.owed_is (sym is.over_is) records acted (omega (arith, calls))
 
@@ -132,12 +141,12 @@ tried IsNext old new was (done is) =
     let records : length new.engine.history.records ≡ length old.engine.history.records + 1 =
     ap (λ (h : HistoryView). length h.records) is.appends.adds.view ∙ length-append old.engine.history.records (offers.comes.next ∷ []) in
     let acted : length new.notes.acted ≡ length old.notes.acted = ap (λ (n : Notes). length n.acted) is.notes in
-    record { calls = omega (arith, was.left_is, was.owed_is, now.left_is, now.owed_is, now.over_is, prepared, filters, records, acted, offers.calls) }
+    record { calls = omega (arith, was.left_is, was.owed_is, now.left_is, now.owed_is, now.over_is, prepared, filters, records, acted, offers.calls, says_same old.site new.site offers.file.rest.counts) }
 tried IsNext old new was (failed is) =
     let now = like_refused new.phase (headers new) _ false is.phase in
     let records : length new.engine.history.records ≡ length old.engine.history.records = ap (λ (h : HistoryView). length h.records) is.refuses.0.1 in
     let acted : length new.notes.acted ≡ length old.notes.acted = ap (λ (n : Notes). length n.acted) is.notes in
-    record { calls = omega (arith, was.left_is, was.owed_is, now.left_is, now.owed_is, now.over_is, records, acted, is.refuses.0.0.calls) }
+    record { calls = omega (arith, was.left_is, was.owed_is, now.left_is, now.owed_is, now.over_is, records, acted, is.refuses.0.0.calls, says_same old.site new.site is.refuses.0.0.file.rest.counts) }
 tried IsNext old new was (limited what is) =
     refused_none old new 0 _ false was is.phase refl (ap (λ (h : HistoryView). length h.records) is.refuses.0.1) (acted_of old new is.notes)
     (omega (arith, calls_same old.site new.site is.refuses.0.2))
@@ -166,13 +175,14 @@ acts old new beat parcel v w is =
         long_of old.engine new.engine is.engine,
         acted,
         is.acts.offers.adds.calls,
-        is.acts.puts.disk.calls,
+        says_same old.site is.acts.between is.acts.offers.adds.file.rest.counts,
+        leaves_calls is.acts.between new.site is.acts.puts.disk,
       );
     }
 
-fails_calls : (v : ActuatorView) (parcel : Parcel) (moment : ℕ) (old new : SiteView) (error : ActError) → MayHaveDone error v parcel moment old new → new.disk.calls ≤ old.disk.calls + (calls_of v + 4)
-fails_calls v parcel moment old new act_error.Disk offers = offers.adds.calls
-fails_calls v parcel moment old new act_error.Memory may = elim may [ inl e ↦ omega (arith, calls_same old new e) | inr offers ↦ offers.adds.calls ]
+fails_calls : (v : ActuatorView) (parcel : Parcel) (moment : ℕ) (old new : SiteView) (error : ActError) → MayHaveDone error v parcel moment old new → device_calls new ≤ device_calls old + (calls_of v + 4)
+fails_calls v parcel moment old new act_error.Disk offers = omega (arith, offers.adds.calls, says_same old new offers.adds.file.rest.counts)
+fails_calls v parcel moment old new act_error.Memory may = elim may [ inl e ↦ omega (arith, calls_same old new e) | inr offers ↦ omega (arith, offers.adds.calls, says_same old new offers.adds.file.rest.counts) ]
 fails_calls v parcel moment old new (act_error.Damaged place) e = omega (arith, calls_same old new e)
 fails_calls v parcel moment old new (act_error.Full length) e = omega (arith, calls_same old new e)
 fails_calls v parcel moment old new act_error.Broken e = omega (arith, calls_same old new e)
@@ -199,7 +209,7 @@ clock old new moment answer was is =
         headers_same old new is.sides.engine is.sides.filters,
         long_of old.engine new.engine is.sides.engine,
         ap (λ (n : Notes). length n.acted) is.notes,
-        is.reaches.disk.calls,
+        leaves_calls old.site new.site is.reaches.disk,
       );
     }
 
@@ -219,13 +229,14 @@ said old new bytes is =
         long_of old.engine new.engine is.speaks.sides.engine,
         acted_of old new is.speaks.notes,
         is.speaks.only.calls,
+        is.speaks.only.says,
       );
     }
 
 not_said : (old new : World) (bytes : List ℕ) → FailsToSay bytes old new → Costs old new
 not_said old new bytes is =
     refused_none old new 1 _ true (like_owes old.phase (headers old) is.speaks.phase) is.phase refl (long_of old.engine new.engine is.speaks.sides.engine) (acted_of old new is.speaks.notes)
-    (omega (arith, is.speaks.only.calls))
+    (omega (arith, is.speaks.only.calls, is.speaks.only.says))
 
 put_headers : (old new : World) (puts : OpenIssues) → new.engine ≡ record old.engine { puts = puts } → new.filters ≡ old.filters → headers new ≡ headers old
 put_headers old new puts e f = ap (λ (v : EngineView). header_calls v.history.prepared + total calls_of new.filters) e ∙ ap (λ (l : List ActuatorView). header_calls old.engine.history.prepared + total calls_of l) f
@@ -245,15 +256,15 @@ step_costs old new (expires issue is) = tried _ old new (like_looked old.phase (
 step_costs old new (says bytes is) = said old new bytes is
 step_costs old new (fails_to_say bytes is) = not_said old new bytes is
 step_costs old new (puts_first issue is) = going_none old new (like_rests old.phase (headers old) is.phase) (like_rests new.phase (headers new) is.puts.phase) (put_headers old new _ is.puts.sends.view is.puts.filters)
-    (ap (λ (x : EngineView). length x.history.records) is.puts.sends.view) (ap (λ (n : Notes). length n.acted) is.puts.notes) is.puts.sends.put.disk.calls
+    (ap (λ (x : EngineView). length x.history.records) is.puts.sends.view) (ap (λ (n : Notes). length n.acted) is.puts.notes) (leaves_calls old.site new.site is.puts.sends.put.disk)
 step_costs old new (resends issue is) = going_none old new (like_looked old.phase (headers old) is.due.on_time.untold.idle.has_looked.phase) (like_rests new.phase (headers new) is.puts.phase) (put_headers old new _ is.puts.sends.view is.puts.filters)
-    (ap (λ (x : EngineView). length x.history.records) is.puts.sends.view) (ap (λ (n : Notes). length n.acted) is.puts.notes) is.puts.sends.put.disk.calls
+    (ap (λ (x : EngineView). length x.history.records) is.puts.sends.view) (ap (λ (n : Notes). length n.acted) is.puts.notes) (leaves_calls old.site new.site is.puts.sends.put.disk)
 step_costs old new (takes parcel is) = going_none old new (like_rests old.phase (headers old) is.turn.phase) (like_holds new.phase (headers new) new.site.disk.beat parcel is.phase) (headers_same old new is.sides.engine is.sides.filters)
-    (long_of old.engine new.engine is.sides.engine) (acted_of old new is.notes) is.only.disk.calls
+    (long_of old.engine new.engine is.sides.engine) (acted_of old new is.notes) (leaves_calls old.site new.site is.only.disk)
 step_costs old new (finds_none is) = going_none old new (like_rests old.phase (headers old) is.turn.phase) (like_looked new.phase (headers new) is.phase) (headers_same old new is.sides.engine is.sides.filters)
-    (long_of old.engine new.engine is.sides.engine) (acted_of old new is.notes) is.only.disk.calls
+    (long_of old.engine new.engine is.sides.engine) (acted_of old new is.notes) (leaves_calls old.site new.site is.only.disk)
 step_costs old new (fails_to_take is) = refused_none old new 0 _ false (like_rests old.phase (headers old) is.turn.phase) is.phase refl (long_of old.engine new.engine is.sides.engine) (acted_of old new is.notes)
-    (omega (arith, is.only.disk.calls))
+    (omega (arith, leaves_calls old.site new.site is.only.disk))
 step_costs old new (drops beat parcel is) = going_none old new (like_holds old.phase (headers old) beat parcel is.phase) (like_rests new.phase (headers new) is.ignores.phase) (headers_same old new is.ignores.engine is.ignores.filters)
     (long_of old.engine new.engine is.ignores.engine) (ap (λ (n : Notes). length n.acted) is.ignores.notes) (calls_same old.site new.site is.site)
 step_costs old new (replies beat parcel is) = tried _ old new (like_holds old.phase (headers old) beat parcel is.holds_reply.phase) is.tries
@@ -261,7 +272,7 @@ step_costs old new (ignores_reply beat parcel is) = going_none old new (like_hol
     (long_of old.engine new.engine is.ignores.engine) (ap (λ (n : Notes). length n.acted) is.ignores.notes) (calls_same old.site new.site is.site)
 step_costs old new (acts_on beat parcel v w is) = acts old new beat parcel v w is
 step_costs old new (repeats_reply beat parcel v w is) = going_none old new (like_holds old.phase (headers old) beat parcel is.holds_command.phase) (like_rests new.phase (headers new) is.ignores.phase) (headers_same old new is.ignores.engine is.ignores.filters)
-    (long_of old.engine new.engine is.ignores.engine) (ap (λ (n : Notes). length n.acted) is.ignores.notes) is.repeats.puts.disk.calls
+    (long_of old.engine new.engine is.ignores.engine) (ap (λ (n : Notes). length n.acted) is.ignores.notes) (leaves_calls old.site new.site is.repeats.puts.disk)
 step_costs old new (fails_to_act beat parcel v w error cause is) = fails old new beat parcel v w error cause is
 step_costs old new (wants_memory_now is) = refused_none old new (owed_lines old.phase) _ (owes_line old.phase) (like_going old.phase (headers old) is.going) is.only.phase refl (long_of old.engine new.engine is.only.sides.engine) (acted_of old new is.only.notes)
     (omega (arith, calls_same old.site new.site is.only.site))

@@ -42,7 +42,7 @@ same old new seen puts notes is = record {
       ap (times issue) notes ∙ is.later issue (omega (arith, past, long));
 }
 
-engine_same : (old new : World) → new.engine ≡ old.engine → new.notes.put ≡ old.notes.put → PutsAreCounted old → PutsAreCounted new
+pub engine_same : (old new : World) → new.engine ≡ old.engine → new.notes.put ≡ old.notes.put → PutsAreCounted old → PutsAreCounted new
 engine_same old new e notes = same old new (ap (λ (v : EngineView). v.history.seen) e) (ap (λ (v : EngineView). v.puts) e) notes
 
 -- ---- a record was appended
@@ -172,7 +172,7 @@ put old new issue is left was =
     one_at_most true = omega arith
     one_at_most false = omega arith
 
-step_counts : (old new : World) → PutsAreCounted old → Step old new → PutsAreCounted new
+pub step_counts : (old new : World) → PutsAreCounted old → Step old new → PutsAreCounted new
 step_counts old new was (opens_clock answer is) = engine_same old new is.goes.sides.engine (ap (λ (n : Notes). n.put) is.goes.notes) was
 step_counts old new was (finds_run_used agent is) = engine_same old new is.only.sides.engine (ap (λ (n : Notes). n.put) is.only.notes) was
 step_counts old new was (asks_clock moment answer is) = engine_same old new is.goes.sides.engine (ap (λ (n : Notes). n.put) is.goes.notes) was

@@ -45,7 +45,7 @@ ready_stays v old new on stays is = record {
   images = λ whole. all_stays _ v.agent old new on stays (is.images whole);
 }
 
-filter_stays : (old new : World) (agent : ℕ) (v : ActuatorView) → GoesOn old.site.disk new.site.disk → StaysAt old.site.disk new.site.disk agent → new.notes.unsure_act ≡ old.notes.unsure_act
+pub filter_stays : (old new : World) (agent : ℕ) (v : ActuatorView) → GoesOn old.site.disk new.site.disk → StaysAt old.site.disk new.site.disk agent → new.notes.unsure_act ≡ old.notes.unsure_act
     → FilterStands old agent v → FilterStands new agent v
 filter_stays old new agent v on stays unsure is = record {
   ready = ready_stays v old.site new.site on (subst (λ (n : ℕ). StaysAt old.site.disk new.site.disk n) (sym is.of_agent) stays) is.ready;
@@ -200,7 +200,7 @@ module _ (old new : World) (beat : ℕ) (parcel : Parcel) (v w : ActuatorView) (
   failed_act : FiltersStand new
   failed_act = record { each = all_by error is.notes; sure = λ g. absurd (subst IsGoing is.phase g) }
 
-step_filters : (old new : World) → FiltersStand old → Step old new → FiltersStand new
+pub step_filters : (old new : World) → FiltersStand old → Step old new → FiltersStand new
 step_filters old new was (opens_clock answer is) = still old new (kept old.site new.site is.goes.reaches.disk.disk) is.goes.sides.filters (ap (λ (n : Notes). n.unsure_act) is.goes.notes) (going_as old.phase _ is.phase tt) was
 step_filters old new was (finds_run_used agent is) = still old new (same old.site new.site is.only.site) is.only.sides.filters (ap (λ (n : Notes). n.unsure_act) is.only.notes) (going_as old.phase _ is.phase tt) was
 step_filters old new was (asks_clock moment answer is) = still old new (kept old.site new.site is.goes.reaches.disk.disk) is.goes.sides.filters (ap (λ (n : Notes). n.unsure_act) is.goes.notes) (going_as old.phase _ is.next.up_to_date.on_time.untold.idle.has_looked.phase tt) was

@@ -84,7 +84,7 @@ tried IsNext old new (done is) = same old new is.filters (ap (λ (n : Notes). n.
 tried IsNext old new (failed is) = same old new is.filters (ap (λ (n : Notes). n.acted) is.notes)
 tried IsNext old new (limited what is) = same old new is.filters (ap (λ (n : Notes). n.acted) is.notes)
 
-step_grows : (old new : World) → Step old new → FiltersGrow old new
+pub step_grows : (old new : World) → Step old new → FiltersGrow old new
 step_grows old new (opens_clock answer is) = same old new is.goes.sides.filters (ap (λ (n : Notes). n.acted) is.goes.notes)
 step_grows old new (finds_run_used agent is) = same old new is.only.sides.filters (ap (λ (n : Notes). n.acted) is.only.notes)
 step_grows old new (asks_clock moment answer is) = same old new is.goes.sides.filters (ap (λ (n : Notes). n.acted) is.goes.notes)
@@ -117,23 +117,23 @@ step_grows old new (fails_to_act beat parcel v w error cause is) =
     (ap (λ (x : ActuatorView). x.acts) is.refuses.view ∙ sym (append-nil v.acts)) (λ other ne. refl)
 step_grows old new (wants_memory_now is) = same old new is.only.sides.filters (ap (λ (n : Notes). n.acted) is.only.notes)
 
+pub grow-trans : (a b c : World) → FiltersGrow a b → FiltersGrow b c → FiltersGrow a c
+grow-trans a b c p q = record {
+  acted = p.acted ++ q.acted;
+  acts = q.acts ∙ ap (λ (l : List (ℕ × Act)). l ++ q.acted) p.acts ∙ append_assoc a.notes.acted p.acted q.acted;
+  many = q.many ∙ p.many;
+  each = λ k v there.
+      let x = p.each k v there in
+      let y = q.each k x.now x.there in
+      record {
+        now = y.now;
+        there = y.there;
+        agent = y.agent ∙ x.agent;
+        has = y.has ∙ ap (λ (l : List Act). l ++ acts_of (suc k) q.acted) x.has ∙ append_assoc v.acts (acts_of (suc k) p.acted) (acts_of (suc k) q.acted)
+            ∙ ap (λ (l : List Act). v.acts ++ l) (sym (acts_append (suc k) p.acted q.acted));
+      };
+}
+
 pub steps_grow_filters : EachFiltersGrow
 steps_grow_filters a b nothing = same a a refl refl
-steps_grow_filters a b (and_then {mid} steps step) =
-    let p = steps_grow_filters a mid steps in
-    let q = step_grows mid b step in
-    record {
-      acted = p.acted ++ q.acted;
-      acts = q.acts ∙ ap (λ (l : List (ℕ × Act)). l ++ q.acted) p.acts ∙ append_assoc a.notes.acted p.acted q.acted;
-      many = q.many ∙ p.many;
-      each = λ k v there.
-          let x = p.each k v there in
-          let y = q.each k x.now x.there in
-          record {
-            now = y.now;
-            there = y.there;
-            agent = y.agent ∙ x.agent;
-            has = y.has ∙ ap (λ (l : List Act). l ++ acts_of (suc k) q.acted) x.has ∙ append_assoc v.acts (acts_of (suc k) p.acted) (acts_of (suc k) q.acted)
-                ∙ ap (λ (l : List Act). v.acts ++ l) (sym (acts_append (suc k) p.acted q.acted));
-          };
-    }
+steps_grow_filters a b (and_then {mid} steps step) = grow-trans a mid b (steps_grow_filters a mid steps) (step_grows mid b step)

@@ -3,6 +3,7 @@ use Rattle.std.proofs.Common.{◌≡◌, ◌≢◌, ◌⊎◌, inl, inr, ℕ, ze
 use Rattle.std.specs.Prelude.{Option, Some, None, IfSome, Contains, slice_get, slice_set}
 use Rattle.std.proofs.lemmas.Bool.{false≢true}
 use Rattle.std.proofs.lemmas.List.{append_assoc, append-nil, length-append}
+use Rattle.std.proofs.lemmas.Option.{none-some}
 use Rattle.std.proofs.lemmas.List.Elements.{All-append, All-nil, All-push, Contains-append_left, Contains-push}
 use Rattle.cacao_site.specs.LinkCalls.{GainsAll}
 use Rattle.cacao_site.specs.View.{LinkView, SiteView}
@@ -24,7 +25,7 @@ use Rattle.flow_laws.proofs.Basics.{same_or_not, same_some}
 use Rattle.flow_steps.specs.Appends.{Tries}
 use Rattle.flow_steps.specs.Appends.Tries.{done, failed, limited}
 use Rattle.flow_steps.specs.Handled.{EachHandles, Handles, HasItsAct, HasItsReply, IsAtHand, IsBack, IsCommand, IsTakenAct, IsTakenReply, WasNoReply, one_reply}
-use Rattle.flow_steps.specs.Steps.{DoesNothing, MayHaveActed, Step, Steps, Unsures}
+use Rattle.flow_steps.specs.Steps.{DoesNothing, IsAddressed, LacksFilter, MayHaveActed, Step, Steps, Unsures}
 use Rattle.flow_steps.specs.Sums.{total}
 use Rattle.flow_steps.specs.Steps.Step.{opens_clock, finds_run_used, asks_clock, finds_late, begins, moves, upgrades, tells, expires, says, fails_to_say}
 use Rattle.flow_steps.specs.Steps.Step.{puts_first, resends, takes, finds_none, fails_to_take, drops, replies, ignores_reply, acts_on, repeats_reply, fails_to_act, wants_memory_now}
@@ -78,43 +79,60 @@ act_left a b act is = (is.0, Contains-append_left a b is.0 is.1, is.2, is.3, is.
 
 -- ---- acts and Replies stay
 
--- the filters keep their acts
+-- the command has its act, or no filter stands for its agent
+abbrev pub IsDone : World → Parcel → Type 0
+IsDone w parcel = HasItsAct w parcel ⊎ LacksFilter w parcel
+
+-- the filters keep their acts, and no other stands
 KeepsActs : World → World → Type 0
-KeepsActs old new = (parcel : Parcel) → HasItsAct old parcel → HasItsAct new parcel
+KeepsActs old new = (parcel : Parcel) → IsDone old parcel → IsDone new parcel
 
 keeps_same : (old new : World) → new.filters ≡ old.filters → KeepsActs old new
 unfolding KeepsActs
-keeps_same old new same parcel is = record {
+keeps_same old new same parcel (inl is) = inl (record {
   filter = is.filter;
   there = subst (λ (l : List ActuatorView). slice_get l (parcel.agent - 1) ≡ Some is.filter) (sym same) is.there;
   act = is.act;
   has = is.has;
   run = is.run;
   issue = is.issue;
-}
+})
+keeps_same old new same parcel (inr is) = inr (record {
+  addressed = is.addressed;
+  is_command = is.is_command;
+  none = subst (λ (l : List ActuatorView). slice_get l (parcel.agent - 1) ≡ None) (sym same) is.none;
+})
 
 -- one filter was replaced by one that has its acts
 keeps_set : (old new : World) (k : ℕ) (v w : ActuatorView) (more : List Act) → slice_get old.filters k ≡ Some v → new.filters ≡ slice_set old.filters k w → w.acts ≡ v.acts ++ more → KeepsActs old new
 unfolding KeepsActs
-keeps_set old new k v w more was now acts_are parcel is = elim (same_or_not (parcel.agent - 1) k) [
+keeps_set old new k v w more was now acts_are parcel (inl is) = elim (same_or_not (parcel.agent - 1) k) [
   | inl e ↦
       let same : is.filter ≡ v = same_some (sym is.there ∙ ap (λ (n : ℕ). slice_get old.filters n) e ∙ was) in
-      record {
+      inl (record {
         filter = w;
         there = ap (λ (l : List ActuatorView). slice_get l (parcel.agent - 1)) now ∙ ap (λ (n : ℕ). slice_get (slice_set old.filters k w) n) e ∙ get_set_same old.filters k v w was;
         act = is.act;
         has = subst (λ (l : List Act). Contains l is.act) (sym acts_are) (Contains-append_left v.acts more is.act (subst (λ (f : ActuatorView). Contains f.acts is.act) same is.has));
         run = is.run;
         issue = is.issue;
-      }
-  | inr ne ↦ record {
+      })
+  | inr ne ↦ inl (record {
     filter = is.filter;
     there = ap (λ (l : List ActuatorView). slice_get l (parcel.agent - 1)) now ∙ get_set_other old.filters k (parcel.agent - 1) w ne ∙ is.there;
     act = is.act;
     has = is.has;
     run = is.run;
     issue = is.issue;
-  }
+  })
+]
+keeps_set old new k v w more was now acts_are parcel (inr is) = elim (same_or_not (parcel.agent - 1) k) [
+  | inl e ↦ absurd (none-some v (sym is.none ∙ ap (λ (n : ℕ). slice_get old.filters n) e ∙ was))
+  | inr ne ↦ inr (record {
+    addressed = is.addressed;
+    is_command = is.is_command;
+    none = ap (λ (l : List ActuatorView). slice_get l (parcel.agent - 1)) now ∙ get_set_other old.filters k (parcel.agent - 1) w ne ∙ is.none;
+  })
 ]
 
 -- the one behind these has its Reply, or was none
@@ -204,7 +222,7 @@ on_more a old new h step more records no_replies no_count keeps acted ignored un
   at_hand = h.at_hand;
   takes = subst (λ (o : Option (List (ℕ × Parcel))). GainsAll a.site.link.taken (h.handled ++ h.at_hand) o) (sym taken) h.takes;
   open_one = goes h.at_hand h.open_one;
-  commands = each_all (λ e. IsCommand e.1 → HasItsAct old e.1) (λ e. IsCommand e.1 → HasItsAct new e.1) h.handled (λ e to command. keeps e.1 (to command)) h.commands;
+  commands = each_all (λ e. IsCommand e.1 → IsDone old e.1) (λ e. IsCommand e.1 → IsDone new e.1) h.handled (λ e to command. keeps e.1 (to command)) h.commands;
   replies = answered_on a old new more step records h.handled h.replies;
   acted = h.acted;
   acts = acted ∙ h.acts;
@@ -267,7 +285,7 @@ tried IsNext a old new h step empty (limited what is) no_reply =
 handed : (a old new : World) (h : Handles a old) → Step old new → (beat : ℕ) (parcel : Parcel) → old.phase ≡ holds beat parcel → (more : List Record)
     → new.engine.history.records ≡ old.engine.history.records ++ more
     → ((taken : List (ℕ × Parcel)) → Contains taken (beat, parcel) → All (IsTakenReply a.engine.history.seen.run taken) more) → KeepsActs old new
-    → (IsCommand parcel → HasItsAct new parcel) → IsAnswered a new h.handled (beat, parcel)
+    → (IsCommand parcel → IsDone new parcel) → IsAnswered a new h.handled (beat, parcel)
     → (further : List (ℕ × Act)) → new.notes.acted ≡ old.notes.acted ++ further → ((taken : List (ℕ × Parcel)) → Contains taken (beat, parcel) → All (IsTakenAct taken) further)
     → new.notes.unsure ≡ old.notes.unsure → new.notes.unsure_act ≡ old.notes.unsure_act → new.notes.ignored + length further + total one_reply more ≡ old.notes.ignored + 1
     → new.site.link.taken ≡ old.site.link.taken → IsAtHand new.phase [] → Handles a new
@@ -285,8 +303,8 @@ handed a old new h step beat parcel at more records of_records keeps has_act has
       takes = subst (λ (l : List (ℕ × Parcel)). GainsAll a.site.link.taken l new.site.link.taken) list
           (subst (λ (o : Option (List (ℕ × Parcel))). GainsAll a.site.link.taken (h.handled ++ h.at_hand) o) (sym taken) h.takes);
       open_one = opens;
-      commands = All-push (λ e. IsCommand e.1 → HasItsAct new e.1) h.handled (beat, parcel)
-          (each_all (λ e. IsCommand e.1 → HasItsAct old e.1) (λ e. IsCommand e.1 → HasItsAct new e.1) h.handled (λ e to command. keeps e.1 (to command)) h.commands) has_act;
+      commands = All-push (λ e. IsCommand e.1 → IsDone new e.1) h.handled (beat, parcel)
+          (each_all (λ e. IsCommand e.1 → IsDone old e.1) (λ e. IsCommand e.1 → IsDone new e.1) h.handled (λ e to command. keeps e.1 (to command)) h.commands) has_act;
       replies = answered_more a new h.handled (beat, parcel) (answered_on a old new more step records h.handled h.replies) has_reply;
       acted = h.acted ++ further;
       acts = acted ∙ ap (λ (l : List (ℕ × Act)). l ++ further) h.acts ∙ append_assoc a.notes.acted h.acted further;
@@ -308,6 +326,16 @@ no_command parcel P back command = absurd (false≢true (sym command.command ∙
 
 no_back : (parcel : Parcel) (P : Type 0) → parcel.back ≡ false → IsBack parcel → P
 no_back parcel P command back = absurd (false≢true (sym command ∙ back.back))
+
+-- a command is dropped only where no filter stands for its agent, and a reply is dropped never
+dropped_command : (old new : World) (parcel : Parcel) → new.filters ≡ old.filters → (IsAddressed parcel → ⊥) ⊎ LacksFilter old parcel → IsCommand parcel → IsDone new parcel
+unfolding KeepsActs
+dropped_command old new parcel same (inl not) command = absurd (not command.addressed)
+dropped_command old new parcel same (inr lacks) command = keeps_same old new same parcel (inr lacks)
+
+dropped_reply : (old : World) (parcel : Parcel) (P : Type 0) → (IsAddressed parcel → ⊥) ⊎ LacksFilter old parcel → IsBack parcel → P
+dropped_reply old parcel P (inl not) back = absurd (not back.addressed)
+dropped_reply old parcel P (inr lacks) back = no_back parcel P lacks.is_command back
 
 -- its Reply was appended
 replied : (a old new : World) → Handles a old → Step old new → old.engine.history.seen.run ≡ a.engine.history.seen.run → (beat : ℕ) (parcel : Parcel) → old.phase ≡ holds beat parcel → parcel.back ≡ true
@@ -363,7 +391,7 @@ took a old new h step parcel empty gained engine filters same phase =
       takes = gains_then a.site.link.taken old.site.link.taken new.site.link.taken h.handled (x ∷ [])
           (subst (λ (l : List (ℕ × Parcel)). GainsAll a.site.link.taken l old.site.link.taken) list h.takes) gained;
       open_one = subst (λ (p : Phase). IsAtHand p (x ∷ [])) (sym phase) refl;
-      commands = each_all (λ e. IsCommand e.1 → HasItsAct old e.1) (λ e. IsCommand e.1 → HasItsAct new e.1) h.handled (λ e to command. keeps_same old new filters e.1 (to command)) h.commands;
+      commands = each_all (λ e. IsCommand e.1 → IsDone old e.1) (λ e. IsCommand e.1 → IsDone new e.1) h.handled (λ e to command. keeps_same old new filters e.1 (to command)) h.commands;
       replies = answered_on a old new [] step (with_none old.engine new.engine engine) h.handled h.replies;
       acted = h.acted;
       acts = ap (λ (m : Marks). m.1) same ∙ h.acts;
@@ -429,7 +457,7 @@ step_handles a old new so_far run h (takes parcel is) = took a old new h (takes 
 step_handles a old new so_far run h (finds_none is) = still a old new h (finds_none is) (records_of old.engine new.engine is.sides.engine) is.sides.filters (ap marks is.notes) is.none.taken (empty_to old.phase new.phase (at_rests old.phase is.turn.phase) (to_looked new.phase is.phase))
 step_handles a old new so_far run h (fails_to_take is) = still a old new h (fails_to_take is) (records_of old.engine new.engine is.sides.engine) is.sides.filters (ap marks is.notes) (link_taken old.site new.site is.link) (refused_to old.phase new.phase _ _ is.phase)
 step_handles a old new so_far run h (drops beat parcel is) = handed a old new h (drops beat parcel is) beat parcel is.phase [] (with_none old.engine new.engine is.ignores.engine) (λ taken has. All-nil _) (keeps_same old new is.ignores.filters)
-    (λ command. absurd (is.why command.addressed)) (λ back. absurd (is.why back.addressed)) [] (ap (λ (n : Notes). n.acted) is.ignores.notes ∙ sym (append-nil old.notes.acted)) (λ taken has. All-nil _) (ap (λ (n : Notes). n.unsure) is.ignores.notes) (ap (λ (n : Notes). n.unsure_act) is.ignores.notes) (omega (arith, ap (λ (n : Notes). n.ignored) is.ignores.notes)) (taken_of old.site new.site is.site) (to_rests new.phase is.ignores.phase [] refl)
+    (dropped_command old new parcel is.ignores.filters is.why) (dropped_reply old parcel _ is.why) [] (ap (λ (n : Notes). n.acted) is.ignores.notes ∙ sym (append-nil old.notes.acted)) (λ taken has. All-nil _) (ap (λ (n : Notes). n.unsure) is.ignores.notes) (ap (λ (n : Notes). n.unsure_act) is.ignores.notes) (omega (arith, ap (λ (n : Notes). n.ignored) is.ignores.notes)) (taken_of old.site new.site is.site) (to_rests new.phase is.ignores.phase [] refl)
 step_handles a old new so_far run h (replies beat parcel is) = replied a old new h (replies beat parcel is) run beat parcel is.holds_reply.phase is.holds_reply.back is.tries
 step_handles a old new so_far run h (ignores_reply beat parcel is) = handed a old new h (ignores_reply beat parcel is) beat parcel is.holds_reply.phase [] (with_none old.engine new.engine is.ignores.engine) (λ taken has. All-nil _) (keeps_same old new is.ignores.filters)
     (no_command parcel _ is.holds_reply.back) (λ back. inr (record { w = old; before = so_far; after = and_then nothing (ignores_reply beat parcel is); in_hand = is.holds_reply.phase; place = place_of a old h beat parcel is.holds_reply.phase; none = is.no_reply })) [] (ap (λ (n : Notes). n.acted) is.ignores.notes ∙ sym (append-nil old.notes.acted)) (λ taken has. All-nil _) (ap (λ (n : Notes). n.unsure) is.ignores.notes) (ap (λ (n : Notes). n.unsure_act) is.ignores.notes) (omega (arith, ap (λ (n : Notes). n.ignored) is.ignores.notes)) (taken_of old.site new.site is.site) (to_rests new.phase is.ignores.phase [] refl)
@@ -439,14 +467,14 @@ step_handles a old new so_far run h (acts_on beat parcel v w is) =
     let acts_are : w.acts ≡ v.acts ++ act ∷ [] = ap (λ (x : ActuatorView). x.acts) is.acts.view in
     handed a old new h (acts_on beat parcel v w is) beat parcel held.phase [] (with_none old.engine new.engine is.engine) (λ taken has. All-nil _)
     (keeps_set old new (parcel.agent - 1) v w (act ∷ []) held.there is.filters acts_are)
-    (λ command. record {
+    (λ command. inl (record {
       filter = w;
       there = ap (λ (l : List ActuatorView). slice_get l (parcel.agent - 1)) is.filters ∙ get_set_same old.filters (parcel.agent - 1) v w held.there;
       act = act;
       has = subst (λ (l : List Act). Contains l act) (sym acts_are) (Contains-push v.acts act);
       run = refl;
       issue = refl;
-    }) (no_back parcel _ held.command)
+    })) (no_back parcel _ held.command)
     ((parcel.agent, act) ∷ []) (ap (λ (n : Notes). n.acted) is.notes)
     (λ taken has. All-one (IsTakenAct taken) (parcel.agent, act) ((beat, parcel), has, held.command, refl, refl, refl, refl))
     (ap (λ (n : Notes). n.unsure) is.notes) (ap (λ (n : Notes). n.unsure_act) is.notes) (omega (arith, ap (λ (n : Notes). n.ignored) is.notes))
@@ -454,14 +482,14 @@ step_handles a old new so_far run h (acts_on beat parcel v w is) =
 step_handles a old new so_far run h (repeats_reply beat parcel v w is) =
     let held = is.holds_command in
     handed a old new h (repeats_reply beat parcel v w is) beat parcel held.phase [] (with_none old.engine new.engine is.ignores.engine) (λ taken has. All-nil _) (keeps_same old new is.ignores.filters)
-    (λ command. record {
+    (λ command. inl (record {
       filter = v;
       there = ap (λ (l : List ActuatorView). slice_get l (parcel.agent - 1)) is.ignores.filters ∙ held.there;
       act = is.repeats.act;
       has = is.repeats.acted.has;
       run = is.repeats.acted.of_run;
       issue = is.repeats.acted.of_issue;
-    }) (no_back parcel _ held.command)
+    })) (no_back parcel _ held.command)
     [] (ap (λ (n : Notes). n.acted) is.ignores.notes ∙ sym (append-nil old.notes.acted)) (λ taken has. All-nil _) (ap (λ (n : Notes). n.unsure) is.ignores.notes) (ap (λ (n : Notes). n.unsure_act) is.ignores.notes) (omega (arith, ap (λ (n : Notes). n.ignored) is.ignores.notes)) is.repeats.puts.taken (to_rests new.phase is.ignores.phase [] refl)
 step_handles a old new so_far run h (fails_to_act beat parcel v w error cause is) =
     let held = is.holds_command in

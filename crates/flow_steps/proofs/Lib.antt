@@ -3,6 +3,7 @@ pub mod Agreement
 pub mod AllPuts
 pub mod Asked
 pub mod Backed
+pub mod Beside
 pub mod Bounded
 pub mod Came
 pub mod Caused
@@ -39,4 +40,5 @@ pub mod Unbroken
 pub mod Unsure
 pub mod Waiting
 pub mod Whole
+pub mod Without
 pub mod Written

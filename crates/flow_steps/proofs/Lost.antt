@@ -6,7 +6,7 @@ use Rattle.std.proofs.lemmas.List.{length-append}
 use Rattle.cacao_site.specs.Counts.{Rose, last_count}
 use Rattle.cacao_site.specs.LinkCalls.{GainsAll}
 use Rattle.cacao_site.specs.SiteCalls.{Puts}
-use Rattle.cacao_site.specs.View.{ClockView, LinkView, SiteView}
+use Rattle.cacao_site.specs.View.{CountsView, LinkView, SiteView}
 use Rattle.cacao_site.specs.declared.parcel.Parcel.{Parcel}
 use Rattle.run_records.specs.declared.record.Record.{Record}
 use Rattle.flow_steps.specs.Appends.{Tries}
@@ -18,7 +18,7 @@ use Rattle.flow_steps.specs.Steps.Step.{opens_clock, finds_run_used, asks_clock,
 use Rattle.flow_steps.specs.Steps.Step.{puts_first, resends, takes, finds_none, fails_to_take, drops, replies, ignores_reply, acts_on, repeats_reply, fails_to_act, wants_memory_now}
 use Rattle.flow_steps.specs.Steps.Steps.{nothing, and_then}
 use Rattle.flow_steps.specs.Worlds.{Notes, World}
-use Rattle.flow_steps.proofs.Adding.{fails_clock}
+use Rattle.flow_steps.proofs.Adding.{fails_counts}
 use Rattle.flow_steps.proofs.Growth.{gains_one, gains_same, gains_then}
 use Rattle.flow_steps.proofs.Put.{added, commands_more, own_command, times_more}
 use Rattle.flow_steps.proofs.Agreement.{steps_run}
@@ -30,7 +30,7 @@ times_append issue [] ys = omega arith
 times_append issue (x ∷ xs) ys = let rest = times_append issue xs ys in omega (arith, rest)
 
 -- no command was put
-none : (old new : World) → new.site.link.puts ≡ old.site.link.puts → new.notes.put ≡ old.notes.put → old.site.clock.mishaps ≤ new.site.clock.mishaps → PutsOrLost old new
+pub none : (old new : World) → new.site.link.puts ≡ old.site.link.puts → new.notes.put ≡ old.notes.put → old.site.counts.mishaps ≤ new.site.counts.mishaps → PutsOrLost old new
 none old new puts notes later = record {
   put = [];
   puts = gains_same old.site.link.puts new.site.link.puts puts;
@@ -40,11 +40,11 @@ none old new puts notes later = record {
   each = λ issue. omega (arith, ap (times issue) notes);
 }
 
-same_count : (old new : SiteView) → new.clock.mishaps ≡ old.clock.mishaps → old.clock.mishaps ≤ new.clock.mishaps
+same_count : (old new : SiteView) → new.counts.mishaps ≡ old.counts.mishaps → old.counts.mishaps ≤ new.counts.mishaps
 same_count old new e = omega (arith, e)
 
-clock_count : (old new : SiteView) → new.clock ≡ old.clock → old.clock.mishaps ≤ new.clock.mishaps
-clock_count old new e = same_count old new (ap (λ (c : ClockView). c.mishaps) e)
+counts_count : (old new : SiteView) → new.counts ≡ old.counts → old.counts.mishaps ≤ new.counts.mishaps
+counts_count old new e = same_count old new (ap (λ (c : CountsView). c.mishaps) e)
 
 link_puts : (old new : SiteView) → new.link ≡ old.link → new.link.puts ≡ old.link.puts
 link_puts old new e = ap (λ (l : LinkView). l.puts) e
@@ -52,14 +52,14 @@ link_puts old new e = ap (λ (l : LinkView). l.puts) e
 site_puts : (old new : SiteView) → new ≡ old → new.link.puts ≡ old.link.puts
 site_puts old new e = ap (λ (s : SiteView). s.link.puts) e
 
-site_count : (old new : SiteView) → new ≡ old → old.clock.mishaps ≤ new.clock.mishaps
-site_count old new e = clock_count old new (ap (λ (s : SiteView). s.clock) e)
+site_count : (old new : SiteView) → new ≡ old → old.counts.mishaps ≤ new.counts.mishaps
+site_count old new e = counts_count old new (ap (λ (s : SiteView). s.counts) e)
 
 tried : (IsNext : Record → Type 0) (old new : World) → Tries IsNext old new → PutsOrLost old new
 tried IsNext old new (done is) =
-    none old new (link_puts old.site new.site is.appends.adds.offers.file.rest.link) (ap (λ (n : Notes). n.put) is.notes) (clock_count old.site new.site is.appends.adds.offers.file.rest.clock)
+    none old new (link_puts old.site new.site is.appends.adds.offers.file.rest.link) (ap (λ (n : Notes). n.put) is.notes) (counts_count old.site new.site is.appends.adds.offers.file.rest.counts)
 tried IsNext old new (failed is) =
-    none old new (link_puts old.site new.site is.refuses.0.0.file.rest.link) (ap (λ (n : Notes). n.put) is.notes) (clock_count old.site new.site is.refuses.0.0.file.rest.clock)
+    none old new (link_puts old.site new.site is.refuses.0.0.file.rest.link) (ap (λ (n : Notes). n.put) is.notes) (counts_count old.site new.site is.refuses.0.0.file.rest.counts)
 tried IsNext old new (limited what is) = none old new (site_puts old.site new.site is.refuses.0.2) (ap (λ (n : Notes). n.put) is.notes) (site_count old.site new.site is.refuses.0.2)
 
 -- the count of one that was lost
@@ -86,16 +86,16 @@ command old new issue is =
         puts = gains_same old.site.link.puts new.site.link.puts gone.0;
         lost = issue ∷ [];
         later = is.sends.put.mishaps;
-        few = rose old.site.clock.mishaps new.site.clock.mishaps gone.1;
+        few = rose old.site.counts.mishaps new.site.counts.mishaps gone.1;
         each = λ i. omega (arith, ap (times i) notes, times_more i old.notes.put issue);
       }
     ]
 
 -- a reply that was put, or lost
-reply : (parcel : Parcel) (old new : World) (mid : SiteView) → mid.link.puts ≡ old.site.link.puts → mid.clock ≡ old.site.clock → Puts parcel mid new.site → new.notes.put ≡ old.notes.put → PutsOrLost old new
-reply parcel old new mid same time puts notes =
+reply : (parcel : Parcel) (old new : World) (mid : SiteView) → mid.link.puts ≡ old.site.link.puts → mid.counts ≡ old.site.counts → Puts parcel mid new.site → new.notes.put ≡ old.notes.put → PutsOrLost old new
+reply parcel old new mid same counts puts notes =
     let more = added parcel mid new.site puts in
-    let later : old.site.clock.mishaps ≤ new.site.clock.mishaps = omega (arith, puts.mishaps, ap (λ (c : ClockView). c.mishaps) time) in
+    let later : old.site.counts.mishaps ≤ new.site.counts.mishaps = omega (arith, puts.mishaps, ap (λ (c : CountsView). c.mishaps) counts) in
     record {
       put = more.put;
       puts = subst (λ (o : Option (List (ℕ × Parcel))). GainsAll o more.put new.site.link.puts) same more.puts;
@@ -105,7 +105,7 @@ reply parcel old new mid same time puts notes =
       each = λ i. omega (arith, ap (times i) notes);
     }
 
-step_loses : (old new : World) → Step old new → PutsOrLost old new
+pub step_loses : (old new : World) → Step old new → PutsOrLost old new
 step_loses old new (opens_clock answer is) = none old new is.goes.reaches.puts (ap (λ (n : Notes). n.put) is.goes.notes) (same_count old.site new.site is.goes.reaches.mishaps)
 step_loses old new (finds_run_used agent is) = none old new (site_puts old.site new.site is.only.site) (ap (λ (n : Notes). n.put) is.only.notes) (site_count old.site new.site is.only.site)
 step_loses old new (asks_clock moment answer is) = none old new is.goes.reaches.puts (ap (λ (n : Notes). n.put) is.goes.notes) (same_count old.site new.site is.goes.reaches.mishaps)
@@ -115,8 +115,8 @@ step_loses old new (moves is) = tried _ old new is.tries
 step_loses old new (upgrades issue told is) = tried _ old new is.tries
 step_loses old new (tells issue told is) = tried _ old new is.tries
 step_loses old new (expires issue is) = tried _ old new is.tries
-step_loses old new (says bytes is) = none old new is.speaks.only.puts (ap (λ (n : Notes). n.put) is.speaks.notes) (same_count old.site new.site is.speaks.only.time.mishaps)
-step_loses old new (fails_to_say bytes is) = none old new is.speaks.only.puts (ap (λ (n : Notes). n.put) is.speaks.notes) (same_count old.site new.site is.speaks.only.time.mishaps)
+step_loses old new (says bytes is) = none old new is.speaks.only.puts (ap (λ (n : Notes). n.put) is.speaks.notes) (same_count old.site new.site is.speaks.only.mishaps)
+step_loses old new (fails_to_say bytes is) = none old new is.speaks.only.puts (ap (λ (n : Notes). n.put) is.speaks.notes) (same_count old.site new.site is.speaks.only.mishaps)
 step_loses old new (puts_first issue is) = command old new issue is.puts
 step_loses old new (resends issue is) = command old new issue is.puts
 step_loses old new (takes parcel is) = none old new is.only.puts (ap (λ (n : Notes). n.put) is.notes) (same_count old.site new.site is.only.mishaps)
@@ -125,9 +125,9 @@ step_loses old new (fails_to_take is) = none old new is.only.puts (ap (λ (n : N
 step_loses old new (drops beat parcel is) = none old new (site_puts old.site new.site is.site) (ap (λ (n : Notes). n.put) is.ignores.notes) (site_count old.site new.site is.site)
 step_loses old new (replies beat parcel is) = tried _ old new is.tries
 step_loses old new (ignores_reply beat parcel is) = none old new (site_puts old.site new.site is.site) (ap (λ (n : Notes). n.put) is.ignores.notes) (site_count old.site new.site is.site)
-step_loses old new (acts_on beat parcel v w is) = reply _ old new is.acts.between (link_puts old.site is.acts.between is.acts.offers.adds.file.rest.link) is.acts.offers.adds.file.rest.clock is.acts.puts (ap (λ (n : Notes). n.put) is.notes)
+step_loses old new (acts_on beat parcel v w is) = reply _ old new is.acts.between (link_puts old.site is.acts.between is.acts.offers.adds.file.rest.link) is.acts.offers.adds.file.rest.counts is.acts.puts (ap (λ (n : Notes). n.put) is.notes)
 step_loses old new (repeats_reply beat parcel v w is) = reply _ old new old.site refl refl is.repeats.puts (ap (λ (n : Notes). n.put) is.ignores.notes)
-step_loses old new (fails_to_act beat parcel v w error cause is) = none old new (link_puts old.site new.site (fails_said v parcel old.site.clock.now old.site new.site error is.refuses.site)) (ap (λ (n : Notes). n.put) (fails_notes error parcel v old new is.notes)) (clock_count old.site new.site (fails_clock v parcel old.site.clock.now old.site new.site error is.refuses.site))
+step_loses old new (fails_to_act beat parcel v w error cause is) = none old new (link_puts old.site new.site (fails_said v parcel old.site.clock.now old.site new.site error is.refuses.site)) (ap (λ (n : Notes). n.put) (fails_notes error parcel v old new is.notes)) (counts_count old.site new.site (fails_counts v parcel old.site.clock.now old.site new.site error is.refuses.site))
 step_loses old new (wants_memory_now is) = none old new (site_puts old.site new.site is.only.site) (ap (λ (n : Notes). n.put) is.only.notes) (site_count old.site new.site is.only.site)
 
 few-trans : (a b c m n : ℕ) → (a + m ≤ b) ⊎ (last_count ≤ b) → (b + n ≤ c) ⊎ (last_count ≤ c) → b ≤ c → (a + (m + n) ≤ c) ⊎ (last_count ≤ c)
@@ -135,17 +135,17 @@ few-trans a b c m n p (inr full) later = inr full
 few-trans a b c m n (inl p) (inl q) later = inl (omega (arith, p, q))
 few-trans a b c m n (inr full) (inl q) later = inr (omega (arith, full, later))
 
+pub lost-trans : (a b c : World) → b.engine.history.seen.run ≡ a.engine.history.seen.run → PutsOrLost a b → PutsOrLost b c → PutsOrLost a c
+lost-trans a b c same_run p q = record {
+  put = p.put ++ q.put;
+  puts = gains_then a.site.link.puts b.site.link.puts c.site.link.puts p.put q.put p.puts q.puts;
+  lost = p.lost ++ q.lost;
+  later = omega (arith, p.later, q.later);
+  few = subst (λ (n : ℕ). (a.site.counts.mishaps + n ≤ c.site.counts.mishaps) ⊎ (last_count ≤ c.site.counts.mishaps)) (sym (length-append p.lost q.lost))
+      (few-trans a.site.counts.mishaps b.site.counts.mishaps c.site.counts.mishaps (length p.lost) (length q.lost) p.few q.few q.later);
+  each = λ issue. omega (arith, commands_more a.engine.history.seen.run issue p.put q.put, times_append issue p.lost q.lost, p.each issue, q.each issue, ap (λ (r : ℕ). commands_of r issue q.put) same_run);
+}
+
 pub steps_put_or_lose : EachPutsOrLost
 steps_put_or_lose a b nothing = none a a refl refl (omega arith)
-steps_put_or_lose a b (and_then {mid} steps step) =
-    let p = steps_put_or_lose a mid steps in
-    let q = step_loses mid b step in
-    record {
-      put = p.put ++ q.put;
-      puts = gains_then a.site.link.puts mid.site.link.puts b.site.link.puts p.put q.put p.puts q.puts;
-      lost = p.lost ++ q.lost;
-      later = omega (arith, p.later, q.later);
-      few = subst (λ (n : ℕ). (a.site.clock.mishaps + n ≤ b.site.clock.mishaps) ⊎ (last_count ≤ b.site.clock.mishaps)) (sym (length-append p.lost q.lost))
-          (few-trans a.site.clock.mishaps mid.site.clock.mishaps b.site.clock.mishaps (length p.lost) (length q.lost) p.few q.few q.later);
-      each = λ issue. omega (arith, commands_more a.engine.history.seen.run issue p.put q.put, times_append issue p.lost q.lost, p.each issue, q.each issue, ap (λ (r : ℕ). commands_of r issue q.put) (steps_run a mid steps));
-    }
+steps_put_or_lose a b (and_then {mid} steps step) = lost-trans a mid b (steps_run a mid steps) (steps_put_or_lose a mid steps) (step_loses mid b step)

@@ -67,7 +67,7 @@ added parcel old new puts = elim puts.puts [
 
 -- ---- commands
 
-noted_none : (old new : World) → new.site.link.puts ≡ old.site.link.puts → new.notes.put ≡ old.notes.put → PutsNoted old new
+pub noted_none : (old new : World) → new.site.link.puts ≡ old.site.link.puts → new.notes.put ≡ old.notes.put → PutsNoted old new
 noted_none old new puts notes = record {
   put = [];
   puts = gains_same old.site.link.puts new.site.link.puts puts;
@@ -130,7 +130,7 @@ reply_noted parcel old new mid back same puts notes =
     no_command : (i : ℕ) → one_command old.engine.history.seen.run i parcel ≡ 0
     no_command i = ap (λ (b : Bool). if b then 0 else if nat_eq parcel.run old.engine.history.seen.run then (if nat_eq parcel.issue i then 1 else 0) else 0) back
 
-step_noted : (old new : World) → Step old new → PutsNoted old new
+pub step_noted : (old new : World) → Step old new → PutsNoted old new
 step_noted old new (opens_clock answer is) = noted_none old new is.goes.reaches.puts (ap (λ (n : Notes). n.put) is.goes.notes)
 step_noted old new (finds_run_used agent is) = noted_none old new (site_puts old.site new.site is.only.site) (ap (λ (n : Notes). n.put) is.only.notes)
 step_noted old new (asks_clock moment answer is) = noted_none old new is.goes.reaches.puts (ap (λ (n : Notes). n.put) is.goes.notes)
@@ -155,18 +155,17 @@ step_noted old new (repeats_reply beat parcel v w is) = reply_noted _ old new ol
 step_noted old new (fails_to_act beat parcel v w error cause is) = noted_none old new (link_puts old.site new.site (fails_said v parcel old.site.clock.now old.site new.site error is.refuses.site)) (ap (λ (n : Notes). n.put) (fails_notes error parcel v old new is.notes))
 step_noted old new (wants_memory_now is) = noted_none old new (site_puts old.site new.site is.only.site) (ap (λ (n : Notes). n.put) is.only.notes)
 
+pub noted-trans : (a b c : World) → b.engine.history.seen.run ≡ a.engine.history.seen.run → PutsNoted a b → PutsNoted b c → PutsNoted a c
+noted-trans a b c same_run p q = record {
+  put = p.put ++ q.put;
+  puts = gains_then a.site.link.puts b.site.link.puts c.site.link.puts p.put q.put p.puts q.puts;
+  own = All-append (IsOwn a.engine.history.seen.run) p.put q.put p.own (subst (λ (r : ℕ). All (IsOwn r) q.put) same_run q.own);
+  noted = λ issue. omega (arith, commands_more a.engine.history.seen.run issue p.put q.put, p.noted issue, q.noted issue, ap (λ (r : ℕ). commands_of r issue q.put) same_run);
+}
+
 pub steps_put_few : EachPutsFew
 steps_put_few a b nothing = noted_none a a refl refl
-steps_put_few a b (and_then {mid} steps step) =
-    let p = steps_put_few a mid steps in
-    let q = step_noted mid b step in
-    let same_run = steps_run a mid steps in
-    record {
-      put = p.put ++ q.put;
-      puts = gains_then a.site.link.puts mid.site.link.puts b.site.link.puts p.put q.put p.puts q.puts;
-      own = All-append (IsOwn a.engine.history.seen.run) p.put q.put p.own (subst (λ (r : ℕ). All (IsOwn r) q.put) same_run q.own);
-      noted = λ issue. omega (arith, commands_more a.engine.history.seen.run issue p.put q.put, p.noted issue, q.noted issue, ap (λ (r : ℕ). commands_of r issue q.put) same_run);
-    }
+steps_put_few a b (and_then {mid} steps step) = noted-trans a mid b (steps_run a mid steps) (steps_put_few a mid steps) (step_noted mid b step)
 
 -- ---- replies
 
@@ -175,7 +174,7 @@ few : (old new : World) (put taken : List (ℕ × Parcel)) (before after : ℕ) 
     → in_hand old.phase ≡ before → in_hand new.phase ≡ after → replies_in put + after ≤ commands_in taken + before → RepliesFew old new
 few old new put taken before after gained got was is le = record { put = put; puts = gained; taken = taken; takes = got; few = omega (arith, was, is, le) }
 
-few_none : (old new : World) → new.site.link.puts ≡ old.site.link.puts → new.site.link.taken ≡ old.site.link.taken → in_hand new.phase ≡ 0 → RepliesFew old new
+pub few_none : (old new : World) → new.site.link.puts ≡ old.site.link.puts → new.site.link.taken ≡ old.site.link.taken → in_hand new.phase ≡ 0 → RepliesFew old new
 few_none old new puts taken is = record {
   put = [];
   puts = gains_same old.site.link.puts new.site.link.puts puts;
@@ -239,7 +238,7 @@ reply_few reply parcel beat old new mid command was is same puts =
     one_at_most true = omega arith
     one_at_most false = omega arith
 
-step_few : (old new : World) → Step old new → RepliesFew old new
+pub step_few : (old new : World) → Step old new → RepliesFew old new
 step_few old new (opens_clock answer is) = few_none old new is.goes.reaches.puts is.goes.reaches.taken (ap in_hand is.goes.phase ∙ hand_reached _ answer)
 step_few old new (finds_run_used agent is) = few_none old new (site_puts old.site new.site is.only.site) (site_taken old.site new.site is.only.site) (ap in_hand is.only.phase)
 step_few old new (asks_clock moment answer is) = few_none old new is.goes.reaches.puts is.goes.reaches.taken (ap in_hand is.goes.phase ∙ hand_reached moment answer)
@@ -266,6 +265,15 @@ step_few old new (fails_to_act beat parcel v w error cause is) = few_none old ne
     (link_taken old.site new.site (fails_said v parcel old.site.clock.now old.site new.site error is.refuses.site)) (ap in_hand is.phase)
 step_few old new (wants_memory_now is) = few_none old new (site_puts old.site new.site is.only.site) (site_taken old.site new.site is.only.site) (ap in_hand is.only.phase)
 
+pub few-trans : (a b c : World) → RepliesFew a b → RepliesFew b c → RepliesFew a c
+few-trans a b c p q = record {
+  put = p.put ++ q.put;
+  puts = gains_then a.site.link.puts b.site.link.puts c.site.link.puts p.put q.put p.puts q.puts;
+  taken = p.taken ++ q.taken;
+  takes = gains_then a.site.link.taken b.site.link.taken c.site.link.taken p.taken q.taken p.takes q.takes;
+  few = omega (arith, replies_more p.put q.put, taken_more p.taken q.taken, p.few, q.few);
+}
+
 pub steps_reply_few : EachRepliesFew
 steps_reply_few a b nothing = record {
   put = [];
@@ -274,13 +282,4 @@ steps_reply_few a b nothing = record {
   takes = gains_none a.site.link.taken;
   few = omega arith;
 }
-steps_reply_few a b (and_then {mid} steps step) =
-    let p = steps_reply_few a mid steps in
-    let q = step_few mid b step in
-    record {
-      put = p.put ++ q.put;
-      puts = gains_then a.site.link.puts mid.site.link.puts b.site.link.puts p.put q.put p.puts q.puts;
-      taken = p.taken ++ q.taken;
-      takes = gains_then a.site.link.taken mid.site.link.taken b.site.link.taken p.taken q.taken p.takes q.takes;
-      few = omega (arith, replies_more p.put q.put, taken_more p.taken q.taken, p.few, q.few);
-    }
+steps_reply_few a b (and_then {mid} steps step) = few-trans a mid b (steps_reply_few a mid steps) (step_few mid b step)

@@ -38,7 +38,7 @@ engine_stays v old new on stays is = record {
 }
 
 -- the journal stays
-stays : (old new : World) → GoesOn old.site.disk new.site.disk → StaysAt old.site.disk new.site.disk 0 → new.engine ≡ old.engine → new.notes.unsure ≡ old.notes.unsure → JournalStands old → JournalStands new
+pub stays : (old new : World) → GoesOn old.site.disk new.site.disk → StaysAt old.site.disk new.site.disk 0 → new.engine ≡ old.engine → new.notes.unsure ≡ old.notes.unsure → JournalStands old → JournalStands new
 stays old new on zero same unsure is = record {
   engine = subst (λ (v : EngineView). IsEngine v new.site) (sym same) (engine_stays old.engine old.site new.site on zero is.engine);
   holds = subst (λ (v : EngineView). AllLeft 0 new.site.disk (HoldsWithUnsure v.history.records new.notes.unsure)) (sym same)
@@ -137,7 +137,7 @@ failed_act old new beat parcel v w error cause is was = by error is.refuses.site
     by (act_error.Full length) e = at_site old new e is.engine unsure was
     by act_error.Broken e = at_site old new e is.engine unsure was
 
-step_ready : (old new : World) → JournalStands old → Step old new → JournalStands new
+pub step_ready : (old new : World) → JournalStands old → Step old new → JournalStands new
 step_ready old new was (opens_clock answer is) = keeps old new is.goes.reaches.disk.disk is.goes.sides.engine (ap (λ (n : Notes). n.unsure) is.goes.notes) was
 step_ready old new was (finds_run_used agent is) = at_site old new is.only.site is.only.sides.engine (ap (λ (n : Notes). n.unsure) is.only.notes) was
 step_ready old new was (asks_clock moment answer is) = keeps old new is.goes.reaches.disk.disk is.goes.sides.engine (ap (λ (n : Notes). n.unsure) is.goes.notes) was

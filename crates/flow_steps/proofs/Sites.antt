@@ -128,5 +128,5 @@ sound_between old mid new file P before after only keeps =
       said = subst (λ (l : LinkView). IsInTime mid.disk.beat l.said) link (in_time_later old.disk.beat mid.disk.beat old.link.said later before.said);
       pending = subst (λ (l : LinkView). IfSome l.pending (λ pending. IfSome l.puts (λ puts. All (WasPutBy puts mid.disk.beat) pending))) link
           (put_by old.disk.beat mid.disk.beat old.link.pending old.link.puts later before.pending);
-      was_put = subst (λ (l : LinkView). IfSome l.taken (λ taken. IfSome l.puts (λ puts. All (λ (e : ℕ × Parcel). WasPutBy puts e.0 e.1) taken))) link before.was_put;
+      was_put = subst (λ (l : LinkView). IfSome l.pending (λ pending. IfSome l.taken (λ taken. IfSome l.puts (λ puts. All (λ (e : ℕ × Parcel). WasPutBy puts e.0 e.1) taken)))) link before.was_put;
     }

@@ -84,7 +84,7 @@ still a old new p records on said owed = record {
   lines = λ k e is. line_stays old.engine.history new.engine.history _ e.1 on (p.lines k e is);
 }
 
-same : (a old new : World) → Speaks a old → new.engine ≡ old.engine → new.site.link.said ≡ old.site.link.said → owed_lines new.phase ≡ owed_lines old.phase → Speaks a new
+pub same : (a old new : World) → Speaks a old → new.engine ≡ old.engine → new.site.link.said ≡ old.site.link.said → owed_lines new.phase ≡ owed_lines old.phase → Speaks a new
 same a old new p e = still a old new p (ap (λ (x : EngineView). x.history.records) e) (on_same old.engine new.engine e)
 
 said_of : (old new : SiteView) → new ≡ old → new.link.said ≡ old.link.said
@@ -167,7 +167,7 @@ more_said a old new bytes at p owed free e n last line gained =
       ];
     }
 
-step_speaks : (a old new : World) → Speaks a old → Step old new → Speaks a new
+pub step_speaks : (a old new : World) → Speaks a old → Step old new → Speaks a new
 step_speaks a old new p (opens_clock answer is) = same a old new p is.goes.sides.engine is.goes.reaches.said (ap owed_lines is.goes.phase ∙ reached_free _ answer ∙ sym (ap owed_lines is.phase))
 step_speaks a old new p (finds_run_used agent is) = same a old new p is.only.sides.engine (said_of old.site new.site is.only.site) (ap owed_lines is.only.phase ∙ sym (ap owed_lines is.phase))
 step_speaks a old new p (asks_clock moment answer is) = same a old new p is.goes.sides.engine is.goes.reaches.said (ap owed_lines is.goes.phase ∙ reached_free moment answer ∙ sym (ap owed_lines is.next.up_to_date.on_time.untold.idle.has_looked.phase))

@@ -11,7 +11,7 @@ use Rattle.flow_engine.specs.EngineView.{EngineView}
 use Rattle.slpf_actuator.specs.ActuatorView.{ActuatorView}
 use Rattle.flow_steps.specs.Appends.{Tries}
 use Rattle.flow_steps.specs.Appends.Tries.{done, failed, limited}
-use Rattle.flow_steps.specs.Sides.{AreFilters, IsFilter, IsWhole}
+use Rattle.flow_steps.specs.Sides.{FiltersReady, IsFilter, IsWhole}
 use Rattle.flow_steps.specs.Stands.{AllStand, EachStands, EachUp}
 use Rattle.flow_steps.specs.Steps.{ActsOn, PutsCommand, Step, Steps}
 use Rattle.flow_steps.specs.Steps.Step.{opens_clock, finds_run_used, asks_clock, finds_late, begins, moves, upgrades, tells, expires, says, fails_to_say}
@@ -139,19 +139,19 @@ is_not_zero : (k : ℕ) → suc k ≢ 0
 is_not_zero k e = absurd (omega (arith, e))
 
 filters_same : (old new : World) → GoesOn old.site.disk new.site.disk → ((file : ℕ) → file ≢ 0 → StaysAt old.site.disk new.site.disk file) → new.filters ≡ old.filters
-    → AreFilters old.filters old.site → AreFilters new.filters new.site
-filters_same old new on stays same is = subst (λ (l : List ActuatorView). AreFilters l new.site) (sym same) (record {
-  all = is.all;
+    → FiltersReady old.filters old.site → FiltersReady new.filters new.site
+filters_same old new on stays same is = subst (λ (l : List ActuatorView). FiltersReady l new.site) (sym same) (record {
+  few = is.few;
   each = λ k v there. filter_at v (suc k) old.site new.site on (stays (suc k) (is_not_zero k)) (is.each k v there);
 })
 
-filters_kept : (old new : World) → KeepsDisk old.site.disk new.site.disk → new.filters ≡ old.filters → AreFilters old.filters old.site → AreFilters new.filters new.site
+filters_kept : (old new : World) → KeepsDisk old.site.disk new.site.disk → new.filters ≡ old.filters → FiltersReady old.filters old.site → FiltersReady new.filters new.site
 filters_kept old new keeps = filters_same old new keeps.goes_on (λ file ne. keeps.stays file)
 
-filters_still : (old new : World) → new.site ≡ old.site → new.filters ≡ old.filters → AreFilters old.filters old.site → AreFilters new.filters new.site
+filters_still : (old new : World) → new.site ≡ old.site → new.filters ≡ old.filters → FiltersReady old.filters old.site → FiltersReady new.filters new.site
 filters_still old new e = filters_same old new (goes_same old.site new.site e) (λ file ne. stays_same old.site new.site file e)
 
-filters_tried : (IsNext : Record → Type 0) (old new : World) → Tries IsNext old new → AreFilters old.filters old.site → IsGoing new.phase → AreFilters new.filters new.site
+filters_tried : (IsNext : Record → Type 0) (old new : World) → Tries IsNext old new → FiltersReady old.filters old.site → IsGoing new.phase → FiltersReady new.filters new.site
 filters_tried IsNext old new (done is) was g = filters_same old new is.appends.adds.offers.file.each.goes_on is.appends.adds.offers.file.others is.filters was
 filters_tried IsNext old new (failed is) was g = stopped _ new.phase _ _ is.phase g
 filters_tried IsNext old new (limited what is) was g = stopped _ new.phase _ _ is.phase g
@@ -175,14 +175,14 @@ get_set (z ∷ xs) (suc k) (suc j) y x is = elim (get_set xs k j y x is) [
   | inr old ↦ inr (λ e. old.0 (omega (arith, e)), old.1)
 ]
 
-filters_acted : (old new : World) (beat : ℕ) (parcel : Parcel) (v w : ActuatorView) → ActsOn beat parcel v w old new → AreFilters old.filters old.site → AreFilters new.filters new.site
+filters_acted : (old new : World) (beat : ℕ) (parcel : Parcel) (v w : ActuatorView) → ActsOn beat parcel v w old new → FiltersReady old.filters old.site → FiltersReady new.filters new.site
 filters_acted old new beat parcel v w is was =
     let file = is.acts.offers.adds.file in
     let disk = is.acts.puts.disk.disk in
     let low = is.holds_command.addressed.low in
     let own : v.agent ≡ parcel.agent = is.holds_command.filter.of_agent in
-    subst (λ (l : List ActuatorView). AreFilters l new.site) (sym is.filters) (record {
-      all = length_set old.filters (parcel.agent - 1) w ∙ was.all;
+    subst (λ (l : List ActuatorView). FiltersReady l new.site) (sym is.filters) (record {
+      few = omega (arith, length_set old.filters (parcel.agent - 1) w, was.few);
       each = λ k x there. elim (get_set old.filters (parcel.agent - 1) k w x there) [
         | inl here ↦
             let e : parcel.agent ≡ suc k = omega (arith, here.0, low) in
@@ -194,7 +194,7 @@ filters_acted old new beat parcel v w is was =
       ];
     })
 
-pub step_filters : (old new : World) → AreFilters old.filters old.site → Step old new → IsGoing new.phase → AreFilters new.filters new.site
+pub step_filters : (old new : World) → FiltersReady old.filters old.site → Step old new → IsGoing new.phase → FiltersReady new.filters new.site
 step_filters old new was (opens_clock answer is) g = filters_kept old new is.goes.reaches.disk.disk is.goes.sides.filters was
 step_filters old new was (finds_run_used agent is) g = stopped _ new.phase _ _ is.only.phase g
 step_filters old new was (asks_clock moment answer is) g = filters_kept old new is.goes.reaches.disk.disk is.goes.sides.filters was

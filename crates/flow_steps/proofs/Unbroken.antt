@@ -1,5 +1,5 @@
 -- Whose file holds just what it is to hold.
-use Rattle.std.proofs.Common.{◌≡◌, ◌⊎◌, inl, inr, ℕ, suc, ◌-◌, false, List, sym, ◌∙◌, subst, ap}
+use Rattle.std.proofs.Common.{◌≡◌, ◌⊎◌, inl, inr, ℕ, suc, ◌-◌, false, List, sym, ◌∙◌, subst, ap, arith}
 use Rattle.std.specs.Prelude.{Option, Some, slice_get, slice_set}
 use Rattle.cacao_site.specs.DiskCalls.{AllLeft, IsLeft}
 use Rattle.run_records.specs.declared.act.Act.{Act}
@@ -60,16 +60,15 @@ filters_stand w is = record {
 }
 
 -- no filter is broken
-AreWhole : List ActuatorView → Type 0
+abbrev pub AreWhole : List ActuatorView → Type 0
 AreWhole filters = (k : ℕ) (v : ActuatorView) → slice_get filters k ≡ Some v → v.broken ≡ false
 
 -- none broke, and no act is unsure that was not; or one refused
-record StaysWhole (old new : World) : Type 0 where
+pub record StaysWhole (old new : World) : Type 0 where
   pub filters : AreWhole old.filters → AreWhole new.filters
   pub unsure : new.notes.unsure_act ≡ old.notes.unsure_act
 
 same : (old new : World) → new.filters ≡ old.filters → new.notes.unsure_act ≡ old.notes.unsure_act → StaysWhole old new ⊎ EndedByFilter old new
-unfolding AreWhole
 same old new filters unsure = inl (record { filters = λ whole k v there. whole k v (subst (λ (l : List ActuatorView). slice_get l k ≡ Some v) filters there); unsure = unsure })
 
 tried : (IsNext : Record → Type 0) (old new : World) → Tries IsNext old new → StaysWhole old new ⊎ EndedByFilter old new
@@ -78,13 +77,12 @@ tried IsNext old new (failed is) = same old new is.filters (ap (λ (n : Notes). 
 tried IsNext old new (limited what is) = same old new is.filters (ap (λ (n : Notes). n.unsure_act) is.notes)
 
 set_whole : (filters : List ActuatorView) (k : ℕ) (w : ActuatorView) → w.broken ≡ false → AreWhole filters → AreWhole (slice_set filters k w)
-unfolding AreWhole
 set_whole filters k w whole all j v there = elim (get_set filters k j w v there) [
   | inl is ↦ subst (λ (x : ActuatorView). x.broken ≡ false) is.1 whole
   | inr was ↦ all j v was.1
 ]
 
-step_stays : (old new : World) → Step old new → StaysWhole old new ⊎ EndedByFilter old new
+pub step_stays : (old new : World) → Step old new → StaysWhole old new ⊎ EndedByFilter old new
 step_stays old new (opens_clock answer is) = same old new is.goes.sides.filters (ap (λ (n : Notes). n.unsure_act) is.goes.notes)
 step_stays old new (finds_run_used agent is) = same old new is.only.sides.filters (ap (λ (n : Notes). n.unsure_act) is.only.notes)
 step_stays old new (asks_clock moment answer is) = same old new is.goes.sides.filters (ap (λ (n : Notes). n.unsure_act) is.goes.notes)
@@ -117,7 +115,6 @@ before_all a b c one nothing = one
 before_all a b c one (and_then {mid} two step) = and_then (before_all a b mid one two) step
 
 filters : (a b : World) → AreFiltersSure a → Steps a b → AreFiltersSure b ⊎ EndedByFilter a b
-unfolding AreWhole
 filters a b is nothing = inl is
 filters a b is (and_then {mid} steps step) = elim (filters a mid is steps) [
   | inl sure ↦ elim (step_stays mid b step) [
@@ -125,7 +122,7 @@ filters a b is (and_then {mid} steps step) = elim (filters a mid is steps) [
         let stand = steps_ready_filters a b (filters_stand a is) (and_then steps step) in
         inl (record {
           filters = record {
-            all = (steps_grow_filters a b (and_then steps step)).many ∙ is.filters.all;
+            few = let many = (steps_grow_filters a b (and_then steps step)).many in omega (arith, many, is.filters.few);
             each = λ k v there. record {
               ready = (stand.each k v there).ready;
               whole = stays.filters (λ j x at. (sure.filters.each j x at).whole) k v there;

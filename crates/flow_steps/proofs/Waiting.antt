@@ -7,7 +7,7 @@ use Rattle.std.proofs.lemmas.List.Elements.{Contains-append_left, Contains-push}
 use Rattle.cacao_site.specs.Counts.{DidNotRise}
 use Rattle.cacao_site.specs.LinkCalls.{Gains, GainsAll, Loses}
 use Rattle.cacao_site.specs.SiteCalls.{Puts}
-use Rattle.cacao_site.specs.View.{ClockView, LinkView, SiteView}
+use Rattle.cacao_site.specs.View.{CountsView, LinkView, SiteView}
 use Rattle.cacao_site.specs.declared.parcel.Parcel.{Parcel}
 use Rattle.oc2_msg.specs.declared.answers.Answer.{Answer}
 use Rattle.run_records.specs.declared.record.Record.{Record}
@@ -35,7 +35,8 @@ use Rattle.flow_steps.specs.Steps.Step.{opens_clock, finds_run_used, asks_clock,
 use Rattle.flow_steps.specs.Steps.Step.{puts_first, resends, takes, finds_none, fails_to_take, drops, replies, ignores_reply, acts_on, repeats_reply, fails_to_act, wants_memory_now}
 use Rattle.flow_steps.specs.Steps.Steps.{nothing, and_then}
 use Rattle.flow_steps.specs.UnderWay.{EachUnderWay, IsInHand, IsPending, NoExpiry, Serves, IsUnderWay}
-use Rattle.flow_steps.specs.Worlds.{Cause, IsGoing, Phase, World, opened, rests, looked, owes, holds, refused}
+use Rattle.flow_steps.specs.Worlds.{Cause, HasAllFilters, IsGoing, Phase, World, opened, rests, looked, owes, holds, refused}
+use Rattle.flow_steps.proofs.Beside.{dropped_for_none, steps_have_all}
 use Rattle.flow_steps.proofs.Issues.{KeepsShown, keeps_shown, put_before, puts_other}
 use Rattle.flow_steps.proofs.Looked.{steps_look}
 use Rattle.flow_steps.proofs.Lost.{steps_put_or_lose}
@@ -128,7 +129,7 @@ going_as p q e g = subst IsGoing (sym e) g
 refused_waits : (w : World) (cause : Cause) (lacks : Bool) → w.phase ≡ refused cause lacks → IsUnderWay w
 refused_waits w cause lacks e = record { each = λ g. absurd (subst IsGoing e g) }
 
-abbrev IsFree : Phase → Type 0
+abbrev pub IsFree : Phase → Type 0
 IsFree p = (beat : ℕ) (parcel : Parcel) → p ≡ holds beat parcel → ⊥
 
 free_opened : (p : Phase) → p ≡ opened → IsFree p
@@ -144,11 +145,11 @@ free_owes : (p : Phase) → p ≡ owes → IsFree p
 free_owes p e beat parcel h = let f : owes ≡ holds beat parcel = sym e ∙ h in cc
 
 -- what was pending where nothing is in hand
-was_pending : (w : World) → IsFree w.phase → IsGoing w.phase → IsUnderWay w → (issue : ℕ) → puts_of w.engine.puts issue ≢ None → IfSome w.site.link.pending (IsPending w.engine.history issue)
+pub was_pending : (w : World) → IsFree w.phase → IsGoing w.phase → IsUnderWay w → (issue : ℕ) → puts_of w.engine.puts issue ≢ None → IfSome w.site.link.pending (IsPending w.engine.history issue)
 was_pending w free going is issue put = elim (is.each going issue put) [ inl hand ↦ absurd (free hand.beat hand.parcel hand.is) | inr pending ↦ pending ]
 
 -- the engine stays, nothing is in hand, and no parcel was taken
-still : (old new : World) → IsFree old.phase → IsGoing old.phase → new.engine ≡ old.engine
+pub still : (old new : World) → IsFree old.phase → IsGoing old.phase → new.engine ≡ old.engine
     → ((issue : ℕ) → IfSome old.site.link.pending (IsPending old.engine.history issue) → IfSome new.site.link.pending (IsPending old.engine.history issue)) → IsUnderWay old → IsUnderWay new
 still old new free going same pending is = record {
   each = λ g issue put. inr (subst (λ (v : EngineView). IfSome new.site.link.pending (IsPending v.history issue)) (sym same)
@@ -207,7 +208,7 @@ reply_hand h p beat parcel moment at back issue next is apart hand =
 
 -- ---- a command was put
 
-command : (old new : World) (issue : ℕ) → IsFree old.phase → IsGoing old.phase → PutsCommand issue old new → DidNotRise old.site.clock.mishaps new.site.clock.mishaps → IsUnderWay old → IsUnderWay new
+command : (old new : World) (issue : ℕ) → IsFree old.phase → IsGoing old.phase → PutsCommand issue old new → DidNotRise old.site.counts.mishaps new.site.counts.mishaps → IsUnderWay old → IsUnderWay new
 command old new issue free going is still_ was =
     let h = old.engine.history in
     let same : new.engine.history ≡ h = ap (λ (v : EngineView). v.history) is.sends.view in
@@ -255,7 +256,7 @@ reply_serves h issue parcel v site bytes filter command final s = record {
 }
 
 replied : (old new : World) (mid : SiteView) (beat : ℕ) (parcel : Parcel) (v : ActuatorView) (bytes : List ℕ) → HoldsCommand beat parcel v old → new.engine ≡ old.engine → mid.link ≡ old.site.link
-    → DidNotRise mid.clock.mishaps new.site.clock.mishaps → Puts (reply_parcel_of v.agent parcel bytes) mid new.site → IsFinalReply bytes → IsUnderWay old → IsUnderWay new
+    → DidNotRise mid.counts.mishaps new.site.counts.mishaps → Puts (reply_parcel_of v.agent parcel bytes) mid new.site → IsFinalReply bytes → IsUnderWay old → IsUnderWay new
 replied old new mid beat parcel v bytes held same link still_ puts final was =
     let h = old.engine.history in
     let gained : Gains old.site.link.pending (reply_parcel_of v.agent parcel bytes) new.site.link.pending =
@@ -302,34 +303,34 @@ took old new parcel at now same lost was = record {
       ]);
 }
 
-between_still : (old mid new : SiteView) → mid.clock ≡ old.clock → DidNotRise old.clock.mishaps new.clock.mishaps → DidNotRise mid.clock.mishaps new.clock.mishaps
-between_still old mid new e still_ = subst (λ (c : ClockView). DidNotRise c.mishaps new.clock.mishaps) (sym e) still_
+between_still : (old mid new : SiteView) → mid.counts ≡ old.counts → DidNotRise old.counts.mishaps new.counts.mishaps → DidNotRise mid.counts.mishaps new.counts.mishaps
+between_still old mid new e still_ = subst (λ (c : CountsView). DidNotRise c.mishaps new.counts.mishaps) (sym e) still_
 
-step_waits : (old new : World) → DidNotRise old.site.clock.mishaps new.site.clock.mishaps → IsUnderWay old → Step old new → IsUnderWay new
-step_waits old new still_ was (opens_clock answer is) = still old new (free_opened old.phase is.phase) (going_as old.phase _ is.phase tt) is.goes.sides.engine (λ issue. pending_more old.engine.history issue old.site.link.pending new.site.link.pending is.goes.reaches.pending.0 is.goes.reaches.pending.1) was
-step_waits old new still_ was (finds_run_used agent is) = refused_waits new _ _ is.only.phase
-step_waits old new still_ was (asks_clock moment answer is) = still old new (free_looked old.phase is.next.up_to_date.on_time.untold.idle.has_looked.phase) (going_as old.phase _ is.next.up_to_date.on_time.untold.idle.has_looked.phase tt) is.goes.sides.engine (λ issue. pending_more old.engine.history issue old.site.link.pending new.site.link.pending is.goes.reaches.pending.0 is.goes.reaches.pending.1) was
-step_waits old new still_ was (finds_late moment is) = refused_waits new _ _ is.only.phase
-step_waits old new still_ was (begins is) = appended _ old new is.whole.engine.history is.whole.engine.put (going_as old.phase _ is.phase tt) was (free_hand _ old.engine.history old.phase (free_rests old.phase is.phase)) is.tries
-step_waits old new still_ was (moves is) = appended _ old new is.has_looked.up.has_file.engine.history is.has_looked.up.has_file.engine.put (going_as old.phase _ is.has_looked.phase tt) was (free_hand _ old.engine.history old.phase (free_looked old.phase is.has_looked.phase)) is.tries
-step_waits old new still_ was (upgrades issue told is) = appended _ old new is.to_be_told.idle.has_looked.up.has_file.engine.history is.to_be_told.idle.has_looked.up.has_file.engine.put (going_as old.phase _ is.to_be_told.idle.has_looked.phase tt) was (free_hand _ old.engine.history old.phase (free_looked old.phase is.to_be_told.idle.has_looked.phase)) is.tries
-step_waits old new still_ was (tells issue told is) = appended _ old new is.to_be_told.idle.has_looked.up.has_file.engine.history is.to_be_told.idle.has_looked.up.has_file.engine.put (going_as old.phase _ is.to_be_told.idle.has_looked.phase tt) was (free_hand _ old.engine.history old.phase (free_looked old.phase is.to_be_told.idle.has_looked.phase)) is.tries
-step_waits old new still_ was (expires issue is) = appended _ old new is.overdue.untold.idle.has_looked.up.has_file.engine.history is.overdue.untold.idle.has_looked.up.has_file.engine.put (going_as old.phase _ is.overdue.untold.idle.has_looked.phase tt) was (free_hand _ old.engine.history old.phase (free_looked old.phase is.overdue.untold.idle.has_looked.phase)) is.tries
-step_waits old new still_ was (says bytes is) = still old new (free_owes old.phase is.speaks.phase) (going_as old.phase _ is.speaks.phase tt) is.speaks.sides.engine (same_pending old new is.speaks.only.pending) was
-step_waits old new still_ was (fails_to_say bytes is) = refused_waits new _ true is.phase
-step_waits old new still_ was (puts_first issue is) = command old new issue (free_rests old.phase is.phase) (going_as old.phase _ is.phase tt) is.puts still_ was
-step_waits old new still_ was (resends issue is) = command old new issue (free_looked old.phase is.due.on_time.untold.idle.has_looked.phase) (going_as old.phase _ is.due.on_time.untold.idle.has_looked.phase tt) is.puts still_ was
-step_waits old new still_ was (takes parcel is) = took old new parcel is.turn.phase is.phase is.sides.engine is.some.pending was
-step_waits old new still_ was (finds_none is) = still old new (free_rests old.phase is.turn.phase) (going_as old.phase _ is.turn.phase tt) is.sides.engine (same_pending old new is.none.pending) was
-step_waits old new still_ was (fails_to_take is) = refused_waits new _ false is.phase
-step_waits old new still_ was (drops beat parcel is) = unserved old new beat parcel is.phase is.ignores.engine is.site (λ issue s. is.why s.addressed) was
-step_waits old new still_ was (replies beat parcel is) = appended _ old new is.up.has_file.engine.history is.up.has_file.engine.put (going_as old.phase _ is.holds_reply.phase tt) was (reply_hand old.engine.history old.phase beat parcel old.site.clock.now is.holds_reply.phase is.holds_reply.back) is.tries
-step_waits old new still_ was (ignores_reply beat parcel is) = unserved old new beat parcel is.holds_reply.phase is.ignores.engine is.site (no_reply old.engine.history parcel is.holds_reply.back is.no_reply) was
-step_waits old new still_ was (acts_on beat parcel v w is) = replied old new is.acts.between beat parcel v _ is.holds_command is.engine is.acts.offers.adds.file.rest.link
-    (between_still old.site is.acts.between new.site is.acts.offers.adds.file.rest.clock still_) is.acts.puts is.acts.final was
-step_waits old new still_ was (repeats_reply beat parcel v w is) = replied old new old.site beat parcel v _ is.holds_command is.ignores.engine refl still_ is.repeats.puts is.repeats.final was
-step_waits old new still_ was (fails_to_act beat parcel v w error cause is) = refused_waits new cause false is.phase
-step_waits old new still_ was (wants_memory_now is) = refused_waits new _ _ is.only.phase
+pub step_waits : (old new : World) → HasAllFilters old → DidNotRise old.site.counts.mishaps new.site.counts.mishaps → IsUnderWay old → Step old new → IsUnderWay new
+step_waits old new all still_ was (opens_clock answer is) = still old new (free_opened old.phase is.phase) (going_as old.phase _ is.phase tt) is.goes.sides.engine (λ issue. pending_more old.engine.history issue old.site.link.pending new.site.link.pending is.goes.reaches.pending.0 is.goes.reaches.pending.1) was
+step_waits old new all still_ was (finds_run_used agent is) = refused_waits new _ _ is.only.phase
+step_waits old new all still_ was (asks_clock moment answer is) = still old new (free_looked old.phase is.next.up_to_date.on_time.untold.idle.has_looked.phase) (going_as old.phase _ is.next.up_to_date.on_time.untold.idle.has_looked.phase tt) is.goes.sides.engine (λ issue. pending_more old.engine.history issue old.site.link.pending new.site.link.pending is.goes.reaches.pending.0 is.goes.reaches.pending.1) was
+step_waits old new all still_ was (finds_late moment is) = refused_waits new _ _ is.only.phase
+step_waits old new all still_ was (begins is) = appended _ old new is.whole.engine.history is.whole.engine.put (going_as old.phase _ is.phase tt) was (free_hand _ old.engine.history old.phase (free_rests old.phase is.phase)) is.tries
+step_waits old new all still_ was (moves is) = appended _ old new is.has_looked.up.has_file.engine.history is.has_looked.up.has_file.engine.put (going_as old.phase _ is.has_looked.phase tt) was (free_hand _ old.engine.history old.phase (free_looked old.phase is.has_looked.phase)) is.tries
+step_waits old new all still_ was (upgrades issue told is) = appended _ old new is.to_be_told.idle.has_looked.up.has_file.engine.history is.to_be_told.idle.has_looked.up.has_file.engine.put (going_as old.phase _ is.to_be_told.idle.has_looked.phase tt) was (free_hand _ old.engine.history old.phase (free_looked old.phase is.to_be_told.idle.has_looked.phase)) is.tries
+step_waits old new all still_ was (tells issue told is) = appended _ old new is.to_be_told.idle.has_looked.up.has_file.engine.history is.to_be_told.idle.has_looked.up.has_file.engine.put (going_as old.phase _ is.to_be_told.idle.has_looked.phase tt) was (free_hand _ old.engine.history old.phase (free_looked old.phase is.to_be_told.idle.has_looked.phase)) is.tries
+step_waits old new all still_ was (expires issue is) = appended _ old new is.overdue.untold.idle.has_looked.up.has_file.engine.history is.overdue.untold.idle.has_looked.up.has_file.engine.put (going_as old.phase _ is.overdue.untold.idle.has_looked.phase tt) was (free_hand _ old.engine.history old.phase (free_looked old.phase is.overdue.untold.idle.has_looked.phase)) is.tries
+step_waits old new all still_ was (says bytes is) = still old new (free_owes old.phase is.speaks.phase) (going_as old.phase _ is.speaks.phase tt) is.speaks.sides.engine (same_pending old new is.speaks.only.pending) was
+step_waits old new all still_ was (fails_to_say bytes is) = refused_waits new _ true is.phase
+step_waits old new all still_ was (puts_first issue is) = command old new issue (free_rests old.phase is.phase) (going_as old.phase _ is.phase tt) is.puts still_ was
+step_waits old new all still_ was (resends issue is) = command old new issue (free_looked old.phase is.due.on_time.untold.idle.has_looked.phase) (going_as old.phase _ is.due.on_time.untold.idle.has_looked.phase tt) is.puts still_ was
+step_waits old new all still_ was (takes parcel is) = took old new parcel is.turn.phase is.phase is.sides.engine is.some.pending was
+step_waits old new all still_ was (finds_none is) = still old new (free_rests old.phase is.turn.phase) (going_as old.phase _ is.turn.phase tt) is.sides.engine (same_pending old new is.none.pending) was
+step_waits old new all still_ was (fails_to_take is) = refused_waits new _ false is.phase
+step_waits old new all still_ was (drops beat parcel is) = unserved old new beat parcel is.phase is.ignores.engine is.site (λ issue s. dropped_for_none old parcel all is.why s.addressed) was
+step_waits old new all still_ was (replies beat parcel is) = appended _ old new is.up.has_file.engine.history is.up.has_file.engine.put (going_as old.phase _ is.holds_reply.phase tt) was (reply_hand old.engine.history old.phase beat parcel old.site.clock.now is.holds_reply.phase is.holds_reply.back) is.tries
+step_waits old new all still_ was (ignores_reply beat parcel is) = unserved old new beat parcel is.holds_reply.phase is.ignores.engine is.site (no_reply old.engine.history parcel is.holds_reply.back is.no_reply) was
+step_waits old new all still_ was (acts_on beat parcel v w is) = replied old new is.acts.between beat parcel v _ is.holds_command is.engine is.acts.offers.adds.file.rest.link
+    (between_still old.site is.acts.between new.site is.acts.offers.adds.file.rest.counts still_) is.acts.puts is.acts.final was
+step_waits old new all still_ was (repeats_reply beat parcel v w is) = replied old new old.site beat parcel v _ is.holds_command is.ignores.engine refl still_ is.repeats.puts is.repeats.final was
+step_waits old new all still_ was (fails_to_act beat parcel v w error cause is) = refused_waits new cause false is.phase
+step_waits old new all still_ was (wants_memory_now is) = refused_waits new _ _ is.only.phase
 
 -- ---- all
 
@@ -337,15 +338,15 @@ still_parts : (a mid b : ℕ) → a ≤ mid → mid ≤ b → DidNotRise a b →
 still_parts a mid b le le' is = ((omega (arith, le, le', is.0), is.1), (omega (arith, le, le', is.0), omega (arith, le, le', is.0, is.1)))
 
 pub steps_wait : EachUnderWay
-steps_wait a b none still_ nothing = record { each = λ g issue put. absurd (put (ap (λ (o : OpenIssues). puts_of o issue) none)) }
-steps_wait a b none still_ (and_then {mid} steps step) =
+steps_wait a b all none still_ nothing = record { each = λ g issue put. absurd (put (ap (λ (o : OpenIssues). puts_of o issue) none)) }
+steps_wait a b all none still_ (and_then {mid} steps step) =
     let before = steps_put_or_lose a mid steps in
     let behind = steps_put_or_lose mid b (and_then nothing step) in
-    let parts = still_parts a.site.clock.mishaps mid.site.clock.mishaps b.site.clock.mishaps before.later behind.later still_ in
-    step_waits mid b parts.1 (steps_wait a mid none parts.0 steps) step
+    let parts = still_parts a.site.counts.mishaps mid.site.counts.mishaps b.site.counts.mishaps before.later behind.later still_ in
+    step_waits mid b (steps_have_all a mid all steps) parts.1 (steps_wait a mid all none parts.0 steps) step
 
 -- an issue with a deadline was put
-has_put : (v : EngineView) (issue moment : ℕ) → is_by moment (put_deadline v issue) ≡ true → puts_of v.puts issue ≢ None
+pub has_put : (v : EngineView) (issue moment : ℕ) → is_by moment (put_deadline v issue) ≡ true → puts_of v.puts issue ≢ None
 has_put v issue moment due none = by (puts_of v.puts issue) refl none due
   where
     by : (o : Option PutsOf) → puts_of v.puts issue ≡ o → o ≡ None
@@ -353,14 +354,14 @@ has_put v issue moment due none = by (puts_of v.puts issue) refl none due
     by None e n d = absurd (false≢true d)
     by (Some p) e n d = absurd (none-some p (sym n))
 
-nothing_pending : (h : HistoryView) (issue : ℕ) (o : Option (List Parcel)) → IsSome o → IfSome o (λ pending. pending ≡ []) → IfSome o (IsPending h issue) → ⊥
+pub nothing_pending : (h : HistoryView) (issue : ℕ) (o : Option (List Parcel)) → IsSome o → IfSome o (λ pending. pending ≡ []) → IfSome o (IsPending h issue) → ⊥
 nothing_pending h issue None some none is = false≢true some
 nothing_pending h issue (Some l) some none is = let has = subst (λ (x : List Parcel). Contains x is.parcel) none is.has in absurd (omega (arith, has.1))
 
 pub no_expiry : NoExpiry
-no_expiry a old new none not_looked still_ steps told issue is =
+no_expiry a old new all none not_looked still_ steps told issue is =
     let phase = is.overdue.untold.idle.has_looked.phase in
-    let waits_ = steps_wait a old none still_ steps in
+    let waits_ = steps_wait a old all none still_ steps in
     let put = has_put old.engine issue old.site.clock.now is.overdue.first.0 in
     nothing_pending old.engine.history issue old.site.link.pending told (steps_look a old not_looked steps phase).none
     (was_pending old (free_looked old.phase phase) (going_as old.phase _ phase tt) waits_ issue put)

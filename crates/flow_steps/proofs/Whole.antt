@@ -17,6 +17,7 @@ use Rattle.flow_steps.specs.Worlds.{Notes, Phase, World, opened, rests, looked, 
 use Rattle.flow_steps.specs.Written.{header_bytes_left, noted_bytes, record_bytes}
 use Rattle.flow_steps.proofs.Adding.{steps_add, steps_same_given}
 use Rattle.flow_steps.proofs.Asked.{steps_ask, steps_ignore_few}
+use Rattle.flow_steps.proofs.Beside.{commands_acted, steps_have_all}
 use Rattle.flow_steps.proofs.Complete.{steps_complete}
 use Rattle.flow_steps.proofs.Costs.{steps_cost}
 use Rattle.flow_steps.proofs.Counted.{steps_count_few}
@@ -78,6 +79,7 @@ nine_each (v ∷ filters) = let rest = nine_each filters in omega (arith, rest, 
 pub steps_add_up : EachAddsUp
 steps_add_up a b given run most answers is steps =
     let adds = steps_add a b steps in
+    let handles = steps_handle a b (subst (λ (p : Phase). IsAtHand p []) (sym is.phase) refl) steps in
     let left : a.notes.left ≡ most = ap (λ (n : Notes). n.left) is.notes in
     let acted : length a.notes.acted ≡ 0 = ap (λ (n : Notes). length n.acted) is.notes in
     let ignored : a.notes.ignored ≡ 0 = ap (λ (n : Notes). n.ignored) is.notes in
@@ -97,7 +99,7 @@ steps_add_up a b given run most answers is steps =
       given = steps_same_given a b steps;
       speaks = steps_speak a b (ap owes_line is.phase) steps;
       asks_only = steps_ask a b steps;
-      handles = steps_handle a b (subst (λ (p : Phase). IsAtHand p []) (sym is.phase) refl) steps;
+      handles = handles;
       noted = steps_put_few a b steps;
       counted = steps_count_few a b (counted_first a given run most answers is) steps;
       puts_or_lost = steps_put_or_lose a b steps;
@@ -107,8 +109,9 @@ steps_add_up a b given run most answers is steps =
       filters = steps_ready_filters a b (filters_stand a filters_sure) steps;
       grow = steps_grow_filters a b steps;
       unbroken = steps_unbroken a b journal_sure filters_sure steps;
-      waits = λ still_. steps_wait a b is.no_puts still_ steps;
-      complete = λ told still_. steps_complete a b is.phase is.no_puts (journal_stands a journal_sure) told still_ steps;
-      written = omega (arith, written, bytes, none, all_left, nine_each a.filters, is.filters.all, nine_at_most a.engine.history.prepared);
-      calls = omega (arith, (steps_cost a b steps).calls, going, free, acted, long, two_each a.filters, is.filters.all, two_at_most a.engine.history.prepared, slack_at_most b.phase);
+      acts = λ all. commands_acted a b handles (steps_have_all a b all steps);
+      waits = λ all still_. steps_wait a b all is.no_puts still_ steps;
+      complete = λ all told still_. steps_complete a b all is.phase is.no_puts (journal_stands a journal_sure) told still_ steps;
+      written = omega (arith, written, bytes, none, all_left, nine_each a.filters, nine_at_most a.engine.history.prepared);
+      calls = omega (arith, (steps_cost a b steps).calls, going, free, acted, long, two_each a.filters, two_at_most a.engine.history.prepared, slack_at_most b.phase);
     }

@@ -83,7 +83,7 @@ pub record IsShort (a b : World) (moment : ℕ) : Type 0 where
 -- What shows the cause of an end, from a world to the last one. Want of memory is free.
 abbrev pub Shows : Phase → World → World → Type 0
 Shows (refused disk_failed lacks) a b = Rose a.site.disk.faults b.site.disk.faults
-Shows (refused not_said lacks) a b = Rose a.site.clock.unsaid b.site.clock.unsaid × (lacks ≡ true)
+Shows (refused not_said lacks) a b = Rose a.site.counts.unsaid b.site.counts.unsaid × (lacks ≡ true)
 Shows (refused (run_used agent) lacks) a b = IsFirstWithRun b agent
 Shows (refused (past limit.Moment) lacks) a b = IsLate b
 Shows (refused (past what) lacks) a b = WouldPass b what
@@ -93,7 +93,7 @@ Shows other a b = ⊤
 -- Each end has its cause; and the counts of faults never fall.
 pub record HasCause (a b : World) : Type 0 where
   pub faults : a.site.disk.faults ≤ b.site.disk.faults
-  pub unsaid : a.site.clock.unsaid ≤ b.site.clock.unsaid
+  pub unsaid : a.site.counts.unsaid ≤ b.site.counts.unsaid
   pub shows : Shows b.phase a b
 
 abbrev pub EachCause : Type 0

@@ -15,7 +15,7 @@ use Rattle.flow_steps.specs.Agreement.{HasKept}
 use Rattle.flow_steps.specs.Ready.{JournalStands}
 use Rattle.flow_steps.specs.Steps.{Steps}
 use Rattle.flow_steps.specs.Unbroken.{AreFiltersSure, IsJournalSure}
-use Rattle.flow_steps.specs.Worlds.{World, opened}
+use Rattle.flow_steps.specs.Worlds.{World, HasAllFilters, opened}
 
 -- no issue expires by this record
 abbrev pub IsNoExpire : Record → Type 0
@@ -56,15 +56,18 @@ pub record HasActed (w : World) (issue : ℕ) (P : List ℕ → Type 0) : Type 0
   pub there : slice_get w.filters (agent - 1) ≡ Some v
   pub reply : HasReply v.acts w.engine.history.seen.run issue P
 
--- so it is of each Reply of the journal, with what the reply reads as, where agreement was kept and the files are whole
+-- So it is of each Reply of the journal, with what the reply reads as, where agreement was kept, the files are whole and each
+-- agent's filter stands here.
 abbrev pub EachReplyActed : Type 0
-EachReplyActed = (start : SiteView) (w : World) → HasKept start w → IsSound w.site → IsJournalSure w → AreFiltersSure w
+EachReplyActed =
+    (start : SiteView) (w : World) → HasKept start w → IsSound w.site → IsJournalSure w → AreFiltersSure w → HasAllFilters w
     → (issue moment status rule : ℕ) (text : List ℕ)
     → Contains w.engine.history.records (entry.Reply issue moment status rule text) → HasActed w issue (ReadsAs status rule text)
 
 -- ---- a session that lost nothing
 
--- from an opening where nothing was put, while no parcel is lost, doubled or held back, and pending parcels are told
+-- from an opening of all filters where nothing was put, while no parcel is lost, doubled or held back, and pending ones are told
 abbrev pub EachComplete : Type 0
-EachComplete = (a b : World) → a.phase ≡ opened → a.engine.puts ≡ [] → JournalStands a → IsSome a.site.link.pending
-    → DidNotRise a.site.clock.mishaps b.site.clock.mishaps → Steps a b → IsComplete a b
+EachComplete =
+    (a b : World) → HasAllFilters a → a.phase ≡ opened → a.engine.puts ≡ [] → JournalStands a → IsSome a.site.link.pending
+    → DidNotRise a.site.counts.mishaps b.site.counts.mishaps → Steps a b → IsComplete a b

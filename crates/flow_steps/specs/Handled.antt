@@ -9,9 +9,9 @@ use Rattle.run_records.specs.declared.record.Record.TheVariants as entry
 use Rattle.run_records.specs.declared.act.Act.{Act}
 use Rattle.flow_engine.specs.EngineCalls.{IsReplyTo}
 use Rattle.slpf_actuator.specs.ActuatorView.{ActuatorView}
-use Rattle.flow_steps.specs.Steps.{IsAddressed, Steps}
+use Rattle.flow_steps.specs.Steps.{Drops, IsAddressed, LacksFilter, Steps}
 use Rattle.flow_steps.specs.Sums.{total}
-use Rattle.flow_steps.specs.Worlds.{World, Phase, holds, refused}
+use Rattle.flow_steps.specs.Worlds.{World, HasAllFilters, Phase, holds, refused}
 
 -- a Reply is of a reply that was taken: one of this run and issue, whose bytes read as it says
 abbrev pub IsTakenReply : ℕ → List (ℕ × Parcel) → Record → Type 0
@@ -73,15 +73,15 @@ IsAtHand (holds beat parcel) parcels = parcels ≡ (beat, parcel) ∷ []
 IsAtHand (refused cause lacks) parcels = length parcels ≤ 1
 IsAtHand other parcels = parcels ≡ []
 
--- The parcels taken, and what became of them: each command has its act and each reply its Reply, where it is one; each act and
--- each Reply is of a parcel that was taken, also one that may stand behind the others after a fault; and each parcel handed on
--- made an act, or a Reply, or is counted as one that changed nothing.
+-- The parcels taken, and what became of them: each command has its act, where a filter stands here for its agent, and each reply
+-- its Reply, where it is one; each act and each Reply is of a parcel that was taken, also one that may stand behind the others
+-- after a fault; and each parcel handed on made an act, or a Reply, or is counted as one that changed nothing.
 pub record Handles (a b : World) : Type 0 where
   pub handled : List (ℕ × Parcel)
   pub at_hand : List (ℕ × Parcel)
   pub takes : GainsAll a.site.link.taken (handled ++ at_hand) b.site.link.taken
   pub open_one : IsAtHand b.phase at_hand
-  pub commands : All (λ e. IsCommand e.1 → HasItsAct b e.1) handled
+  pub commands : All (λ e. IsCommand e.1 → HasItsAct b e.1 ⊎ LacksFilter b e.1) handled
   pub replies : (front back : List (ℕ × Parcel)) (e : ℕ × Parcel) → handled ≡ front ++ e ∷ back
       → IsBack e.1 → HasItsReply b e.1 ⊎ WasNoReply a b front e
   pub acted : List (ℕ × Act)
@@ -96,3 +96,8 @@ pub record Handles (a b : World) : Type 0 where
 
 abbrev pub EachHandles : Type 0
 EachHandles = (a b : World) → IsAtHand a.phase [] → Steps a b → Handles a b
+
+-- where each agent's filter stands, only a parcel for no agent, or with too many bytes, is dropped
+abbrev pub DropsUnaddressed : Type 0
+DropsUnaddressed =
+    (beat : ℕ) (parcel : Parcel) (old new : World) → HasAllFilters old → Drops beat parcel old new → IsAddressed parcel → ⊥

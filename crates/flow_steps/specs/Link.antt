@@ -85,8 +85,8 @@ pub record PutsOrLost (a b : World) : Type 0 where
   pub put : List (ℕ × Parcel)
   pub puts : GainsAll a.site.link.puts put b.site.link.puts
   pub lost : List ℕ
-  pub later : a.site.clock.mishaps ≤ b.site.clock.mishaps
-  pub few : (a.site.clock.mishaps + length lost ≤ b.site.clock.mishaps) ⊎ (last_count ≤ b.site.clock.mishaps)
+  pub later : a.site.counts.mishaps ≤ b.site.counts.mishaps
+  pub few : (a.site.counts.mishaps + length lost ≤ b.site.counts.mishaps) ⊎ (last_count ≤ b.site.counts.mishaps)
   pub each : (issue : ℕ)
       → times issue b.notes.put ≤ times issue a.notes.put + commands_of a.engine.history.seen.run issue put + times issue lost
 

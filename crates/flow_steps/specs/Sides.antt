@@ -1,5 +1,5 @@
 -- The engine and the filters of a session between calls.
-use Rattle.std.specs.Prelude.{◌≡◌, ◌≢◌, ◌⊎◌, ℕ, suc, false, List, [], ◌∷◌, ◌++◌, length, Option, Some, None, slice_get, nat_eq, ◌+◌, if◌then◌else◌}
+use Rattle.std.specs.Prelude.{◌≡◌, ◌≢◌, ◌⊎◌, ℕ, ◌≤◌, suc, false, List, [], ◌∷◌, ◌++◌, length, Option, Some, None, slice_get, nat_eq, ◌+◌, if◌then◌else◌}
 use Rattle.cacao_site.specs.View.{SiteView}
 use Rattle.run_records.specs.declared.record.Record.{Record}
 use Rattle.engine_history.specs.HistoryView.{HoldsRecords, IsReady}
@@ -33,7 +33,12 @@ pub record IsFilter (v : ActuatorView) (agent : ℕ) (site : SiteView) : Type 0 
   pub whole : v.broken ≡ false
   pub of_agent : v.agent ≡ agent
 
--- the filters of agents 1 to 16, in order
+-- the filters of agents 1, 2 and so on, in order: at most sixteen, or none
+pub record FiltersReady (filters : List ActuatorView) (site : SiteView) : Type 0 where
+  pub few : length filters ≤ 16
+  pub each : (k : ℕ) (v : ActuatorView) → slice_get filters k ≡ Some v → IsFilter v (suc k) site
+
+-- those of all agents, 1 to 16
 pub record AreFilters (filters : List ActuatorView) (site : SiteView) : Type 0 where
   pub all : length filters ≡ 16
   pub each : (k : ℕ) (v : ActuatorView) → slice_get filters k ≡ Some v → IsFilter v (suc k) site

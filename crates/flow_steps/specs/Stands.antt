@@ -1,14 +1,14 @@
 -- What stands at each world of a session that goes on: files, a run that has begun, the commands that were put, and the clock.
 use Rattle.std.specs.Prelude.{◌≡◌, ◌≢◌, true}
 use Rattle.flow_rules.specs.Changes.{is_in_time}
-use Rattle.flow_steps.specs.Sides.{AllPut, AreFilters, IsUp, IsWhole}
+use Rattle.flow_steps.specs.Sides.{AllPut, FiltersReady, IsUp, IsWhole}
 use Rattle.flow_steps.specs.Steps.{Steps}
 use Rattle.flow_steps.specs.Worlds.{World, IsGoing, opened, looked}
 
 -- the journal's file holds its records, and that of each filter its acts
 pub record AllStand (w : World) : Type 0 where
   pub engine : IsWhole w.engine w.site
-  pub filters : AreFilters w.filters w.site
+  pub filters : FiltersReady w.filters w.site
 
 -- So it stays while a session goes on,
 abbrev pub EachStands : Type 0

@@ -56,21 +56,21 @@ pub record GoesTowards (moment answer : ℕ) (old new : World) : Type 0 where
   pub notes : new.notes ≡ record old.notes { asked = Some moment }
   pub phase : new.phase ≡ after_reach moment answer
 
--- a filter has an act of the run
+-- a filter that stands here has an act of the run
 pub record HasRun (w : World) (agent : ℕ) : Type 0 where
   pub v : ActuatorView
   pub there : slice_get w.filters (agent - 1) ≡ Some v
   pub has : Any (λ (act : Act). act.run ≡ w.engine.history.seen.run) v.acts
 
--- The opening, once all files are open: no filter has an act of a run whose journal is empty, and the clock is asked for the
--- moment of the last record, 0 where there is none.
+-- The opening, once all files are open: no filter that stands here has an act of a run whose journal is empty, and the clock is
+-- asked for the moment of the last record, 0 where there is none.
 pub record OpensClock (answer : ℕ) (old new : World) : Type 0 where
   pub phase : old.phase ≡ opened
   pub whole : IsWhole old.engine old.site
   pub unused : old.engine.history.records ≡ [] → (agent : ℕ) → 1 ≤ agent → agent ≤ 16 → HasRun old agent → ⊥
   pub goes : GoesTowards old.engine.history.seen.moment answer old new
 
--- the journal is empty, and this is the least filter that has an act of the run
+-- the journal is empty, and of the filters that stand here this is the least that has an act of the run
 pub record FindsRunUsed (agent : ℕ) (old new : World) : Type 0 where
   pub phase : old.phase ≡ opened
   pub empty : old.engine.history.records ≡ []
@@ -147,14 +147,14 @@ pub record Speaks (bytes : List ℕ) (old new : World) : Type 0 where
 pub record Says (bytes : List ℕ) (old new : World) : Type 0 where
   pub speaks : Speaks bytes old new
   pub said : Gains old.site.link.said (new.site.disk.beat, bytes) new.site.link.said
-  pub counted : new.site.clock.unsaid ≡ old.site.clock.unsaid
+  pub counted : new.site.counts.unsaid ≡ old.site.counts.unsaid
   pub phase : new.phase ≡ rests
 
 -- or it was not, and that was counted
 pub record FailsToSay (bytes : List ℕ) (old new : World) : Type 0 where
   pub speaks : Speaks bytes old new
   pub unsaid : new.site.link.said ≡ old.site.link.said
-  pub counted : new.site.clock.unsaid ≡ next_count old.site.clock.unsaid
+  pub counted : new.site.counts.unsaid ≡ next_count old.site.counts.unsaid
   pub phase : new.phase ≡ refused not_said true
 
 -- ---- commands
@@ -226,10 +226,16 @@ pub record Ignores (old new : World) : Type 0 where
   pub notes : new.notes ≡ record old.notes { ignored = old.notes.ignored + 1 }
   pub phase : new.phase ≡ rests
 
--- one for no agent, or with too many bytes, is dropped
+-- a command for whose agent no filter stands here
+pub record LacksFilter (w : World) (parcel : Parcel) : Type 0 where
+  pub addressed : IsAddressed parcel
+  pub is_command : parcel.back ≡ false
+  pub none : slice_get w.filters (parcel.agent - 1) ≡ None
+
+-- A parcel for no agent, or with too many bytes, is dropped, and so is a command for whose agent no filter stands here.
 pub record Drops (beat : ℕ) (parcel : Parcel) (old new : World) : Type 0 where
   pub phase : old.phase ≡ holds beat parcel
-  pub why : IsAddressed parcel → ⊥
+  pub why : (IsAddressed parcel → ⊥) ⊎ LacksFilter old parcel
   pub site : new.site ≡ old.site
   pub ignores : Ignores old new
 

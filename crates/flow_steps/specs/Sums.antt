@@ -1,6 +1,7 @@
 -- What a session adds up to, from any of its worlds to a later one.
 use Rattle.std.specs.Prelude.{◌≡◌, ◌⊎◌, ℕ, ◌+◌, ◌*◌, ◌≤◌, Bool, true, false, List, [], ◌∷◌, ◌++◌, length, All, Some, slice_get}
 use Rattle.cacao_site.specs.LinkCalls.{GainsAll}
+use Rattle.cacao_site.specs.View.{device_calls}
 use Rattle.run_journal.specs.Durable.{header_calls}
 use Rattle.run_records.specs.declared.record.Record.{Record}
 use Rattle.run_records.specs.Ranges.{last_moment}
@@ -115,9 +116,9 @@ headers w = header_calls w.engine.history.prepared + total (λ (v : ActuatorView
 -- Device calls and calls of `say`: four for each record and act, one for each line, two for each header; after a refusal five
 -- more at most.
 pub record Costs (a b : World) : Type 0 where
-  pub calls : b.site.disk.calls + if_going b.phase (headers b) + owed_lines b.phase + 5 * length a.engine.history.records
+  pub calls : device_calls b.site + if_going b.phase (headers b) + owed_lines b.phase + 5 * length a.engine.history.records
       + 4 * length a.notes.acted
-      ≤ a.site.disk.calls + if_going a.phase (headers a) + owed_lines a.phase + 5 * length b.engine.history.records
+      ≤ device_calls a.site + if_going a.phase (headers a) + owed_lines a.phase + 5 * length b.engine.history.records
       + 4 * length b.notes.acted + slack b.phase
 
 abbrev pub EachCosts : Type 0

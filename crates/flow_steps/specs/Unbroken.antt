@@ -4,7 +4,7 @@ use Rattle.cacao_site.specs.declared.parcel.Parcel.{Parcel}
 use Rattle.run_records.specs.declared.record.Record.{Record}
 use Rattle.slpf_actuator.specs.ActuatorView.{ActuatorView}
 use Rattle.slpf_actuator.specs.declared.error.ActError.{ActError}
-use Rattle.flow_steps.specs.Sides.{AreFilters, IsWhole}
+use Rattle.flow_steps.specs.Sides.{FiltersReady, IsWhole}
 use Rattle.flow_steps.specs.Steps.{FailsToAct, Steps}
 use Rattle.flow_steps.specs.Unsure.{UnsureByStep}
 use Rattle.flow_steps.specs.Worlds.{Cause, World}
@@ -28,7 +28,7 @@ pub record IsJournalSure (w : World) : Type 0 where
 
 -- each image of a filter's file stands for its acts
 pub record AreFiltersSure (w : World) : Type 0 where
-  pub filters : AreFilters w.filters w.site
+  pub filters : FiltersReady w.filters w.site
   pub sure : w.notes.unsure_act ≡ None
 
 -- So it is of the journal, but where the disk failed while a record was appended; and of the filters, but where one refused.

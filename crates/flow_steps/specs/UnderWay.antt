@@ -8,7 +8,7 @@ use Rattle.engine_history.specs.HistoryView.{HistoryView}
 use Rattle.flow_engine.specs.EngineCalls.{IsReplyTo, IsWaiting, command_of}
 use Rattle.flow_engine.specs.OpenIssues.{puts_of}
 use Rattle.flow_steps.specs.Steps.{Expires, IsAddressed, Steps}
-use Rattle.flow_steps.specs.Worlds.{World, Phase, IsGoing, holds, looked}
+use Rattle.flow_steps.specs.Worlds.{World, Phase, HasAllFilters, IsGoing, holds, looked}
 
 -- the parcel is the command of an issue that waits
 pub record IsItsCommand (h : HistoryView) (issue : ℕ) (parcel : Parcel) : Type 0 where
@@ -45,13 +45,15 @@ pub record IsUnderWay (w : World) : Type 0 where
   pub each : IsGoing w.phase → (issue : ℕ) → puts_of w.engine.puts issue ≢ None
       → IsInHand w.engine.history issue w.phase ⊎ IfSome w.site.link.pending (IsPending w.engine.history issue)
 
--- from a world where nothing was put, while no parcel is lost, doubled or held back
+-- from a world where nothing was put and each agent's filter stands, while no parcel is lost, doubled or held back
 abbrev pub EachUnderWay : Type 0
 EachUnderWay =
-    (a b : World) → a.engine.puts ≡ [] → DidNotRise a.site.clock.mishaps b.site.clock.mishaps → Steps a b → IsUnderWay b
+    (a b : World) → HasAllFilters a → a.engine.puts ≡ [] → DidNotRise a.site.counts.mishaps b.site.counts.mishaps → Steps a b
+    → IsUnderWay b
 
 -- So no issue expires, where pending parcels are told.
 abbrev pub NoExpiry : Type 0
 NoExpiry =
-    (a old new : World) → a.engine.puts ≡ [] → a.phase ≢ looked → DidNotRise a.site.clock.mishaps old.site.clock.mishaps
-    → Steps a old → IsSome old.site.link.pending → (issue : ℕ) → Expires issue old new → ⊥
+    (a old new : World) → HasAllFilters a → a.engine.puts ≡ [] → a.phase ≢ looked
+    → DidNotRise a.site.counts.mishaps old.site.counts.mishaps → Steps a old → IsSome old.site.link.pending
+    → (issue : ℕ) → Expires issue old new → ⊥

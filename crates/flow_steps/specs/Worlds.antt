@@ -1,5 +1,5 @@
 -- What a session keeps in view: the site, the engine, the filters, what it remembers, and what it has to do next.
-use Rattle.std.specs.Prelude.{ℕ, Bool, true, false, List, Option, ⊤}
+use Rattle.std.specs.Prelude.{◌≡◌, ℕ, Bool, true, false, List, length, Option, ⊤}
 use Rattle.cacao_site.specs.View.{SiteView}
 use Rattle.cacao_site.specs.declared.parcel.Parcel.{Parcel}
 use Rattle.run_records.specs.declared.record.Record.{Record}
@@ -41,9 +41,13 @@ pub record Notes : Type 0 where
 pub record World : Type 0 where
   pub site : SiteView
   pub engine : EngineView
-  pub filters : List ActuatorView  -- of agents 1 to 16, in order
+  pub filters : List ActuatorView  -- those that stand here: of agents 1, 2 and so on, in order
   pub notes : Notes
   pub phase : Phase
+
+-- a filter stands here for each of the agents 1 to 16
+abbrev pub HasAllFilters : World → Type 0
+HasAllFilters w = length w.filters ≡ 16
 
 -- whether a record's line is owed, or was not said
 abbrev pub owes_line : Phase → Bool

@@ -5,7 +5,7 @@ ghost use Rattle.flow_steps.specs.Agreement.{StepsKeepAgreement};
 ghost use Rattle.flow_steps.specs.Causes.{EachActed, EachCause, EachEnded, EachSteady};
 ghost use Rattle.flow_steps.specs.Complete.{EachComplete, EachReplyActed};
 ghost use Rattle.flow_steps.specs.Grown.{EachFiltersGrow};
-ghost use Rattle.flow_steps.specs.Handled.{EachHandles};
+ghost use Rattle.flow_steps.specs.Handled.{DropsUnaddressed, EachHandles};
 ghost use Rattle.flow_steps.specs.Link.{EachCountsFew, EachPutsFew, EachPutsInTime, EachPutsOrLost, EachRepliesFew};
 ghost use Rattle.flow_steps.specs.Ready.{EachFilterReady, EachLooked, EachReady};
 ghost use Rattle.flow_steps.specs.Sums.{EachAdds, EachAsksOnly, EachCame, EachCosts, EachSameGiven, EachSpeaks, IgnoresFew};
@@ -36,6 +36,7 @@ pub fn steps_laws()
     ensures replies_few { EachRepliesFew }
     ensures counts { EachCountsFew }
     ensures handles { EachHandles }
+    ensures drops { DropsUnaddressed }
     ensures puts_or_lost { EachPutsOrLost }
     ensures puts_in_time { EachPutsInTime }
     ensures under_way { EachUnderWay }

@@ -4,10 +4,10 @@ use Rattle.std.specs.Prelude.{Option, Some, None}
 use Rattle.flow_rules.specs.Changes.{outcome}
 use Rattle.flow_rules.specs.Moves.{asks}
 use Rattle.flow_steps.specs.Worlds.{Phase, World, Cause, looked, refused, rests, waits}
-use Rattle.flow_world.specs.Closes.{IsClose}
+use Rattle.flow_world_parts.specs.Closes.{IsClose}
 use Rattle.flow_world.specs.Laws.{ClosesAreNoRefusals, ClosesAreOne}
-use Rattle.flow_world.specs.declared.close.Close.{Close}
-use Rattle.flow_world.specs.declared.close.Close.TheVariants as close
+use Rattle.flow_world_parts.specs.declared.close.Close.{Close}
+use Rattle.flow_world_parts.specs.declared.close.Close.TheVariants as close
 
 abbrev phase_of : Close → Phase
 phase_of (close.Waiting moment) = waits moment

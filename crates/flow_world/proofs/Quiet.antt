@@ -18,9 +18,9 @@ use Rattle.flow_steps.specs.Agreement.{HasKept}
 use Rattle.flow_steps.specs.Steps.{Steps}
 use Rattle.flow_steps.specs.Worlds.{World, holds, opened}
 use Rattle.flow_steps.proofs.Agreement.{steps_keep_agreement}
-use Rattle.flow_world.specs.Openings.{AreOpen, OpensFile, OpensFilters, RefusesOpening}
+use Rattle.flow_world_parts.specs.Openings.{AreOpen, OpensFile, OpensFilters, RefusesOpening}
 use Rattle.flow_world.specs.Sessions.{IsStart, KeepsAgreement}
-use Rattle.flow_world.specs.declared.error.WorldError.{WorldError}
+use Rattle.flow_world_parts.specs.declared.error.WorldError.{WorldError}
 
 -- nothing was written, put or said, and each image was one before
 record IsQuiet (a b : SiteView) : Type 0 where

@@ -6,12 +6,12 @@ use Rattle.operator_answers.specs.declared.answers.OperatorAnswer.{OperatorAnswe
 use Rattle.flow_rules.specs.Givens.{Given}
 use Rattle.flow_steps.specs.Worlds.{Cause, disk_failed, refused}
 use Rattle.flow_steps.proofs.Steady.{steps_steady}
-use Rattle.flow_world.specs.Closes.{refusal_of}
+use Rattle.flow_world_parts.specs.Closes.{refusal_of}
 use Rattle.flow_world.specs.Laws.{ClosesAreSteady, RefusalsAreSteady}
 use Rattle.flow_world.specs.Sessions.{HasClosed, HasRefused, Went}
-use Rattle.flow_world.specs.declared.close.Close.{Close}
-use Rattle.flow_world.specs.declared.error.WorldError.{WorldError}
-use Rattle.flow_world.specs.declared.error.WorldError.TheVariants as world_error
+use Rattle.flow_world_parts.specs.declared.close.Close.{Close}
+use Rattle.flow_world_parts.specs.declared.error.WorldError.{WorldError}
+use Rattle.flow_world_parts.specs.declared.error.WorldError.TheVariants as world_error
 use Rattle.flow_world.proofs.CloseLemmas.{closes_are_no_refusals}
 
 same_cause : (one other : Cause) (lacks lacked : Bool) → refused one lacks ≡ refused other lacked → one ≡ other

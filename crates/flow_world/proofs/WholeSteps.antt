@@ -12,12 +12,12 @@ use Rattle.flow_steps.specs.Whole.{IsOpened, blank_notes}
 use Rattle.flow_steps.specs.Worlds.{World, opened}
 use Rattle.flow_steps.proofs.Caused.{steps_cause}
 use Rattle.flow_steps.proofs.Whole.{steps_add_up}
-use Rattle.flow_world.specs.Leads.{ClosesAt, EndedAt, IsNewTo, RefusesAt, at}
-use Rattle.flow_world.specs.Openings.{AreOpen}
+use Rattle.flow_world_parts.specs.Leads.{ClosesAt, EndedAt, IsNewTo, RefusesAt, at}
+use Rattle.flow_world_parts.specs.Openings.{AreOpen}
 use Rattle.flow_world.specs.Sessions.{HasClosed, HasRefused, IsStart, KeepsAgreement, Went}
-use Rattle.flow_world.specs.declared.close.Close.{Close}
-use Rattle.flow_world.specs.declared.error.WorldError.{WorldError}
-use Rattle.flow_world.proofs.OpenSteps.{filters_after, whole_after}
+use Rattle.flow_world_parts.specs.declared.close.Close.{Close}
+use Rattle.flow_world_parts.specs.declared.error.WorldError.{WorldError}
+use Rattle.flow_world_parts.proofs.OpenSteps.{ready_after, whole_after}
 use Rattle.flow_world.proofs.Quiet.{went_agrees}
 
 pub new_to : (answers : List OperatorAnswer) (most : ℕ) → IsNewTo answers most (blank_notes most answers)
@@ -34,7 +34,7 @@ module _ (given : Given) (run most : ℕ) (answers : List OperatorAnswer) (old s
     given_is = files.journal.given_is;
     of_run = files.journal.of_run;
     no_puts = files.journal.no_puts;
-    filters = filters_after files.middle site filters files.others;
+    filters = ready_after files.middle site filters files.others;
     notes = refl;
   }
 

@@ -4,11 +4,11 @@ use Rattle.cacao_site.specs.View.{SiteView}
 use Rattle.operator_answers.specs.declared.answers.OperatorAnswer.{OperatorAnswer}
 use Rattle.flow_rules.specs.Givens.{Given}
 use Rattle.flow_steps.specs.Worlds.{World}
-use Rattle.flow_world.specs.Closes.{IsClose, IsRefusal}
-use Rattle.flow_world.specs.Openings.{IsSteady}
+use Rattle.flow_world_parts.specs.Closes.{IsClose, IsRefusal}
+use Rattle.flow_world_parts.specs.Openings.{IsSteady}
 use Rattle.flow_world.specs.Sessions.{HasClosed, HasRefused}
-use Rattle.flow_world.specs.declared.close.Close.{Close}
-use Rattle.flow_world.specs.declared.error.WorldError.{WorldError}
+use Rattle.flow_world_parts.specs.declared.close.Close.{Close}
+use Rattle.flow_world_parts.specs.declared.error.WorldError.{WorldError}
 
 -- a session closes in one way only
 abbrev pub ClosesAreOne : Type 0

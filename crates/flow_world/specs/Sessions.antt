@@ -11,10 +11,10 @@ use Rattle.flow_steps.specs.Causes.{HasCause}
 use Rattle.flow_steps.specs.Steps.{Steps}
 use Rattle.flow_steps.specs.Whole.{AddsUp, IsOpened}
 use Rattle.flow_steps.specs.Worlds.{World}
-use Rattle.flow_world.specs.Closes.{IsClose, IsRefusal}
-use Rattle.flow_world.specs.Openings.{AreOpen, RefusesOpening}
-use Rattle.flow_world.specs.declared.close.Close.{Close}
-use Rattle.flow_world.specs.declared.error.WorldError.{WorldError}
+use Rattle.flow_world_parts.specs.Closes.{IsClose, IsRefusal}
+use Rattle.flow_world_parts.specs.Openings.{AreOpen, RefusesOpening}
+use Rattle.flow_world_parts.specs.declared.close.Close.{Close}
+use Rattle.flow_world_parts.specs.declared.error.WorldError.{WorldError}
 
 -- All files were opened, and what happened from there on, to the site as it is now: the steps, what they add up to, and why they ended.
 pub record Went (given : Given) (run most : ℕ) (answers : List OperatorAnswer) (old new : SiteView) : Type 0 where

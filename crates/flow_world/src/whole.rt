@@ -2,11 +2,9 @@
 ghost use Rattle.std.specs.Prelude.{◌≡◌, ◌≢◌, ◌≤◌, Err, IfOk, IfErr};
 ghost use Rattle.flow_world.specs.Sessions.{HasClosed, HasRefused, IsStart, KeepsAgreement};
 
-use crate::close::Close;
-use crate::error::WorldError;
-use crate::opening::{open_files, run_opened};
 use cacao_site::Site;
 use flow_core::Setup;
+use flow_world_parts::{Close, WorldError, open_files, run_opened};
 use operator_answers::Answers;
 use std::alloc::Global;
 

@@ -12,6 +12,7 @@ pub mod site;
 mod site_calls;
 mod site_crash;
 mod site_link;
+mod site_rack;
 
 pub use plan::{CallList, SitePlan, Weather, WeatherList};
 pub use shelf::MemoryShelf;

@@ -1,5 +1,5 @@
 // A site in memory, which tells everything and fails by its plan.
-ghost use Rattle.std.specs.Prelude.{◌≡◌, ◌+◌, ◌-◌, ◌*◌, vec_len, vec_capacity, ◌^◌, ◌<◌, ◌≤◌, ℕ, min, IfOk, IfSome, length, Some, [], ◌∷◌, ◌++◌, take, drop, false, slice_get, option_map};
+ghost use Rattle.std.specs.Prelude.{◌≡◌, ◌+◌, ◌-◌, ◌*◌, vec_len, vec_capacity, ◌^◌, ◌<◌, ◌≤◌, ℕ, min, IfOk, IfSome, length, Some, [], ◌∷◌, ◌++◌, take, drop, false, slice_get, option_map, if◌then◌else◌};
 ghost use Rattle.cacao_site.specs.Counts.{next_count, count_after, last_count};
 ghost use Rattle.cacao_site.specs.DiskCalls.{CallsOn, StaysAt, KeepsDisk, Follows, Spreads, Same, Torn, Written, IsDurable};
 ghost use Rattle.cacao_site.specs.Clock.{clock_at};
@@ -9,13 +9,15 @@ ghost use Rattle.std.specs.VecDeque.{deque_len, deque_capacity};
 ghost use Rattle.memory_site.specs.MemoryView.{memory_view, no_link};
 ghost use Rattle.memory_site.specs.Parcels.{AreNamed};
 ghost use Rattle.memory_site.specs.Plan.{fails_by};
+ghost use Rattle.cacao_site.specs.SiteCounts.{no_counts};
+ghost use Rattle.cacao_site.specs.View.{device_calls};
 ghost use Rattle.cacao_site.specs.Sound.{IsInTime};
 
 use crate::file_list::FileList;
 use crate::kept_files::KeptFiles;
 use crate::link::Link;
 use crate::plan::SitePlan;
-use cacao_site::{Clock, Parcel};
+use cacao_site::{Clock, Parcel, SiteCounts};
 use device_log::CallLog;
 use std::alloc::{AllocError, Global};
 
@@ -31,17 +33,23 @@ pub struct MemorySite {
     pub(crate) kept: KeptFiles,
     pub(crate) log: CallLog,
     pub(crate) first_beat: u64,
+    // The device calls made: the number of the next one.
     pub(crate) calls: u64,
+    pub(crate) disk_calls: u64,
     pub(crate) written: u64,
     pub(crate) faults: u64,
     pub(crate) used: u64,
     pub(crate) clock: Clock,
+    pub(crate) counts: SiteCounts,
     pub(crate) link: Link,
     // The puts so far, as far as the list of weather goes.
     pub(crate) turn: usize,
     ghost fits: { plan.room < 2 ^ 64 },
     ghost in_room: { used ≤ plan.room },
     ghost handed: { written ≤ last_count },
+    ghost of_disk: { disk_calls ≤ last_count },
+    ghost of_lines: { counts.says ≤ last_count },
+    ghost together: { calls ≡ min (disk_calls + counts.says) last_count },
     ghost beats: { first_beat + plan.calls < last_count },
     ghost are_kept: { AreKept starts log.calls kept },
     ghost logged: { length log.calls ≡ min calls (plan.calls + 1) },
@@ -65,7 +73,7 @@ impl MemorySite {
     ///
     /// It takes all memory that its plan lets it use, and `AllocError` says that there is not that much.
     pub fn new(alloc: Global, plan: SitePlan) -> Result<MemorySite, AllocError>
-        ensures view { IfOk result (λ site. view_of site ≡ memory_view [] [] 0 0 0 0 no_link (clock_at plan.start)) }
+        ensures view { IfOk result (λ site. view_of site ≡ memory_view [] [] 0 0 0 0 0 no_link (clock_at plan.start) no_counts) }
         ensures held { IfOk result (λ site. held_of site ≡ []) }
         ensures turn { IfOk result (λ site. turn_of site ≡ 0) }
         ensures plan { IfOk result (λ site. plan_of site ≡ plan) }
@@ -85,10 +93,12 @@ impl MemorySite {
             log,
             first_beat: 0,
             calls: 0,
+            disk_calls: 0,
             written: 0,
             faults: 0,
             used: 0,
             clock,
+            counts: SiteCounts::new(),
             link,
             turn: 0,
         })
@@ -126,9 +136,9 @@ impl MemorySite {
 
     /// The count of parcels that were lost, doubled or held back.
     pub fn mishaps(&self) -> u64
-        ensures { result ≡ (view_of self.now).clock.mishaps }
+        ensures { result ≡ (view_of self.now).counts.mishaps }
     {
-        self.clock.mishaps
+        self.counts.mishaps
     }
 
     /// The count of moments that were asked of the clock and not reached.
@@ -140,7 +150,7 @@ impl MemorySite {
 
     /// Whether the next device call, which brings this many bytes, fails.
     pub(crate) fn fails(&self, size: usize) -> bool
-        ensures by_plan { result ≡ fails_by (plan_of self.now) (view_of self.now).disk.calls (used_of self.now) size }
+        ensures by_plan { result ≡ fails_by (plan_of self.now) (device_calls (view_of self.now)) (used_of self.now) size }
         ensures in_calls { result ≡ false → self.now.calls < self.now.plan.calls }
         ensures in_room { result ≡ false → self.now.used + size ≤ self.now.plan.room }
         ensures room_fits { self.now.plan.room < 2 ^ 64 }
@@ -152,12 +162,12 @@ impl MemorySite {
             || self.plan.failing.contains(self.calls as u32)
     }
 
-    /// One device call that changes no file and counts no fault of the disk.
+    /// One call of the disk that changes no file and counts no fault.
     pub(crate) fn pass(&mut self)
         ensures call { (file : ℕ) → CallsOn file 0 (view_of self.old).disk (view_of self.new).disk }
         ensures stays { (file : ℕ) → StaysAt (view_of self.old).disk (view_of self.new).disk file }
-        ensures keeps { KeepsDisk (view_of self.old).disk (view_of self.new).disk }
         ensures calls { self.new.calls ≡ next_count self.old.calls }
+        ensures counts { self.new.counts ≡ self.old.counts }
         ensures faults { self.new.faults ≡ self.old.faults }
         ensures used { self.new.used ≡ self.old.used }
         ensures rest { KeepsRest self.old self.new }
@@ -172,6 +182,7 @@ impl MemorySite {
         ensures calls { self.new.calls ≡ next_count self.old.calls }
         ensures faults { self.new.faults ≡ next_count self.old.faults }
         ensures used { self.new.used ≡ self.old.used }
+        ensures counts { self.new.counts ≡ self.old.counts }
         ensures rest { KeepsRest self.old self.new }
     {
         self.add_look(true)
@@ -185,6 +196,7 @@ impl MemorySite {
         ensures written { self.new.written ≡ self.old.written }
         ensures faults { self.new.faults ≡ faults_after failed self.old.faults }
         ensures used { self.new.used ≡ self.old.used }
+        ensures counts { self.new.counts ≡ self.old.counts }
         ensures rest { KeepsRest self.old self.new }
     {
         if self.calls <= u64::from(self.plan.calls) {
@@ -204,10 +216,12 @@ impl MemorySite {
         ensures written { self.new.written ≡ self.old.written }
         ensures faults { self.new.faults ≡ faults_after failed self.old.faults }
         ensures used { self.new.used ≡ self.old.used }
+        ensures counts { self.new.counts ≡ self.old.counts }
         ensures rest { KeepsRest self.old self.new }
     {
         self.log.look();
         self.calls = self.calls.saturating_add(1);
+        self.disk_calls = self.disk_calls.saturating_add(1);
         self.faults = self.faults_after(failed);
     }
 
@@ -221,9 +235,11 @@ impl MemorySite {
         ensures written { self.new.written ≡ count_after self.old.written size }
         ensures faults { self.new.faults ≡ faults_after failed self.old.faults }
         ensures used { self.new.used ≡ self.old.used }
+        ensures counts { self.new.counts ≡ self.old.counts }
         ensures rest { KeepsRest self.old self.new }
     {
         self.calls = self.calls.saturating_add(1);
+        self.disk_calls = self.disk_calls.saturating_add(1);
         self.written = self.written.saturating_add(size as u64);
         self.faults = self.faults_after(failed);
     }
@@ -245,7 +261,7 @@ impl MemorySite {
     pub(crate) fn log_write(&mut self, file: u8, at: u64, bytes: &[u8])
         requires open { self.old.calls < self.old.plan.calls }
         requires room { self.old.used + length bytes.now ≤ self.old.plan.room }
-        requires file { file ≤ 16 }
+        requires file { file ≤ 31 }
         requires fits { at + length bytes.now ≤ 67_108_864 }
         ensures call { CallsOn file (length bytes.now) (view_of self.old).disk (view_of self.new).disk }
         ensures follows { Follows file (Torn at (length bytes.now)) (view_of self.old).disk (view_of self.new).disk }
@@ -253,11 +269,13 @@ impl MemorySite {
         ensures written { Written at bytes.now ((view_of self.old).disk.reads file) ((view_of self.new).disk.reads file) }
         ensures faults { self.new.faults ≡ self.old.faults }
         ensures used { self.new.used ≡ self.old.used + length bytes.now }
+        ensures counts { self.new.counts ≡ self.old.counts }
         ensures rest { KeepsRest self.old self.new }
     {
         self.log.write(file, at, bytes);
         self.kept.write(file, at, bytes);
         self.calls = self.calls.saturating_add(1);
+        self.disk_calls = self.disk_calls.saturating_add(1);
         self.written = self.written.saturating_add(bytes.len() as u64);
         self.used += bytes.len() as u64;
     }
@@ -273,10 +291,12 @@ impl MemorySite {
         ensures reads { (view_of self.new).disk.reads file ≡ (view_of self.old).disk.reads file }
         ensures faults { self.new.faults ≡ next_count self.old.faults }
         ensures used { self.new.used ≡ self.old.used }
+        ensures counts { self.new.counts ≡ self.old.counts }
         ensures rest { KeepsRest self.old self.new }
     {
         self.log.try_write(file, at, size);
         self.calls = self.calls.saturating_add(1);
+        self.disk_calls = self.disk_calls.saturating_add(1);
         self.written = self.written.saturating_add(size as u64);
         self.faults = self.faults.saturating_add(1);
     }
@@ -291,10 +311,12 @@ impl MemorySite {
         ensures durable { IsDurable file (view_of self.new).disk }
         ensures faults { self.new.faults ≡ self.old.faults }
         ensures used { self.new.used ≡ self.old.used }
+        ensures counts { self.new.counts ≡ self.old.counts }
         ensures rest { KeepsRest self.old self.new }
     {
         self.log.sync(file);
         self.calls = self.calls.saturating_add(1);
+        self.disk_calls = self.disk_calls.saturating_add(1);
     }
 
     /// One write that fails by the plan.
@@ -307,6 +329,7 @@ impl MemorySite {
         ensures reads { (view_of self.new).disk.reads file ≡ (view_of self.old).disk.reads file }
         ensures faults { self.new.faults ≡ next_count self.old.faults }
         ensures used { self.new.used ≡ self.old.used }
+        ensures counts { self.new.counts ≡ self.old.counts }
         ensures rest { KeepsRest self.old self.new }
     {
         if self.calls <= u64::from(self.plan.calls) {
@@ -316,12 +339,71 @@ impl MemorySite {
         }
     }
 
+    /// One call of `say`, which failed or did not: no file changes.
+    pub(crate) fn pass_line(&mut self, failed: bool)
+        ensures keeps { KeepsDisk (view_of self.old).disk (view_of self.new).disk }
+        ensures disk_calls { self.new.disk_calls ≡ self.old.disk_calls }
+        ensures calls { self.new.calls ≡ next_count self.old.calls }
+        ensures says { self.new.counts.says ≡ next_count self.old.counts.says }
+        ensures unsaid { self.new.counts.unsaid ≡ (if failed then next_count self.old.counts.unsaid else self.old.counts.unsaid) }
+        ensures unsaid_fits { self.old.counts.unsaid < 2 ^ 64 }
+        ensures mishaps { self.new.counts.mishaps ≡ self.old.counts.mishaps }
+        ensures used { self.new.used ≡ self.old.used }
+        ensures rest { KeepsRest self.old self.new }
+    {
+        if self.calls <= u64::from(self.plan.calls) {
+            self.log_line(failed)
+        } else {
+            self.refuse_line(failed)
+        }
+    }
+
+    /// Such a call, for which the record has room.
+    #[tactic(auto, using(crate::proofs::KeptLemmas::kept_steps))]
+    fn log_line(&mut self, failed: bool)
+        requires { self.old.calls ≤ self.old.plan.calls }
+        ensures keeps { KeepsDisk (view_of self.old).disk (view_of self.new).disk }
+        ensures disk_calls { self.new.disk_calls ≡ self.old.disk_calls }
+        ensures calls { self.new.calls ≡ next_count self.old.calls }
+        ensures says { self.new.counts.says ≡ next_count self.old.counts.says }
+        ensures unsaid { self.new.counts.unsaid ≡ (if failed then next_count self.old.counts.unsaid else self.old.counts.unsaid) }
+        ensures unsaid_fits { self.old.counts.unsaid < 2 ^ 64 }
+        ensures mishaps { self.new.counts.mishaps ≡ self.old.counts.mishaps }
+        ensures used { self.new.used ≡ self.old.used }
+        ensures rest { KeepsRest self.old self.new }
+    {
+        self.log.look();
+        self.calls = self.calls.saturating_add(1);
+        self.counts.count_say(failed);
+    }
+
+    /// Such a call, past the first that the plan does not allow.
+    fn refuse_line(&mut self, failed: bool)
+        requires { self.old.plan.calls < self.old.calls }
+        ensures keeps { KeepsDisk (view_of self.old).disk (view_of self.new).disk }
+        ensures disk_calls { self.new.disk_calls ≡ self.old.disk_calls }
+        ensures calls { self.new.calls ≡ next_count self.old.calls }
+        ensures says { self.new.counts.says ≡ next_count self.old.counts.says }
+        ensures unsaid { self.new.counts.unsaid ≡ (if failed then next_count self.old.counts.unsaid else self.old.counts.unsaid) }
+        ensures unsaid_fits { self.old.counts.unsaid < 2 ^ 64 }
+        ensures mishaps { self.new.counts.mishaps ≡ self.old.counts.mishaps }
+        ensures used { self.new.used ≡ self.old.used }
+        ensures rest { KeepsRest self.old self.new }
+    {
+        self.calls = self.calls.saturating_add(1);
+        self.counts.count_say(failed);
+    }
+
     /// One line that is said.
     pub(crate) fn add_line(&mut self, bytes: &[u8])
         requires open { self.old.calls < self.old.plan.calls }
         requires room { self.old.used + length bytes.now ≤ self.old.plan.room }
         ensures keeps { KeepsDisk (view_of self.old).disk (view_of self.new).disk }
+        ensures disk_calls { self.new.disk_calls ≡ self.old.disk_calls }
         ensures calls { self.new.calls ≡ next_count self.old.calls }
+        ensures says { self.new.counts.says ≡ next_count self.old.counts.says }
+        ensures unsaid { self.new.counts.unsaid ≡ self.old.counts.unsaid }
+        ensures mishaps { self.new.counts.mishaps ≡ self.old.counts.mishaps }
         ensures lines { self.new.log.lines ≡ self.old.log.lines ++ ((view_of self.new).disk.beat, bytes.now) ∷ [] }
         ensures used { self.new.used ≡ self.old.used + length bytes.now }
         ensures plan { self.new.plan ≡ self.old.plan }
@@ -329,7 +411,7 @@ impl MemorySite {
         ensures link { self.new.link ≡ self.old.link }
         ensures turn { self.new.turn ≡ self.old.turn }
     {
-        self.pass();
+        self.pass_line(false);
         self.used += bytes.len() as u64;
         let beat = self.first_beat + self.calls;
         self.log.say(beat, bytes);
@@ -337,7 +419,7 @@ impl MemorySite {
 
     /// Fills the front of the buffer with what the file has from place `at` on, and answers how many bytes that is.
     pub(crate) fn read_front(&self, file: u8, at: u64, into: &mut [u8]) -> u32
-        requires file { file ≤ 16 }
+        requires file { file ≤ 31 }
         requires size { length into.old ≤ 4_096 }
         ensures count { result ≤ length into.old }
         ensures bytes { take result into.new ≡ take (length into.old) (drop at ((view_of self.now).disk.reads file)) }
@@ -353,7 +435,7 @@ impl MemorySite {
 
     /// The file's length in bytes.
     pub(crate) fn length_of(&self, file: u8) -> u64
-        requires { file ≤ 16 }
+        requires { file ≤ 31 }
         ensures { result ≡ length ((view_of self.now).disk.reads file) }
     {
         self.kept.length(file)
@@ -363,7 +445,7 @@ impl MemorySite {
     ///
     /// It goes through the record of calls only where the file is not kept.
     fn fill(&self, file: u8, at: u64, into: &mut [u8])
-        requires file { file ≤ 16 }
+        requires file { file ≤ 31 }
         requires end { at + length into.old < 2 ^ 64 }
         ensures { IsReadAt ((view_of self.now).disk.reads file) at into.new }
     {

@@ -2,6 +2,7 @@
 ghost use Rattle.std.specs.Prelude.{◌≡◌, ◌+◌, ◌<◌, ◌≤◌, IfOk, OnOk, OnErr, is_err, length, take, drop, IsTrue};
 ghost use Rattle.cacao_site.specs.Counts.{next_count};
 ghost use Rattle.cacao_site.specs.DiskCalls.{CallsOn, StaysAt, SameRest, Follows, Spreads, Same, Torn, Written, IsDurable};
+ghost use Rattle.cacao_site.specs.View.{device_calls};
 ghost use Rattle.memory_site.specs.Plan.{fails_by};
 
 use crate::site::MemorySite;
@@ -16,14 +17,14 @@ impl Disk for MemorySite {
     ghost sound = { site-sound };
 
     fn length(&mut self, file: u8) -> Result<u64, Failed>
-        requires { file ≤ 16 }
+        requires { file ≤ 31 }
         ensures call { CallsOn file 0 (view_of self.old).disk (view_of self.new).disk }
         ensures rest { SameRest (view_of self.old) (view_of self.new) }
         ensures faultless { OnOk result ((view_of self.new).disk.faults ≡ (view_of self.old).disk.faults) }
         ensures cause { OnErr result ((view_of self.new).disk.faults ≡ next_count (view_of self.old).disk.faults) }
         ensures stays { StaysAt (view_of self.old).disk (view_of self.new).disk file }
         ensures length { IfOk result (λ n. IsTrue (view_of self.old).disk.told → n ≡ length ((view_of self.old).disk.reads file)) }
-        ensures by_plan { is_err result ≡ fails_by (plan_of self.old) (view_of self.old).disk.calls (used_of self.old) 0 }
+        ensures by_plan { is_err result ≡ fails_by (plan_of self.old) (device_calls (view_of self.old)) (used_of self.old) 0 }
         ensures plan { plan_of self.new ≡ plan_of self.old }
         ensures used { used_of self.new ≡ used_of self.old }
     {
@@ -38,7 +39,7 @@ impl Disk for MemorySite {
 
     /// Fills the front of the buffer. Places between the end of a file and a write past it read as zeros.
     fn read(&mut self, file: u8, at: u64, into: &mut [u8]) -> Result<u32, Failed>
-        requires file { file ≤ 16 }
+        requires file { file ≤ 31 }
         requires size { length into.old ≤ 4_096 }
         ensures call { CallsOn file 0 (view_of self.old).disk (view_of self.new).disk }
         ensures rest { SameRest (view_of self.old) (view_of self.new) }
@@ -49,7 +50,7 @@ impl Disk for MemorySite {
         ensures bytes { IfOk result (λ n. IsTrue (view_of self.old).disk.told
             → take n into.new ≡ take (length into.old) (drop at ((view_of self.old).disk.reads file))) }
         ensures behind { IfOk result (λ n. drop n into.new ≡ drop n into.old) }
-        ensures by_plan { is_err result ≡ fails_by (plan_of self.old) (view_of self.old).disk.calls (used_of self.old) 0 }
+        ensures by_plan { is_err result ≡ fails_by (plan_of self.old) (device_calls (view_of self.old)) (used_of self.old) 0 }
         ensures plan { plan_of self.new ≡ plan_of self.old }
         ensures used { used_of self.new ≡ used_of self.old }
     {
@@ -63,7 +64,7 @@ impl Disk for MemorySite {
     }
 
     fn write(&mut self, file: u8, at: u64, bytes: &[u8]) -> Result<(), Failed>
-        requires file { file ≤ 16 }
+        requires file { file ≤ 31 }
         requires fits { at + length bytes.now ≤ 67_108_864 }
         ensures call { CallsOn file (length bytes.now) (view_of self.old).disk (view_of self.new).disk }
         ensures rest { SameRest (view_of self.old) (view_of self.new) }
@@ -75,10 +76,10 @@ impl Disk for MemorySite {
             → Written at bytes.now ((view_of self.old).disk.reads file) ((view_of self.new).disk.reads file)) }
 
         // A write that failed counts as a write, the one under way when the device stopped too; behind it the device is dead.
-        ensures spreads_failed { OnErr result ((view_of self.old).disk.calls ≤ (plan_of self.old).calls
+        ensures spreads_failed { OnErr result (device_calls (view_of self.old) ≤ (plan_of self.old).calls
             → Spreads file (Torn at (length bytes.now)) (view_of self.old).disk (view_of self.new).disk) }
         ensures unwritten { OnErr result ((view_of self.new).disk.reads file ≡ (view_of self.old).disk.reads file) }
-        ensures by_plan { is_err result ≡ fails_by (plan_of self.old) (view_of self.old).disk.calls (used_of self.old) (length bytes.now) }
+        ensures by_plan { is_err result ≡ fails_by (plan_of self.old) (device_calls (view_of self.old)) (used_of self.old) (length bytes.now) }
         ensures plan { plan_of self.new ≡ plan_of self.old }
         ensures used { OnOk result (used_of self.new ≡ used_of self.old + length bytes.now) }
         ensures unused { OnErr result (used_of self.new ≡ used_of self.old) }
@@ -92,7 +93,7 @@ impl Disk for MemorySite {
     }
 
     fn sync(&mut self, file: u8) -> Result<(), Failed>
-        requires { file ≤ 16 }
+        requires { file ≤ 31 }
         ensures call { CallsOn file 0 (view_of self.old).disk (view_of self.new).disk }
         ensures rest { SameRest (view_of self.old) (view_of self.new) }
         ensures faultless { OnOk result ((view_of self.new).disk.faults ≡ (view_of self.old).disk.faults) }
@@ -101,7 +102,7 @@ impl Disk for MemorySite {
         ensures reads { OnOk result ((view_of self.new).disk.reads file ≡ (view_of self.old).disk.reads file) }
         ensures durable { OnOk result (IsDurable file (view_of self.new).disk) }
         ensures undone { OnErr result (StaysAt (view_of self.old).disk (view_of self.new).disk file) }
-        ensures by_plan { is_err result ≡ fails_by (plan_of self.old) (view_of self.old).disk.calls (used_of self.old) 0 }
+        ensures by_plan { is_err result ≡ fails_by (plan_of self.old) (device_calls (view_of self.old)) (used_of self.old) 0 }
         ensures plan { plan_of self.new ≡ plan_of self.old }
         ensures used { used_of self.new ≡ used_of self.old }
     {

@@ -4,6 +4,8 @@ ghost use Rattle.cacao_site.specs.Counts.{last_count, count_after};
 ghost use Rattle.memory_site.specs.Crash.{ArePicked};
 ghost use Rattle.cacao_site.specs.DiskCalls.{IsLeft, IsDurable};
 ghost use Rattle.cacao_site.specs.Clock.{clock_at};
+ghost use Rattle.cacao_site.specs.SiteCounts.{no_counts};
+ghost use Rattle.cacao_site.specs.View.{device_calls};
 ghost use Rattle.memory_site.specs.MemoryView.{link_view, memory_view};
 ghost use Rattle.memory_site.specs.Parcels.{all_marked_at, AreNamed};
 ghost use Rattle.cacao_site.specs.Sound.{IsInTime};
@@ -13,7 +15,7 @@ use crate::kept_files::KeptFiles;
 use crate::link::Link;
 use crate::plan::SitePlan;
 use crate::site::MemorySite;
-use cacao_site::{Bytes, Clock};
+use cacao_site::{Bytes, Clock, SiteCounts};
 use device_log::CallLog;
 use std::alloc::{AllocError, Global};
 
@@ -23,15 +25,15 @@ impl MemorySite {
     /// The site after a crash at this moment, under its own plan: `crash_with` of that plan.
     pub fn crash(self, choice: u64) -> Result<MemorySite, AllocError>
         // Every image of the new site was one of the old at that moment.
-        ensures left { IfOk result (λ site. (file : ℕ) (image : List ℕ) → file ≤ 16
+        ensures left { IfOk result (λ site. (file : ℕ) (image : List ℕ) → file ≤ 31
             → IsLeft (view_of site).disk file (view_of site).disk.beat image
             → IsLeft (view_of self).disk file (view_of self).disk.beat image) }
         // So is what each file of it reads as.
-        ensures image { IfOk result (λ site. (file : ℕ) → file ≤ 16
+        ensures image { IfOk result (λ site. (file : ℕ) → file ≤ 31
             → IsLeft (view_of self).disk file (view_of self).disk.beat ((view_of site).disk.reads file)) }
-        ensures reads { IfOk result (λ site. (file : ℕ) → file ≤ 16 → choice ≡ 0
+        ensures reads { IfOk result (λ site. (file : ℕ) → file ≤ 31 → choice ≡ 0
             → (view_of site).disk.reads file ≡ (view_of self).disk.reads file) }
-        ensures synced { IfOk result (λ site. (file : ℕ) → file ≤ 16 → choice ≡ 1
+        ensures synced { IfOk result (λ site. (file : ℕ) → file ≤ 31 → choice ≡ 1
             → (view_of site).disk.reads file ≡ synced_of self file) }
         ensures durable { IfOk result (λ site. (file : ℕ) → IsDurable file (view_of site).disk) }
 
@@ -41,7 +43,8 @@ impl MemorySite {
 
         ensures beat { IfOk result (λ site. (view_of site).disk.beat ≡ (view_of self).disk.beat) }
         ensures clock { IfOk result (λ site. (view_of site).clock ≡ clock_at (plan_of self).start) }
-        ensures calls { IfOk result (λ site. (view_of site).disk.calls ≡ 0) }
+        ensures counts { IfOk result (λ site. (view_of site).counts ≡ no_counts) }
+        ensures calls { IfOk result (λ site. device_calls (view_of site) ≡ 0) }
         ensures written { IfOk result (λ site. (view_of site).disk.written ≡ 0) }
         ensures faults { IfOk result (λ site. (view_of site).disk.faults ≡ 0) }
         ensures used { IfOk result (λ site. used_of site ≡ 0) }
@@ -62,15 +65,15 @@ impl MemorySite {
     /// used, the clock and the weather start anew by the plan, and no fault and no mishap is counted.
     pub fn crash_with(self, choice: u64, plan: SitePlan) -> Result<MemorySite, AllocError>
         // Every image of the new site was one of the old at that moment.
-        ensures left { IfOk result (λ site. (file : ℕ) (image : List ℕ) → file ≤ 16
+        ensures left { IfOk result (λ site. (file : ℕ) (image : List ℕ) → file ≤ 31
             → IsLeft (view_of site).disk file (view_of site).disk.beat image
             → IsLeft (view_of self).disk file (view_of self).disk.beat image) }
         // So is what each file of it reads as.
-        ensures image { IfOk result (λ site. (file : ℕ) → file ≤ 16
+        ensures image { IfOk result (λ site. (file : ℕ) → file ≤ 31
             → IsLeft (view_of self).disk file (view_of self).disk.beat ((view_of site).disk.reads file)) }
-        ensures reads { IfOk result (λ site. (file : ℕ) → file ≤ 16 → choice ≡ 0
+        ensures reads { IfOk result (λ site. (file : ℕ) → file ≤ 31 → choice ≡ 0
             → (view_of site).disk.reads file ≡ (view_of self).disk.reads file) }
-        ensures synced { IfOk result (λ site. (file : ℕ) → file ≤ 16 → choice ≡ 1
+        ensures synced { IfOk result (λ site. (file : ℕ) → file ≤ 31 → choice ≡ 1
             → (view_of site).disk.reads file ≡ synced_of self file) }
         ensures durable { IfOk result (λ site. (file : ℕ) → IsDurable file (view_of site).disk) }
 
@@ -80,7 +83,8 @@ impl MemorySite {
 
         ensures beat { IfOk result (λ site. (view_of site).disk.beat ≡ (view_of self).disk.beat) }
         ensures clock { IfOk result (λ site. (view_of site).clock ≡ clock_at plan.start) }
-        ensures calls { IfOk result (λ site. (view_of site).disk.calls ≡ 0) }
+        ensures counts { IfOk result (λ site. (view_of site).counts ≡ no_counts) }
+        ensures calls { IfOk result (λ site. device_calls (view_of site) ≡ 0) }
         ensures written { IfOk result (λ site. (view_of site).disk.written ≡ 0) }
         ensures faults { IfOk result (λ site. (view_of site).disk.faults ≡ 0) }
         ensures used { IfOk result (λ site. used_of site ≡ 0) }
@@ -94,7 +98,7 @@ impl MemorySite {
 
     /// What each file holds after a crash now.
     fn picked_files(&self, choice: u64) -> Result<FileList, AllocError>
-        ensures count { IfOk result (λ files. length files ≡ 17) }
+        ensures count { IfOk result (λ files. length files ≡ 32) }
         ensures picked { IfOk result (λ files. ArePicked self.now.starts self.now.log.calls choice files) }
     {
         let mut files = FileList::new(self.alloc);
@@ -122,7 +126,7 @@ impl MemorySite {
         requires puts { IsInTime beat (Some link.puts.items) }
         requires taken { IsInTime beat (Some link.taken.items) }
         requires named { AreNamed link.puts.items link.pending.items link.held.items link.taken.items }
-        ensures view { IfOk result (λ site. view_of site ≡ memory_view starts [] beat 0 0 0 (link_view link was.lines) (clock_at plan.start)) }
+        ensures view { IfOk result (λ site. view_of site ≡ memory_view starts [] beat 0 0 0 0 (link_view link was.lines) (clock_at plan.start) no_counts) }
         ensures held { IfOk result (λ site. held_of site ≡ all_marked_at link.puts.items link.held.items) }
         ensures turn { IfOk result (λ site. turn_of site ≡ 0) }
         ensures plan { IfOk result (λ site. plan_of site ≡ plan) }
@@ -144,10 +148,12 @@ impl MemorySite {
             log,
             first_beat: beat,
             calls: 0,
+            disk_calls: 0,
             written: 0,
             faults: 0,
             used: 0,
             clock,
+            counts: SiteCounts::new(),
             link,
             turn: 0,
         })

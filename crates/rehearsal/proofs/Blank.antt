@@ -2,6 +2,7 @@
 use Rattle.std.proofs.Common.{◌≡◌, ◌⊎◌, inl, inr, refl, sym, ◌∙◌, subst, ap, arith, ℕ, zero, suc, ◌+◌, ◌-◌, ◌<◌, ◌≤◌, Bool, List, [], ◌∷◌, take}
 use Rattle.std.specs.Prelude.{IsTrue, Any, Some, Result, Ok, Err, IfErr, slice_get, slice_index_or}
 use Rattle.cacao_site.specs.Clock.{clock_at}
+use Rattle.cacao_site.specs.SiteCounts.{no_counts}
 use Rattle.cacao_site.specs.DiskCalls.{IsLeft}
 use Rattle.device_log.specs.Images.{rest-image}
 use Rattle.memory_site.specs.MemorySite.{view_of}
@@ -28,12 +29,12 @@ use Rattle.operator_answers.specs.declared.answers.OperatorAnswer.{OperatorAnswe
 use Rattle.flow_rules.specs.Givens.{Given}
 use Rattle.flow_steps.specs.Causes.{Shows}
 use Rattle.flow_steps.specs.Worlds.{Cause, Phase, refused, disk_failed, not_said, run_used, past, wants_memory}
-use Rattle.flow_world.specs.Closes.{refusal_of}
-use Rattle.flow_world.specs.Errors.{opening_refusal}
-use Rattle.flow_world.specs.Openings.{OpensFile, OpensFilters, RefusesFile, RefusesOpening}
+use Rattle.flow_world_parts.specs.Closes.{refusal_of}
+use Rattle.flow_world_parts.specs.Errors.{opening_refusal}
+use Rattle.flow_world_parts.specs.Openings.{OpensFile, OpensFilters, RefusesFile, RefusesOpening}
 use Rattle.flow_world.specs.Sessions.{HasRefused, RefusesLater, Went}
-use Rattle.flow_world.specs.declared.error.WorldError.{WorldError}
-use Rattle.flow_world.specs.declared.error.WorldError.TheVariants as refusal
+use Rattle.flow_world_parts.specs.declared.error.WorldError.{WorldError}
+use Rattle.flow_world_parts.specs.declared.error.WorldError.TheVariants as refusal
 use Rattle.cacao_json.specs.Reading.{tree}
 use Rattle.cacao_check.specs.Fits.{FitsKind}
 use Rattle.flow_core.specs.Setups.{AreAccepted}
@@ -76,7 +77,7 @@ blank_image n file image h =
     (subst (λ (calls : List Call). IsTrue (is_image (file_after [] calls file) image)) (take_none n [] refl) h))
 
 pub new_is_blank : (site : MemorySite) → IsNewSite site → IsBlank (view_of site)
-new_is_blank site new = subst IsBlank (sym new.blank) (record { told = refl; empty = λ file image left. blank_image ((memory_view [] [] 0 0 0 0 no_link (clock_at 0)).disk.beat - 0) file image left })
+new_is_blank site new = subst IsBlank (sym new.blank) (record { told = refl; empty = λ file image left. blank_image ((memory_view [] [] 0 0 0 0 0 no_link (clock_at 0) no_counts).disk.beat - 0) file image left })
 
 pub still_blank : (old new : SiteView) → KeepsImages old.disk new.disk → IsBlank old → IsBlank new
 still_blank old new keeps blank = record {

@@ -14,8 +14,8 @@ use Rattle.flow_steps.specs.Causes.{IsShort, Shows}
 use Rattle.flow_steps.specs.Worlds.{Phase}
 use Rattle.flow_steps.proofs.Bounded.{records_few}
 use Rattle.flow_world.specs.Sessions.{HasClosed}
-use Rattle.flow_world.specs.declared.close.Close.{Close}
-use Rattle.flow_world.specs.declared.close.Close.TheVariants as close
+use Rattle.flow_world_parts.specs.declared.close.Close.{Close}
+use Rattle.flow_world_parts.specs.declared.close.Close.TheVariants as close
 use Rattle.rehearsal.specs.NewSites.{MayClose}
 use Rattle.rehearsal.proofs.Asking.{asks_none}
 use Rattle.rehearsal.proofs.Moments.{moment_low}

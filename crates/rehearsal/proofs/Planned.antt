@@ -5,7 +5,7 @@ use Rattle.std.proofs.lemmas.Bool.{le-ltb, lt-leb}
 use Rattle.std.proofs.lemmas.List.Sums.{sum_by-append}
 use Rattle.cacao_site.specs.LinkCalls.{Gains}
 use Rattle.cacao_site.specs.SayCalls.{SaysOnly}
-use Rattle.cacao_site.specs.View.{SiteView}
+use Rattle.cacao_site.specs.View.{SiteView, device_calls}
 use Rattle.cacao_site.specs.declared.failed.Failed.{Failed}
 use Rattle.memory_site.specs.Plan.{fails_by}
 use Rattle.memory_site.specs.declared.plan.SitePlan.{SitePlan}
@@ -29,7 +29,7 @@ ok_fact : {A : Type 0} (P : Type 0) (r : Result A Failed) → OnOk r P → is_er
 ok_fact P (Ok x) h e = h
 ok_fact P (Err f) h e = absurd (cc)
 
-within_before : (old new : SiteView) → old.disk.calls ≤ new.disk.calls → bytes_handed old ≤ bytes_handed new → IsWithinPlan new → IsWithinPlan old
+within_before : (old new : SiteView) → device_calls old ≤ device_calls new → bytes_handed old ≤ bytes_handed new → IsWithinPlan new → IsWithinPlan old
 within_before old new calls handed within =
     let few = within.calls in
     let small = within.bytes in
@@ -94,25 +94,26 @@ module _ (plan : SitePlan) (used longest : ℕ) (bytes : List ℕ) (old new : Si
       let was = own.counted in
       omega arith
 
-  pub said : (plan' : SitePlan) (used' longest' : ℕ) (r : Result (Unit {0}) Failed) → IsTrue old.disk.told → Said r → Unsaid r → OnOk r (new.clock.unsaid ≡ old.clock.unsaid) → is_err r ≡ fails_by plan old.disk.calls used (length bytes)
+  pub said : (plan' : SitePlan) (used' longest' : ℕ) (r : Result (Unit {0}) Failed) → IsTrue old.disk.told → Said r → Unsaid r → OnOk r (new.counts.unsaid ≡ old.counts.unsaid) → is_err r ≡ fails_by plan (device_calls old) used (length bytes)
       → plan' ≡ plan → OnOk r (used' ≡ used + length bytes) → OnErr r (used' ≡ used) → longest' ≡ max longest (length bytes) → GoesOn plan' used' longest' new
   said plan' used' longest' r disk_told gains before heard by_plan same more still long = record {
     plan_is = same ∙ own.plan_is;
     counted = said_counted used' r gains before more still;
     steady = λ within. only.disk.faults ∙ own.steady (was within);
     heard = λ short within.
-        let calls = only.counted disk_told in
+        let calls = only.calls in
+        let says = only.counted disk_told in
         let few = within.calls in
         let small = within.bytes in
         let counted = own.counted in
         let handed = said_handed r gains before in
-        let early : old.disk.calls < 131072 = omega arith in
+        let early : device_calls old < 131072 = omega arith in
         let fits : used + length bytes ≤ 67108864 = omega arith in
-        ok_fact (new.clock.unsaid ≡ old.clock.unsaid) r heard (by_plan ∙ not_failing plan old.disk.calls used (length bytes) own.plan_is early fits) ∙ own.heard (omega arith) (was within);
-    fair = λ short within. only.time.mishaps ∙ own.fair (omega arith) (was within);
+        ok_fact (new.counts.unsaid ≡ old.counts.unsaid) r heard (by_plan ∙ not_failing plan (device_calls old) used (length bytes) own.plan_is early fits) ∙ own.heard (omega arith) (was within);
+    fair = λ short within. only.mishaps ∙ own.fair (omega arith) (was within);
     in_time = clock_in_time old new own.in_time only.time.furthest only.time.shorts;
     reached = clock_reached old new own.reached only.time.now only.time.asked;
   }
     where
       was : IsWithinPlan new → IsWithinPlan old
-      was = within_before old new only.disk.goes_on.calls (said_handed r gains before)
+      was = within_before old new (omega (arith, only.calls, only.later)) (said_handed r gains before)

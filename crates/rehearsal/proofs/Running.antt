@@ -9,11 +9,12 @@ use Rattle.flow_core.specs.SetupReading.{BreaksRule}
 use Rattle.flow_rules.specs.Givens.{Given}
 use Rattle.flow_steps.specs.Sides.{AreFilters}
 use Rattle.flow_steps.specs.Unbroken.{AreFiltersSure, EndedByFilter}
-use Rattle.flow_steps.specs.Worlds.{Cause, Phase, World, refused, rests}
+use Rattle.flow_steps.specs.Worlds.{Cause, HasAllFilters, Phase, World, refused, rests}
+use Rattle.flow_steps.proofs.Beside.{ready_are_all}
 use Rattle.flow_world.specs.Sessions.{HasClosed, HasRefused}
-use Rattle.flow_world.specs.declared.close.Close.{Close}
-use Rattle.flow_world.specs.declared.close.Close.TheVariants as close
-use Rattle.flow_world.specs.declared.error.WorldError.{WorldError}
+use Rattle.flow_world_parts.specs.declared.close.Close.{Close}
+use Rattle.flow_world_parts.specs.declared.close.Close.TheVariants as close
+use Rattle.flow_world_parts.specs.declared.error.WorldError.{WorldError}
 use Rattle.std.specs.Prelude.{IfErr, IfOk, MatchResult, Result, Ok, Err}
 use Rattle.memory_site.specs.declared.site.MemorySite.{MemorySite}
 use Rattle.rehearsal.specs.Books.{rehearsal_text}
@@ -54,7 +55,8 @@ module _ (given : Given) (run most : ℕ) (answers : List OperatorAnswer) (old n
   filters_held : AreFilters w.filters new
   filters_held =
       let sure = filters_sure closed.went.start w closed.closes.turn.phase closed.went.sums.unbroken.filters in
-      subst (λ (site : SiteView). AreFilters w.filters site) closed.went.to_is sure.filters
+      let all : HasAllFilters w = closed.went.sums.grow.many ∙ closed.went.files.others.many in
+      subst (λ (site : SiteView). AreFilters w.filters site) closed.went.to_is (ready_are_all w.filters w.site all sure.filters)
 
   pub holds_run : HoldsRun new.disk
   holds_run = record { records = w.engine.history.records; holds = records_held }
@@ -89,15 +91,16 @@ module _ (given : Given) (how : Close) (answers : List OperatorAnswer) (old afte
   pub all_held : HoldsFilters after
   all_held = holds_filters given run_number most_records [] old after closes
 
-  pub fails_to_count : (new : SiteView) → KeepsImages after.disk new.disk → OpensFew after.disk new.disk → Rose after.disk.faults new.disk.faults → FailsToCount given old new
-  fails_to_count new keeps few rose = record { after = after; closed = closes; keeps = keeps; few = few; rose = rose }
+  pub fails_to_count : (new : SiteView) → KeepsImages after.disk new.disk → OpensFew after.disk new.disk → new.counts.says ≡ after.counts.says → Rose after.disk.faults new.disk.faults → FailsToCount given old new
+  fails_to_count new keeps few silent rose = record { after = after; closed = closes; keeps = keeps; few = few; silent = silent; rose = rose }
 
-  pub runs_well : (new : SiteView) (summary : Summary) → KeepsImages after.disk new.disk → OpensFew after.disk new.disk → Counts after summary → RunsWell given old new summary
-  runs_well new summary keeps few counts = record {
+  pub runs_well : (new : SiteView) (summary : Summary) → KeepsImages after.disk new.disk → OpensFew after.disk new.disk → new.counts.says ≡ after.counts.says → Counts after summary → RunsWell given old new summary
+  runs_well new summary keeps few silent counts = record {
     after = after;
     closed = closes;
     keeps = keeps;
     few = few;
+    silent = silent;
     records = counts.records closes.went.to.engine.history.records (records_held given run_number most_records [] old after closes);
     acts = counts.acts closes.went.to.filters (filters_held given run_number most_records [] old after closes);
     rules = counts.rules closes.went.to.filters (filters_held given run_number most_records [] old after closes);

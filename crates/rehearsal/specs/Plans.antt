@@ -1,7 +1,7 @@
 -- The plan of the site of a rehearsal, and what holds of such a site until it is used up.
 use Rattle.std.specs.Prelude.{◌≡◌, ℕ, ◌+◌, ◌≤◌, List, [], length, Option, Some, None}
 use Rattle.std.specs.List.{sum_by}
-use Rattle.cacao_site.specs.View.{SiteView}
+use Rattle.cacao_site.specs.View.{SiteView, device_calls}
 use Rattle.cacao_site.specs.declared.parcel.Parcel.{Parcel}
 use Rattle.memory_site.specs.MemorySite.{plan_of, view_of}
 use Rattle.memory_site.specs.declared.site.MemorySite.{MemorySite}
@@ -32,7 +32,7 @@ most_bytes = 1048576
 
 -- the device calls are within the plan's, and there is room for one line or parcel more
 pub record IsWithinPlan (site : SiteView) : Type 0 where
-  pub calls : site.disk.calls ≤ site_plan.calls
+  pub calls : device_calls site ≤ site_plan.calls
   pub bytes : bytes_handed site + most_bytes + 64 ≤ site_plan.room
 
 -- ---- what holds of it
@@ -42,8 +42,8 @@ pub record IsWithinPlan (site : SiteView) : Type 0 where
 pub record GoesByPlan (site : MemorySite) : Type 0 where
   pub plan_is : plan_of site ≡ site_plan
   pub steady : IsWithinPlan (view_of site) → (view_of site).disk.faults ≡ 0
-  pub heard : IsWithinPlan (view_of site) → (view_of site).clock.unsaid ≡ 0
-  pub fair : IsWithinPlan (view_of site) → (view_of site).clock.mishaps ≡ 0
+  pub heard : IsWithinPlan (view_of site) → (view_of site).counts.unsaid ≡ 0
+  pub fair : IsWithinPlan (view_of site) → (view_of site).counts.mishaps ≡ 0
   pub in_time : (view_of site).clock.furthest ≤ site_plan.stop_clock → (view_of site).clock.shorts ≡ 0
   pub reached : (view_of site).clock.asked ≤ site_plan.stop_clock → (view_of site).clock.asked ≤ (view_of site).clock.now
 
@@ -53,7 +53,7 @@ pub record GoesOn (plan : SitePlan) (used longest : ℕ) (site : SiteView) : Typ
   pub plan_is : plan ≡ site_plan
   pub counted : used ≤ bytes_handed site
   pub steady : IsWithinPlan site → site.disk.faults ≡ 0
-  pub heard : longest ≤ most_bytes → IsWithinPlan site → site.clock.unsaid ≡ 0
-  pub fair : longest ≤ most_bytes → IsWithinPlan site → site.clock.mishaps ≡ 0
+  pub heard : longest ≤ most_bytes → IsWithinPlan site → site.counts.unsaid ≡ 0
+  pub fair : longest ≤ most_bytes → IsWithinPlan site → site.counts.mishaps ≡ 0
   pub in_time : site.clock.furthest ≤ site_plan.stop_clock → site.clock.shorts ≡ 0
   pub reached : site.clock.asked ≤ site_plan.stop_clock → site.clock.asked ≤ site.clock.now

@@ -7,9 +7,9 @@ use Rattle.flow_rules.specs.Givens.{Given}
 use Rattle.flow_core.specs.SetupReading.{BreaksRule}
 use Rattle.flow_steps.specs.Spent.{all_acts}
 use Rattle.flow_world.specs.Sessions.{HasClosed, HasRefused}
-use Rattle.flow_world.specs.declared.close.Close.{Close}
-use Rattle.flow_world.specs.declared.close.Close.TheVariants as close
-use Rattle.flow_world.specs.declared.error.WorldError.{WorldError}
+use Rattle.flow_world_parts.specs.declared.close.Close.{Close}
+use Rattle.flow_world_parts.specs.declared.close.Close.TheVariants as close
+use Rattle.flow_world_parts.specs.declared.error.WorldError.{WorldError}
 use Rattle.rehearsal.specs.Books.{rehearsal_text}
 use Rattle.rehearsal.specs.Counts.{KeepsImages, OpensFew, all_rules}
 use Rattle.rehearsal.specs.Settings.{IsAccepted}
@@ -40,12 +40,13 @@ Closes given how old new = HasClosed how given run_number most_records [] old ne
 abbrev pub Refuses : Given → WorldError → SiteView → SiteView → Type 0
 Refuses given why old new = HasRefused why given run_number most_records [] old new
 
--- The run ended well, and with so many records, acts and rules; then the files were opened again, each once at most.
+-- The run ended well, and with so many records, acts and rules; then the files were opened again, each once at most, and no line was said.
 pub record RunsWell (given : Given) (old new : SiteView) (summary : Summary) : Type 0 where
   pub after : SiteView
   pub closed : Closes given ended_well old after
   pub keeps : KeepsImages after.disk new.disk
   pub few : OpensFew after.disk new.disk
+  pub silent : new.counts.says ≡ after.counts.says
   pub records : summary.records ≡ length closed.went.to.engine.history.records
   pub acts : summary.acts ≡ all_acts closed.went.to.filters
   pub rules : summary.rules ≡ all_rules closed.went.to.filters
@@ -61,6 +62,7 @@ pub record FailsToCount (given : Given) (old new : SiteView) : Type 0 where
   pub closed : Closes given ended_well old after
   pub keeps : KeepsImages after.disk new.disk
   pub few : OpensFew after.disk new.disk
+  pub silent : new.counts.says ≡ after.counts.says
   pub rose : Rose after.disk.faults new.disk.faults
 
 abbrev pub FailsToRun : Given → SiteView → SiteView → RehearsalError → Type 0

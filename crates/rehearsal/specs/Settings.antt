@@ -1,6 +1,7 @@
 -- What a session of a rehearsal is given.
 use Rattle.std.specs.Prelude.{◌≡◌, ℕ, List, [], ◌∷◌, ⊤}
 use Rattle.cacao_site.specs.Clock.{clock_at}
+use Rattle.cacao_site.specs.SiteCounts.{no_counts}
 use Rattle.memory_site.specs.MemorySite.{plan_of, view_of}
 use Rattle.memory_site.specs.MemoryView.{memory_view, no_link}
 use Rattle.memory_site.specs.declared.site.MemorySite.{MemorySite}
@@ -18,7 +19,7 @@ use Rattle.rehearsal.specs.declared.error.RehearsalError.TheVariants as error
 -- blank files, no parcel, no line
 pub record IsNewSite (site : MemorySite) : Type 0 where
   pub plan : plan_of site ≡ site_plan
-  pub blank : view_of site ≡ memory_view [] [] 0 0 0 0 no_link (clock_at 0)
+  pub blank : view_of site ≡ memory_view [] [] 0 0 0 0 0 no_link (clock_at 0) no_counts
 
 -- ---- the text
 

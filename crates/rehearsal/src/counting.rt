@@ -1,7 +1,7 @@
 // What the files of a run hold.
 ghost use Rattle.std.specs.Prelude.{◌≡◌, ◌≢◌, ◌≤◌, ◌+◌, ◌*◌, ◌/◌, ℕ, IsTrue, IsErrOf, IfOk, length};
 ghost use Rattle.cacao_site.specs.Counts.{Rose};
-ghost use Rattle.flow_world.specs.Openings.{blocks_to};
+ghost use Rattle.flow_world_parts.specs.Openings.{blocks_to};
 ghost use Rattle.rehearsal.specs.Counts.{Counts, CountsActs, CountsFilters, CountsRecords, HoldsFilter, HoldsFilters, HoldsRun, KeepsImages, OpensFew};
 
 use crate::summary::Summary;
@@ -32,6 +32,7 @@ fn count_records<D: Disk>(alloc: Global, disk: &mut D) -> Result<u32, CountError
     ensures keeps { KeepsImages (D.view disk.old).disk (D.view disk.new).disk }
     ensures calls { (D.view disk.new).disk.calls
         ≤ (D.view disk.old).disk.calls + 3 + length ((D.view disk.new).disk.reads 0) / 4096 }
+    ensures says { (D.view disk.new).counts.says ≡ (D.view disk.old).counts.says }
     ensures disk { IsErrOf result CountError.Disk → Rose (D.view disk.old).disk.faults (D.view disk.new).disk.faults }
 {
     match Journal::open_on(alloc, disk, 0) {
@@ -55,6 +56,7 @@ fn count_filter<D: Disk>(alloc: Global, disk: &mut D, agent: u8) -> Result<Filte
     ensures calls { (D.view disk.new).disk.calls
         ≤ (D.view disk.old).disk.calls + 3 + length ((D.view disk.new).disk.reads agent) / 4096 }
     ensures others { (other : ℕ) → other ≢ agent → (D.view disk.new).disk.reads other ≡ (D.view disk.old).disk.reads other }
+    ensures says { (D.view disk.new).counts.says ≡ (D.view disk.old).counts.says }
     ensures disk { IsErrOf result CountError.Disk → Rose (D.view disk.old).disk.faults (D.view disk.new).disk.faults }
 {
     match Actuator::open_on(alloc, disk, agent) {
@@ -78,6 +80,7 @@ fn count_filters<D: Disk>(alloc: Global, disk: &mut D) -> Result<FilterCount, Co
     ensures keeps { KeepsImages (D.view disk.old).disk (D.view disk.new).disk }
     ensures calls { (D.view disk.new).disk.calls ≤ (D.view disk.old).disk.calls + 3 * 16 + blocks_to 16 (D.view disk.new).disk }
     ensures first { (D.view disk.new).disk.reads 0 ≡ (D.view disk.old).disk.reads 0 }
+    ensures says { (D.view disk.new).counts.says ≡ (D.view disk.old).counts.says }
     ensures disk { IsErrOf result CountError.Disk → Rose (D.view disk.old).disk.faults (D.view disk.new).disk.faults }
 {
     let mut all = FilterCount { acts: 0, rules: 0 };
@@ -101,6 +104,7 @@ pub(crate) fn count<D: Disk>(alloc: Global, disk: &mut D) -> Result<Summary, Cou
     ensures counts { IfOk result (Counts (D.view disk.old)) }
     ensures keeps { KeepsImages (D.view disk.old).disk (D.view disk.new).disk }
     ensures few { OpensFew (D.view disk.old).disk (D.view disk.new).disk }
+    ensures says { (D.view disk.new).counts.says ≡ (D.view disk.old).counts.says }
     ensures disk { IsErrOf result CountError.Disk → Rose (D.view disk.old).disk.faults (D.view disk.new).disk.faults }
 {
     let records = match count_records(alloc, disk) {

@@ -31,7 +31,7 @@ pub not_empty : (records : List Record) (r : Record) → Contains records r → 
 not_empty records r has e = let long = ap (λ (l : List Record). length l) e in absurd (omega (arith, long, has.1))
 
 pub reply_has_its_act : EachReplyHasItsAct
-reply_has_its_act start w agreed sound journal filters issue moment status rule text has =
+reply_has_its_act start w agreed sound journal filters all issue moment status rule text has =
     let told = agreed.told in
     let site = w.site in
     let h = w.engine.history in
@@ -43,8 +43,8 @@ reply_has_its_act start w agreed sound journal filters issue moment status rule 
     let run_is : run_of g.records ≡ Some h.seen.run = ap run_of one ∙ run_known h journal.whole.engine.history (not_empty h.records _ has) in
     let r : Record = entry.Reply issue moment status rule text in
     let acted = g.agree.answers h.seen.run issue moment status rule text run_is (subst (λ (l : List Record). Contains l r) (sym one) has) in
-    let all = filters.filters.all in
-    let filter = there_at w.filters (acted.agent - 1) (omega (arith, acted.is_agent.0, acted.is_agent.1, all)) in
+    let long : length w.filters ≡ 16 = all in
+    let filter = there_at w.filters (acted.agent - 1) (omega (arith, acted.is_agent.0, acted.is_agent.1, long)) in
     let v = filter.0 in
     let number : suc (acted.agent - 1) ≡ acted.agent = omega (arith, acted.is_agent.0) in
     let is : IsFilter v acted.agent site = subst (λ (n : ℕ). IsFilter v n site) number (filters.filters.each (acted.agent - 1) v filter.1) in

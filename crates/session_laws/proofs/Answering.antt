@@ -2,7 +2,7 @@
 use Rattle.std.proofs.Common.{◌≡◌, ◌⊎◌, inl, inr, ℕ, zero, suc, ◌<◌, ◌≤◌, ◌-◌, Bool, List, [], ◌∷◌, ◌++◌, length, get_or, refl, sym, ◌∙◌, subst, ap, arith}
 use Rattle.std.specs.Prelude.{Option, Some, IsSome, Contains, slice_get}
 use Rattle.cacao_site.specs.Counts.{DidNotRise}
-use Rattle.cacao_site.specs.View.{ClockView, LinkView, SiteView}
+use Rattle.cacao_site.specs.View.{CountsView, LinkView, SiteView}
 use Rattle.cacao_site.specs.Sound.{IsSound}
 use Rattle.run_records.specs.declared.record.Record.{Record}
 use Rattle.run_records.specs.declared.record.Record.TheVariants as entry
@@ -15,7 +15,7 @@ use Rattle.flow_steps.specs.Complete.{EndsIssue}
 use Rattle.flow_steps.specs.Ready.{JournalStands}
 use Rattle.flow_steps.specs.Unbroken.{AreFiltersSure, EndedByFilter, IsJournalSure}
 use Rattle.flow_steps.specs.Unsure.{UnsureByStep}
-use Rattle.flow_steps.specs.Worlds.{Cause, Notes, Phase, World, refused, rests}
+use Rattle.flow_steps.specs.Worlds.{Cause, HasAllFilters, Notes, Phase, World, refused, rests}
 use Rattle.flow_steps.proofs.Complete.{steps_complete}
 use Rattle.flow_steps.proofs.Readiness.{steps_ready}
 use Rattle.flow_steps.proofs.Unbroken.{journal_stands}
@@ -59,13 +59,13 @@ is_some_of : {T : Type 0} (o : Option T) (x : T) → o ≡ Some x → IsSome o
 is_some_of {T} o x e = subst (λ (p : Option T). IsSome p) (sym e) refl
 
 pub send_is_answered : EachSendIsAnswered
-send_is_answered a b given run most answers is empty told still_ steps well over task issue agent moment bytes send =
+send_is_answered a b given run most answers is all empty told still_ steps well over task issue agent moment bytes send =
     let stands : JournalStands a = journal_stands a (record { whole = is.whole; sure = ap (λ (n : Notes). n.unsure) is.notes }) in
     let history : IsHistory b.engine.history = (steps_ready a b stands steps).engine.history in
     let shown = issue_shown b.engine.history issue (entry.Send task issue agent moment bytes) history send refl in
-    let complete = steps_complete a b is.phase is.no_puts stands told still_ steps in
+    let complete = steps_complete a b all is.phase is.no_puts stands told still_ steps in
     let ended = complete.has_end empty (is_some_of (outcome b.engine.history.seen.lists) well over) issue shown.one shown.there in
-    reply_of a b issue task agent moment bytes ended.last empty (no_told_of_filters a b given run most answers is told still_ steps) send ended.among ended.ends
+    reply_of a b issue task agent moment bytes ended.last empty (no_told_of_filters a b given run most answers is all told still_ steps) send ended.among ended.ends
 
 -- ---- with its act
 
@@ -104,18 +104,20 @@ send_is_acted_on well given run most answers old new closed empty told still_ ag
     let first = went.files.journal.opens.only.rest in
     let second = went.files.others.rest in
     let link = ap (λ (l : LinkView). l.pending) (second.link ∙ first.link) in
-    let clock = ap (λ (c : ClockView). c.mishaps) (second.clock ∙ first.clock) in
+    let counts = ap (λ (c : CountsView). c.mishaps) (second.counts ∙ first.counts) in
     let told_there : IsSome a.site.link.pending = subst (λ o. IsSome o) (sym link) told in
-    let at_end : DidNotRise old.clock.mishaps b.site.clock.mishaps = subst (λ (s : SiteView). DidNotRise old.clock.mishaps s.clock.mishaps) (sym went.to_is) still_ in
-    let still_there : DidNotRise a.site.clock.mishaps b.site.clock.mishaps = subst (λ (k : ℕ). DidNotRise k b.site.clock.mishaps) (sym clock) at_end in
-    let replied = send_is_answered a b given run most answers went.begins empty told_there still_there went.steps well closed.closes.outcome_is task issue agent moment bytes send in
+    let at_end : DidNotRise old.counts.mishaps b.site.counts.mishaps = subst (λ (s : SiteView). DidNotRise old.counts.mishaps s.counts.mishaps) (sym went.to_is) still_ in
+    let still_there : DidNotRise a.site.counts.mishaps b.site.counts.mishaps = subst (λ (k : ℕ). DidNotRise k b.site.counts.mishaps) (sym counts) at_end in
+    let all : HasAllFilters a = went.files.others.many in
+    let all_there : HasAllFilters b = went.sums.grow.many ∙ all in
+    let replied = send_is_answered a b given run most answers went.begins all empty told_there still_there went.steps well closed.closes.outcome_is task issue agent moment bytes send in
     let phase = closed.closes.turn.phase in
     let unbroken = went.sums.unbroken in
     let journal : IsJournalSure b = journal_sure a b phase unbroken.journal in
     let filters : AreFiltersSure b = filters_sure a b phase unbroken.filters in
     let agreed_there : AgreedSince plain old b.site = subst (λ (s : SiteView). AgreedSince plain old s) (sym went.to_is) agreed in
     let sound_there : IsSound b.site = subst (λ (s : SiteView). IsSound s) (sym went.to_is) sound in
-    let acted = reply_has_its_act old b agreed_there sound_there journal filters issue replied.moment replied.status replied.rule replied.text replied.has in
+    let acted = reply_has_its_act old b agreed_there sound_there journal filters all_there issue replied.moment replied.status replied.rule replied.text replied.has in
     let one = one_record b.engine.history issue (entry.Send acted.sent.task issue acted.agent acted.sent.moment acted.bytes) (entry.Send task issue agent moment bytes)
     journal.whole.engine.history acted.sent.has send refl refl in
     let same : acted.agent ≡ agent = same_agent acted.sent.task acted.sent.moment acted.agent task agent moment issue acted.bytes bytes one in

@@ -20,7 +20,7 @@ use Rattle.flow_steps.specs.Worlds.{Notes, Phase, World, opened, looked, holds, 
 use Rattle.flow_steps.proofs.Ended.{step_going}
 use Rattle.flow_steps.proofs.Failing.{fails_notes}
 use Rattle.flow_steps.proofs.Resent.{step_asked}
-use Rattle.flow_world.specs.declared.close.Close.TheVariants as close
+use Rattle.flow_world_parts.specs.declared.close.Close.TheVariants as close
 use Rattle.session_laws.specs.Ends.{EachCountsShorts, EachEndsInTurn, EndsInTurn, IsInTurn, MayGoOn, TurnAt}
 use Rattle.session_laws.proofs.Carried.{steps_shorts}
 use Rattle.session_laws.proofs.Shown.{EndShows, step_shows, steps_in_turn}

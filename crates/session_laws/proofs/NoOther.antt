@@ -24,12 +24,12 @@ use Rattle.flow_steps.specs.Sides.{IsFilter}
 use Rattle.flow_steps.specs.Worlds.{Cause, refused, disk_failed, not_said, run_used, past, wants_memory}
 use Rattle.flow_steps.proofs.FilterCalls.{has_acts}
 use Rattle.flow_steps.proofs.Records.{has_records}
-use Rattle.flow_world.specs.Closes.{refusal_of}
-use Rattle.flow_world.specs.Errors.{opening_refusal}
-use Rattle.flow_world.specs.Openings.{IsFileCause}
+use Rattle.flow_world_parts.specs.Closes.{refusal_of}
+use Rattle.flow_world_parts.specs.Errors.{opening_refusal}
+use Rattle.flow_world_parts.specs.Openings.{IsFileCause}
 use Rattle.flow_world.specs.Sessions.{Went}
-use Rattle.flow_world.specs.declared.error.WorldError.{WorldError}
-use Rattle.flow_world.specs.declared.error.WorldError.TheVariants as error
+use Rattle.flow_world_parts.specs.declared.error.WorldError.{WorldError}
+use Rattle.flow_world_parts.specs.declared.error.WorldError.TheVariants as error
 use Rattle.session_laws.specs.Complete.{HoldsThisRun, NoneFindsAnother, TellsOfAnother}
 use Rattle.session_laws.proofs.Opening.{OnlyOpens, opens_all, opens_refused}
 use Rattle.session_laws.proofs.Used.{used_at_once}

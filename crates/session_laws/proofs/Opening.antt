@@ -9,8 +9,8 @@ use Rattle.flow_laws.specs.Beats.{Among}
 use Rattle.flow_laws.proofs.Basics.{same_or_not}
 use Rattle.flow_rules.specs.Givens.{Given}
 use Rattle.slpf_actuator.specs.ActuatorView.{ActuatorView}
-use Rattle.flow_world.specs.Openings.{AreOpen, OpensFile, OpensFilters, RefusesOpening}
-use Rattle.flow_world.specs.declared.error.WorldError.{WorldError}
+use Rattle.flow_world_parts.specs.Openings.{AreOpen, OpensFile, OpensFilters, RefusesOpening}
+use Rattle.flow_world_parts.specs.declared.error.WorldError.{WorldError}
 
 -- the images of each file at the last beat of the new site were images of it at that of the old one, and the disk went on
 pub record OnlyOpens (old new : SiteView) : Type 0 where

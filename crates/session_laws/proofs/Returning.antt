@@ -18,8 +18,8 @@ use Rattle.flow_steps.specs.Worlds.{Notes, Phase, IsGoing, looked, rests}
 use Rattle.flow_steps.proofs.Records.{has_records}
 use Rattle.flow_steps.proofs.Standing.{steps_stand}
 use Rattle.flow_world.specs.Sessions.{HasClosed, Went}
-use Rattle.flow_world.specs.declared.close.Close.{Close}
-use Rattle.flow_world.specs.declared.close.Close.TheVariants as close
+use Rattle.flow_world_parts.specs.declared.close.Close.{Close}
+use Rattle.flow_world_parts.specs.declared.close.Close.TheVariants as close
 use Rattle.session_laws.specs.Ends.{EndsInTurn}
 use Rattle.session_laws.specs.Returned.{EachClosesOnRun, ReadsAsOneRun, ReadsAsRun}
 use Rattle.session_laws.proofs.Closing.{steps_end_in_turn}

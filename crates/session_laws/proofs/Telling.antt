@@ -30,7 +30,7 @@ use Rattle.flow_steps.specs.Steps.Step.{opens_clock, finds_run_used, asks_clock,
 use Rattle.flow_steps.specs.Steps.Step.{puts_first, resends, takes, finds_none, fails_to_take, drops, replies, ignores_reply, acts_on, repeats_reply, fails_to_act, wants_memory_now}
 use Rattle.flow_steps.specs.Steps.Steps.{nothing, and_then}
 use Rattle.flow_steps.specs.UnderWay.{IsPending}
-use Rattle.flow_steps.specs.Worlds.{IsGoing, Notes, Phase, World, opened, looked, holds}
+use Rattle.flow_steps.specs.Worlds.{HasAllFilters, IsGoing, Notes, Phase, World, opened, looked, holds}
 use Rattle.flow_steps.proofs.Adding.{of_option, steps_add}
 use Rattle.flow_steps.proofs.Came.{same_last, steps_came}
 use Rattle.flow_steps.proofs.Failing.{fails_notes}
@@ -53,7 +53,7 @@ nothing_pending h issue None some none is = false≢true some
 nothing_pending h issue (Some l) some none is = let has = subst (λ (x : List Parcel). Contains x is.parcel) none is.has in absurd (omega (arith, has.1))
 
 pub no_told : NoTold
-no_told a old new none not_looked still_ steps pending issue told is it there = by (it.agent == 0) refl
+no_told a old new all none not_looked still_ steps pending issue told is it there = by (it.agent == 0) refl
   where
     phase : old.phase ≡ looked
     phase = is.to_be_told.idle.has_looked.phase
@@ -76,7 +76,7 @@ no_told a old new none not_looked still_ steps pending issue told is it there = 
         let put = steps_all_put a old (λ e. absurd (not_looked e)) steps phase issue it waiting in
         let going : IsGoing old.phase = subst IsGoing (sym phase) tt in
         let found = (steps_look a old not_looked steps phase).none in
-        elim ((steps_wait a old none still_ steps).each going issue put) [
+        elim ((steps_wait a old all none still_ steps).each going issue put) [
           | inl hand ↦ free hand.beat hand.parcel hand.is
           | inr has ↦ nothing_pending old.engine.history issue old.site.link.pending pending found has
         ]
@@ -256,12 +256,12 @@ is_question h task n moment text history asked = record {
     ask_or_send t a u y e = cc
 
 -- what a step told of was asked before, so it stands among the records later
-told_of : (a old new b : World) (r : Record) → a.engine.puts ≡ [] → a.phase ≢ looked → DidNotRise a.site.clock.mishaps old.site.clock.mishaps → IsSome a.site.link.pending
+told_of : (a old new b : World) (r : Record) → HasAllFilters a → a.engine.puts ≡ [] → a.phase ≢ looked → DidNotRise a.site.counts.mishaps old.site.counts.mishaps → IsSome a.site.link.pending
     → Steps a old → Steps old b → IsHistory b.engine.history → ToldBy old new r → IsNoToldOfFilter b.engine.history.records r
-told_of a old new b r none not_looked still_ told before after_ history by =
+told_of a old new b r all none not_looked still_ told before after_ history by =
     let has = by.tells.to_be_told.has in
     let up = by.tells.to_be_told.idle.has_looked.up in
-    let zero_of : has.it.agent ≡ 0 = no_told a old new none not_looked still_ before (steps_told a old before told) by.issue by.told by.tells has.it has.there in
+    let zero_of : has.it.agent ≡ 0 = no_told a old new all none not_looked still_ before (steps_told a old before told) by.issue by.told by.tells has.it has.there in
     let own = issue_issued old.engine.history by.issue has.it up.has_file.engine.history has.there in
     let asked : Contains old.engine.history.records (entry.Ask has.it.task by.issue has.it.moment has.it.bytes) =
     subst (λ (x : Record). Contains old.engine.history.records x) (asked_of by.issue has.it zero_of) own in
@@ -291,7 +291,7 @@ before_all a b c one (and_then {mid} two step) = and_then (before_all a b mid on
 
 pub no_told_of_filters : NoToldOfFilters
 unfolding AppendsSo
-no_told_of_filters a b given run most answers is told still_ steps = record {
+no_told_of_filters a b given run most answers is all told still_ steps = record {
   added = λ front back r split.
       let came = steps_came a b steps front back r split in
       elim (step_so came.old came.new r came.step came.has) [
@@ -300,8 +300,8 @@ no_told_of_filters a b given run most answers is told still_ steps = record {
             let first = (steps_put_or_lose a came.old came.before).later in
             let one = (steps_put_or_lose came.old came.new (and_then nothing came.step)).later in
             let last = (steps_put_or_lose came.new b came.after).later in
-            let same : came.old.site.clock.mishaps ≡ a.site.clock.mishaps = omega (arith, first, one, last, still_.0) in
-            told_of a came.old came.new b r is.no_puts (not_looked a.phase is.phase) (same, still_.1) told came.before
+            let same : came.old.site.counts.mishaps ≡ a.site.counts.mishaps = omega (arith, first, one, last, still_.0) in
+            told_of a came.old came.new b r all is.no_puts (not_looked a.phase is.phase) (same, still_.1) told came.before
             (before_all came.old came.new b (and_then nothing came.step) came.after) history by
       ];
   unsure = by_unsure b.notes.unsure refl;
@@ -316,8 +316,8 @@ no_told_of_filters a b given run most answers is told still_ steps = record {
         let last = steps_unsure a b r (ap (λ (n : Notes). n.unsure) is.notes) steps e in
         let first = (steps_put_or_lose a last.old last.before).later in
         let one = (steps_put_or_lose last.old b (and_then nothing last.step)).later in
-        let same : last.old.site.clock.mishaps ≡ a.site.clock.mishaps = omega (arith, first, one, still_.0) in
+        let same : last.old.site.counts.mishaps ≡ a.site.counts.mishaps = omega (arith, first, one, still_.0) in
         elim (step_unsure_so last.old b r last.step last.was last.has) [
           | inl other ↦ told_not b.engine.history.records r other
-          | inr by ↦ told_of a last.old b b r is.no_puts (not_looked a.phase is.phase) (same, still_.1) told last.before (and_then nothing last.step) history by
+          | inr by ↦ told_of a last.old b b r all is.no_puts (not_looked a.phase is.phase) (same, still_.1) told last.before (and_then nothing last.step) history by
         ]

@@ -19,10 +19,10 @@ use Rattle.engine_history.specs.declared.error.EngineError.TheVariants as engine
 use Rattle.slpf_actuator.specs.Damage as filter_file
 use Rattle.run_reports.specs.RunFiles as run_file
 use Rattle.flow_steps.specs.Worlds.{Cause, disk_failed, not_said, run_used, past, wants_memory}
-use Rattle.flow_world.specs.Closes.{refusal_of}
-use Rattle.flow_world.specs.Errors.{opening_refusal}
-use Rattle.flow_world.specs.Openings.{IsFileCause, RefusesOpening}
-use Rattle.flow_world.specs.declared.error.WorldError.TheVariants as error
+use Rattle.flow_world_parts.specs.Closes.{refusal_of}
+use Rattle.flow_world_parts.specs.Errors.{opening_refusal}
+use Rattle.flow_world_parts.specs.Openings.{IsFileCause, RefusesOpening}
+use Rattle.flow_world_parts.specs.declared.error.WorldError.TheVariants as error
 use Rattle.session_laws.specs.Undamaged.{ComesOfTexts, GoodIsUndamaged, IsDamagedFor, NoneFindsDamage}
 use Rattle.session_laws.proofs.Opening.{OnlyOpens, opens_refused}
 use Rattle.session_laws.proofs.WholeActs.{acts_undamaged}

@@ -2,7 +2,7 @@
 use Rattle.std.proofs.Common.{◌≡◌, inl, inr, ℕ, ◌≤◌, Bool, List, sym, ◌∙◌, subst, ap, arith}
 use Rattle.cacao_site.specs.Counts.{DidNotRise, Rose, next_count}
 use Rattle.cacao_site.specs.Sound.{IsSound}
-use Rattle.cacao_site.specs.View.{ClockView, SiteView}
+use Rattle.cacao_site.specs.View.{ClockView, CountsView, SiteView}
 use Rattle.flow_core.specs.SetupLaws.{AcceptedAgain}
 use Rattle.flow_rules.specs.Givens.{Given}
 use Rattle.engine_history.specs.Openings.{IsRefusedOpening}
@@ -11,14 +11,14 @@ use Rattle.engine_history.specs.declared.error.EngineError.{EngineError}
 use Rattle.engine_history.specs.declared.error.EngineError.TheVariants as engine_error
 use Rattle.flow_steps.specs.Causes.{Shows}
 use Rattle.flow_steps.specs.Worlds.{Cause, Phase, refused, disk_failed, not_said, run_used, past, waits, wants_memory}
-use Rattle.flow_world.specs.Closes.{refusal_of}
-use Rattle.flow_world.specs.Errors.{opening_refusal}
-use Rattle.flow_world.specs.Openings.{RefusesOpening}
+use Rattle.flow_world_parts.specs.Closes.{refusal_of}
+use Rattle.flow_world_parts.specs.Errors.{opening_refusal}
+use Rattle.flow_world_parts.specs.Openings.{RefusesOpening}
 use Rattle.flow_world.specs.Sessions.{HasClosed, HasRefused, IsStart, Went}
-use Rattle.flow_world.specs.declared.close.Close.{Close}
-use Rattle.flow_world.specs.declared.close.Close.TheVariants as close
-use Rattle.flow_world.specs.declared.error.WorldError.{WorldError}
-use Rattle.flow_world.specs.declared.error.WorldError.TheVariants as error
+use Rattle.flow_world_parts.specs.declared.close.Close.{Close}
+use Rattle.flow_world_parts.specs.declared.close.Close.TheVariants as close
+use Rattle.flow_world_parts.specs.declared.error.WorldError.{WorldError}
+use Rattle.flow_world_parts.specs.declared.error.WorldError.TheVariants as error
 use Rattle.session_laws.specs.Complete.{EndsSo, IsForThisRun, IsUndisturbed, StopsSo, UndisturbedCompletes}
 use Rattle.session_laws.specs.Undamaged.{ComesOfTexts}
 use Rattle.session_laws.proofs.Closing.{steps_count_shorts}
@@ -37,6 +37,9 @@ counted old new e still_ = omega (arith, e, still_.0, still_.1)
 module _ (given : Given) (run most : ℕ) (answers : List OperatorAnswer) (old new : SiteView) (calm : IsUndisturbed old new) where
   clock_then : (went : Went given run most answers old new) → went.start.site.clock ≡ old.clock
   clock_then went = went.files.others.rest.clock ∙ went.files.journal.opens.only.rest.clock
+
+  counts_then : (went : Went given run most answers old new) → went.start.site.counts ≡ old.counts
+  counts_then went = went.files.others.rest.counts ∙ went.files.journal.opens.only.rest.counts
 
   waits_not : (went : Went given run most answers old new) (moment : ℕ) → went.to.phase ≡ waits moment → ⊥
   waits_not went moment phase =
@@ -100,9 +103,9 @@ module _ (given : Given) (run most : ℕ) (answers : List OperatorAnswer) (old n
   later_unsaid : (went : Went given run most answers old new) (cause : Cause) (lacks : Bool) → went.to.phase ≡ refused cause lacks → error.Say ≡ refusal_of cause → ⊥
   later_unsaid went not_said lacks phase e =
       let shows = subst (λ (p : Phase). Shows p went.start went.to) phase went.cause.shows in
-      let then_ = ap (λ (c : ClockView). c.unsaid) (clock_then went) in
-      let now = ap (λ (s : SiteView). s.clock.unsaid) went.to_is in
-      risen old.clock.unsaid went.start.site.clock.unsaid new.clock.unsaid (omega (arith, then_)) (subst (λ (n : ℕ). Rose went.start.site.clock.unsaid n) now shows.0) calm.unsaid
+      let then_ = ap (λ (c : CountsView). c.unsaid) (counts_then went) in
+      let now = ap (λ (s : SiteView). s.counts.unsaid) went.to_is in
+      risen old.counts.unsaid went.start.site.counts.unsaid new.counts.unsaid (omega (arith, then_)) (subst (λ (n : ℕ). Rose went.start.site.counts.unsaid n) now shows.0) calm.unsaid
   later_unsaid went disk_failed lacks phase e = cc
   later_unsaid went (run_used agent) lacks phase e = cc
   later_unsaid went (past what) lacks phase e = cc

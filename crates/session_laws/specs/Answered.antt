@@ -18,18 +18,19 @@ use Rattle.flow_steps.specs.Complete.{HasActed}
 use Rattle.flow_steps.specs.Steps.{Steps, Tells}
 use Rattle.flow_steps.specs.Unbroken.{AreFiltersSure, IsJournalSure}
 use Rattle.flow_steps.specs.Whole.{IsOpened}
-use Rattle.flow_steps.specs.Worlds.{World, looked}
+use Rattle.flow_steps.specs.Worlds.{HasAllFilters, World, looked}
 use Rattle.flow_world.specs.Sessions.{HasClosed}
-use Rattle.flow_world.specs.declared.close.Close.TheVariants as close
+use Rattle.flow_world_parts.specs.declared.close.Close.TheVariants as close
 
 -- ---- operators tell of questions alone
 
--- Where nothing was put at first, while no parcel is lost, doubled or held back, and pending parcels are told: an operator tells
--- of no issue of a filter.
+-- Where nothing was put at first and each agent's filter stands, while no parcel is lost, doubled or held back, and pending
+-- parcels are told: an operator tells of no issue of a filter.
 abbrev pub NoTold : Type 0
 NoTold =
-    (a old new : World) → a.engine.puts ≡ [] → a.phase ≢ looked → DidNotRise a.site.clock.mishaps old.site.clock.mishaps
-    → Steps a old → IsSome old.site.link.pending → (issue : ℕ) (told : OperatorAnswer) → Tells issue told old new
+    (a old new : World) → HasAllFilters a → a.engine.puts ≡ [] → a.phase ≢ looked
+    → DidNotRise a.site.counts.mishaps old.site.counts.mishaps → Steps a old → IsSome old.site.link.pending
+    → (issue : ℕ) (told : OperatorAnswer) → Tells issue told old new
     → (it : Issue) → slice_get old.engine.history.seen.lists.issues issue ≡ Some it → it.agent ≡ 0
 
 -- an operator was asked the issue, and it was sent to no filter
@@ -51,11 +52,12 @@ pub record TellsNoFilter (a b : World) : Type 0 where
       → b.engine.history.records ≡ (a.engine.history.records ++ front) ++ r ∷ back → IsNoToldOfFilter b.engine.history.records r
   pub unsure : IfSome b.notes.unsure (IsNoToldOfFilter b.engine.history.records)
 
--- so it is from an opening on, while no parcel is lost, doubled or held back, and pending parcels are told
+-- so it is from an opening of all filters on, while no parcel is lost, doubled or held back, and pending parcels are told
 abbrev pub NoToldOfFilters : Type 0
 NoToldOfFilters =
     (a b : World) (given : Given) (run most : ℕ) (answers : List OperatorAnswer) → IsOpened a given run most answers
-    → IsSome a.site.link.pending → DidNotRise a.site.clock.mishaps b.site.clock.mishaps → Steps a b → TellsNoFilter a b
+    → HasAllFilters a → IsSome a.site.link.pending
+    → DidNotRise a.site.counts.mishaps b.site.counts.mishaps → Steps a b → TellsNoFilter a b
 
 -- ---- each Send is answered
 
@@ -71,18 +73,18 @@ pub record IsReplied (records : List Record) (issue : ℕ) : Type 0 where
 abbrev pub EachSendIsAnswered : Type 0
 EachSendIsAnswered =
     (a b : World) (given : Given) (run most : ℕ) (answers : List OperatorAnswer) → IsOpened a given run most answers
-    → a.engine.history.records ≡ [] → IsSome a.site.link.pending → DidNotRise a.site.clock.mishaps b.site.clock.mishaps
-    → Steps a b → (well : Bool) → outcome b.engine.history.seen.lists ≡ Some well → (task issue agent moment : ℕ) (bytes : List ℕ)
+    → HasAllFilters a → a.engine.history.records ≡ [] → IsSome a.site.link.pending
+    → DidNotRise a.site.counts.mishaps b.site.counts.mishaps → Steps a b → (well : Bool) → outcome b.engine.history.seen.lists ≡ Some well → (task issue agent moment : ℕ) (bytes : List ℕ)
     → Contains b.engine.history.records (entry.Send task issue agent moment bytes) → IsReplied b.engine.history.records issue
 
 -- ---- each Reply has its act
 
--- Where agreement was kept since the start and the files are whole, the issue of each Reply was sent to an agent whose filter has
--- an act of the run and issue, and the act's reply reads as the Reply says.
+-- Where agreement was kept since the start, the files are whole and each agent's filter stands, the issue of each Reply was sent
+-- to an agent whose filter has an act of the run and issue, and the act's reply reads as the Reply says.
 abbrev pub EachReplyHasItsAct : Type 0
 EachReplyHasItsAct =
     (start : SiteView) (w : World) → AgreedSince plain start w.site → IsSound w.site → IsJournalSure w → AreFiltersSure w
-    → (issue moment status rule : ℕ) (text : List ℕ)
+    → HasAllFilters w → (issue moment status rule : ℕ) (text : List ℕ)
     → Contains w.engine.history.records (entry.Reply issue moment status rule text) → HasActed w issue (ReadsAs status rule text)
 
 -- ---- each Send has its act and its Reply
@@ -108,7 +110,7 @@ abbrev pub EachSendIsActedOn : Type 0
 EachSendIsActedOn =
     (well : Bool) (given : Given) (run most : ℕ) (answers : List OperatorAnswer) (old new : SiteView)
     → (closed : HasClosed (close.Ended well) given run most answers old new) → closed.went.start.engine.history.records ≡ []
-    → IsSome old.link.pending → DidNotRise old.clock.mishaps new.clock.mishaps → AgreedSince plain old new → IsSound new
+    → IsSome old.link.pending → DidNotRise old.counts.mishaps new.counts.mishaps → AgreedSince plain old new → IsSound new
     → (task issue agent moment : ℕ) (bytes : List ℕ)
     → Contains closed.went.to.engine.history.records (entry.Send task issue agent moment bytes)
     → HasActAndReply closed.went.to issue agent bytes

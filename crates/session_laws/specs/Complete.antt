@@ -10,10 +10,10 @@ use Rattle.flow_laws.specs.Fresh.{IsFresh}
 use Rattle.engine_history.specs.Openings.{BeginsWith}
 use Rattle.operator_answers.specs.declared.answers.OperatorAnswer.{OperatorAnswer}
 use Rattle.flow_world.specs.Sessions.{HasClosed, HasRefused, IsStart}
-use Rattle.flow_world.specs.declared.close.Close.{Close}
-use Rattle.flow_world.specs.declared.close.Close.TheVariants as close
-use Rattle.flow_world.specs.declared.error.WorldError.{WorldError}
-use Rattle.flow_world.specs.declared.error.WorldError.TheVariants as error
+use Rattle.flow_world_parts.specs.declared.close.Close.{Close}
+use Rattle.flow_world_parts.specs.declared.close.Close.TheVariants as close
+use Rattle.flow_world_parts.specs.declared.error.WorldError.{WorldError}
+use Rattle.flow_world_parts.specs.declared.error.WorldError.TheVariants as error
 use Rattle.session_laws.specs.Undamaged.{ComesOfTexts}
 
 -- ---- no other run
@@ -47,7 +47,7 @@ NoneFindsAnother =
 -- no call of the disk failed, each line was said, and the clock came to each moment that it was asked for
 pub record IsUndisturbed (old new : SiteView) : Type 0 where
   pub faults : DidNotRise old.disk.faults new.disk.faults
-  pub unsaid : DidNotRise old.clock.unsaid new.clock.unsaid
+  pub unsaid : DidNotRise old.counts.unsaid new.counts.unsaid
   pub shorts : DidNotRise old.clock.shorts new.clock.shorts
 
 -- The run has ended, well or not; or as many records were appended as may be; or an operator is asked; or 1,000,000 parcels

@@ -19,9 +19,9 @@ use Rattle.flow_steps.specs.Steps.{Begins, Expires, FailsToAct, Moves, Replies, 
 use Rattle.flow_steps.specs.Turns.{most_ignored}
 use Rattle.flow_steps.specs.Worlds.{Cause, IsGoing, Phase, World, opened, looked, holds, waits, refused}
 use Rattle.flow_steps.specs.Worlds.{disk_failed, not_said, run_used, past, wants_memory}
-use Rattle.flow_world.specs.Closes.{IsClose}
-use Rattle.flow_world.specs.declared.close.Close.{Close}
-use Rattle.flow_world.specs.declared.close.Close.TheVariants as close
+use Rattle.flow_world_parts.specs.Closes.{IsClose}
+use Rattle.flow_world_parts.specs.declared.close.Close.{Close}
+use Rattle.flow_world_parts.specs.declared.close.Close.TheVariants as close
 
 -- ---- turns
 

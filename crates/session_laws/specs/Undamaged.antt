@@ -15,7 +15,7 @@ use Rattle.operator_answers.specs.declared.answers.OperatorAnswer.{OperatorAnswe
 use Rattle.run_reports.specs.RunFiles as run_file
 use Rattle.slpf_actuator.specs.Damage as filter_file
 use Rattle.flow_world.specs.Sessions.{HasRefused}
-use Rattle.flow_world.specs.declared.error.WorldError.TheVariants as error
+use Rattle.flow_world_parts.specs.declared.error.WorldError.TheVariants as error
 
 -- some texts that are accepted give this
 pub record ComesOfTexts (given : Given) : Type 0 where

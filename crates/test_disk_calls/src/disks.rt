@@ -5,8 +5,10 @@ use memory_site::{MemoryShelf, MemorySite};
 use std::alloc::{AllocError, Global};
 use std::mem;
 use test_rows::Row;
-use test_site_calls::answers::{text, whole};
-use test_site_calls::{disk_answer, number, parcel_answer, shelf_answer, site_answer, small};
+use test_site_calls::answers::{done, text, whole};
+use test_site_calls::{
+    disk_answer, number, parcel_answer, rack_answer, shelf_answer, site_answer, small, sync_lent,
+};
 
 /// A site and a shelf in memory, bytes that files are made of, and commands that wait for a filter.
 #[derive(Drop)]
@@ -54,6 +56,9 @@ impl Disks {
         if let Some(answer) = disk_answer(self.alloc, &mut self.site, row)? {
             return Ok(Some(answer));
         }
+        if let Some(answer) = rack_answer(self.alloc, &mut self.site, row)? {
+            return Ok(Some(answer));
+        }
         if let Some(answer) = site_answer(self.alloc, &mut self.site, row)? {
             return Ok(Some(answer));
         }
@@ -64,18 +69,25 @@ impl Disks {
     ///
     /// `site ROOM CALLS FAILING WEATHER START STOP` makes a site by a plan, `crash CHOICE` lets it crash, and `restart CHOICE` with a plan
     /// behind it lets it crash and go on by another plan. `lines`, `line N`, `puts`, `parcel N`, `mishaps` and `shorts` are what it tells.
+    /// `sync_lent` syncs file 0 of the site, which is lent to the call.
     /// `shelf` makes an empty shelf, `add NAME BYTES` puts a file on it, `fail_at N` lets its read of this number fail.
     fn making_answer(&mut self, row: &Row) -> Result<Option<Vec<u8>>, AllocError> {
         match row.text(0) {
             "site" => self.site = MemorySite::new(self.alloc, plan(self.alloc, row, 1)?)?,
             "crash" => self.crash(number(row, 1))?,
             "restart" => self.restart(row)?,
+            "sync_lent" => return Ok(Some(self.lent()?)),
             "shelf" => self.shelf = MemoryShelf::new(self.alloc),
             "add" => self.shelf.add(row.text(1), row.bytes(2))?,
             "fail_at" => self.shelf.fail_at(u32::from(small(row, 1))),
             _ => return self.telling_answer(row),
         }
         Ok(Some(text(self.alloc, "ok")?))
+    }
+
+    fn lent(&mut self) -> Result<Vec<u8>, AllocError> {
+        let mut other = small_site(self.alloc)?;
+        done(self.alloc, sync_lent(&mut self.site, &mut other))
     }
 
     fn crash(&mut self, choice: u64) -> Result<(), AllocError> {

@@ -6,12 +6,13 @@ mod folder;
 mod outside;
 
 use crate::outside::Outside;
+use std::fs::File;
 use std::io;
 use std::rt::Files;
 use test_rows::{Row, Tally, read_file};
 
 /// Plays the rows of the file.
-fn play<R: Files + Print + AllocGlobal>(rt: &R, rows: &[Row]) -> io::Result<bool> {
+fn play<R: Files<File = File> + Print + AllocGlobal>(rt: &R, rows: &[Row]) -> io::Result<bool> {
     let mut outside = Outside::new(rt, rt.alloc());
     let mut tally = Tally::new(rt.alloc(), "files")?;
     for row in rows {

@@ -10,7 +10,7 @@ use std::alloc::{AllocError, Global};
 use test_rows::Row;
 
 /// The most bytes of a file of a disk.
-const MOST: u64 = 67_108_864;
+pub(crate) const MOST: u64 = 67_108_864;
 
 /// The answer to a row that is a call of a disk, by the name of the call and the number of a file, 0 to 16; none where it is no such row.
 ///
@@ -60,7 +60,7 @@ fn composed_answer<D: Disk>(
 }
 
 /// Reads at most 4,096 bytes.
-fn read<D: Disk>(
+pub(crate) fn read<D: Disk>(
     alloc: Global,
     disk: &mut D,
     file: u8,
@@ -77,7 +77,7 @@ fn read<D: Disk>(
     }
 }
 
-fn write<D: Disk>(
+pub(crate) fn write<D: Disk>(
     alloc: Global,
     disk: &mut D,
     file: u8,

@@ -1,6 +1,7 @@
 use Rattle.flow_steps.proofs.Adding.{steps_add, steps_same_given}
 use Rattle.flow_steps.proofs.Agreement.{steps_keep_agreement}
 use Rattle.flow_steps.proofs.Asked.{steps_ask, steps_ignore_few}
+use Rattle.flow_steps.proofs.Beside.{drops_unaddressed}
 use Rattle.flow_steps.proofs.Came.{steps_acted, steps_came}
 use Rattle.flow_steps.proofs.Caused.{steps_cause}
 use Rattle.flow_steps.proofs.Complete.{steps_complete}
@@ -69,6 +70,9 @@ returns-clause-counts c = steps_count_few
 
 pub returns-clause-handles : goal.returns-clause-handles
 returns-clause-handles c = steps_handle
+
+pub returns-clause-drops : goal.returns-clause-drops
+returns-clause-drops c = drops_unaddressed
 
 pub returns-clause-puts_or_lost : goal.returns-clause-puts_or_lost
 returns-clause-puts_or_lost c = steps_put_or_lose

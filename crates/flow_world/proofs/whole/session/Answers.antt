@@ -1,7 +1,7 @@
 use Rattle.std.proofs.Common.{Err, ap, inl}
 use Rattle.flow_steps.specs.Whole.{blank_notes}
-use Rattle.flow_world.specs.declared.error.WorldError.{WorldError}
-use Rattle.flow_world.proofs.OpenSteps.{filters_after, whole_after}
+use Rattle.flow_world_parts.specs.declared.error.WorldError.{WorldError}
+use Rattle.flow_world_parts.proofs.OpenSteps.{ready_after, whole_after}
 use Rattle.flow_world.proofs.Quiet.{refused_agrees}
 use Rattle.flow_world.proofs.Steady.{refusals_steady, session_steady}
 use Rattle.flow_world.proofs.WholeSteps.{agrees, each_closed, each_refused, new_to}
@@ -15,7 +15,7 @@ run_opened-requires-clause-whole g c =
 pub run_opened-requires-clause-filters : goal.run_opened-requires-clause-filters
 run_opened-requires-clause-filters g c =
     let files = c.in-Ok.ensures.opens in
-    filters_after files.middle (g.S.Disk.view c.open_files.new.site) c.in-Ok.filters files.others
+    ready_after files.middle (g.S.Disk.view c.open_files.new.site) c.in-Ok.filters files.others
 
 pub returns-in-Ok-clause-closed : goal.returns-in-Ok-clause-closed
 returns-in-Ok-clause-closed g c =

@@ -1,4 +1,5 @@
 use Rattle.std.proofs.Common.{◌∙◌, ap, arith}
+use Rattle.cacao_site.specs.View.{CountsView}
 use Rattle.std.specs.Prelude.{Err, length}
 use Rattle.slpf_acts.specs.Acts.{table_of}
 use Rattle.rehearsal.proofs.Held.{acts_read, filter_stands, keeps_only}
@@ -38,3 +39,12 @@ returns-in-Err-Disk-clause-keeps g c = keeps_only c.args.agent (g.D.Disk.view c.
 
 pub returns-in-Err-Memory-clause-keeps : goal.returns-in-Err-Memory-clause-keeps
 returns-in-Err-Memory-clause-keeps g c = keeps_only c.args.agent (g.D.Disk.view c.args.disk.now) (g.D.Disk.view c.open_on.new.disk) c.open_on.ensures.only
+
+pub returns-in-Ok-clause-says : goal.returns-in-Ok-clause-says
+returns-in-Ok-clause-says g c = ap (λ (k : CountsView). k.says) c.open_on.ensures.only.rest.counts
+
+pub returns-in-Err-Disk-clause-says : goal.returns-in-Err-Disk-clause-says
+returns-in-Err-Disk-clause-says g c = ap (λ (k : CountsView). k.says) c.open_on.ensures.only.rest.counts
+
+pub returns-in-Err-Memory-clause-says : goal.returns-in-Err-Memory-clause-says
+returns-in-Err-Memory-clause-says g c = ap (λ (k : CountsView). k.says) c.open_on.ensures.only.rest.counts

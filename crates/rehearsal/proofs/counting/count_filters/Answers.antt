@@ -1,4 +1,4 @@
-use Rattle.std.proofs.Common.{ℕ, arith, length}
+use Rattle.std.proofs.Common.{◌∙◌, ℕ, arith, length}
 use Rattle.slpf_acts.specs.Acts.{table_of}
 use Rattle.slpf_actuator.specs.ActuatorView.{ActuatorView}
 use Rattle.rehearsal.proofs.Held.{holds_next, keeps_then, more_counted}
@@ -21,6 +21,7 @@ loop-agent-preserved g c = record {
   low = omega arith;
   keeps = keeps_then (g.D.Disk.view c.args.disk.now).disk (g.D.Disk.view c.loop-agent.disk).disk (g.D.Disk.view c.count_filter.new.disk).disk c.loop-agent.invariant.keeps c.in-Ok.ensures.keeps;
   calls = calls_next c.loop-agent.agent (g.D.Disk.view c.args.disk.now).disk (g.D.Disk.view c.loop-agent.disk).disk (g.D.Disk.view c.count_filter.new.disk).disk c.loop-agent.invariant.low c.loop-agent.invariant.calls c.count_filter.ensures.calls c.count_filter.ensures.others;
+  says = c.count_filter.ensures.says ∙ c.loop-agent.invariant.says;
   first = first_stays c.loop-agent.agent (g.D.Disk.view c.args.disk.now).disk (g.D.Disk.view c.loop-agent.disk).disk (g.D.Disk.view c.count_filter.new.disk).disk c.loop-agent.invariant.low c.loop-agent.invariant.first c.count_filter.ensures.others;
   acts = λ filters are.
       more_counted acts_of c.loop-agent.agent c.loop-agent.all.acts c.in-Ok.one.acts (g.D.Disk.view c.args.disk.now) (g.D.Disk.view c.loop-agent.disk) filters c.loop-agent.invariant.low

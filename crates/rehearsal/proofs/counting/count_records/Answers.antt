@@ -1,4 +1,5 @@
 use Rattle.std.proofs.Common.{◌∙◌, ap}
+use Rattle.cacao_site.specs.View.{CountsView}
 use Rattle.std.specs.Prelude.{Err}
 use Rattle.rehearsal.proofs.Held.{keeps_only, records_counted, run_stands}
 use Rattle.rehearsal.proofs.counting.count_records.Goals as goal
@@ -33,3 +34,12 @@ returns-in-Err-Disk-clause-keeps g c =
 pub returns-in-Err-Memory-clause-keeps : goal.returns-in-Err-Memory-clause-keeps
 returns-in-Err-Memory-clause-keeps g c =
     keeps_only 0 (g.D.Disk.view c.args.disk.now) (g.D.Disk.view c.open_on.new.disk) (record { each = c.open_on.ensures.each_beat; others = c.open_on.ensures.others; rest = c.open_on.ensures.rest })
+
+pub returns-in-Ok-clause-says : goal.returns-in-Ok-clause-says
+returns-in-Ok-clause-says g c = ap (λ (k : CountsView). k.says) c.open_on.ensures.rest.counts
+
+pub returns-in-Err-Disk-clause-says : goal.returns-in-Err-Disk-clause-says
+returns-in-Err-Disk-clause-says g c = ap (λ (k : CountsView). k.says) c.open_on.ensures.rest.counts
+
+pub returns-in-Err-Memory-clause-says : goal.returns-in-Err-Memory-clause-says
+returns-in-Err-Memory-clause-says g c = ap (λ (k : CountsView). k.says) c.open_on.ensures.rest.counts

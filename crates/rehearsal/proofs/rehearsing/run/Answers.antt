@@ -26,10 +26,10 @@ count-requires-clause-filters c =
 pub returns-in-Ok-count-clause-ok : goal.returns-in-Ok-count-clause-ok
 returns-in-Ok-count-clause-ok c =
     runs_well c.args.setup c.in-Ok.close c.args.answers.now (view_of c.args.site.now.site) (view_of c.session.new.site.site) c.requires.none c.in-Ok.ensures.closed
-    (sym c.is_well.ensures ∙ c.if-not-is_well.false) (view_of c.count.new.disk.site) c.in-Ok-count.summary c.count.ensures.keeps c.count.ensures.few c.in-Ok-count.ensures.counts
+    (sym c.is_well.ensures ∙ c.if-not-is_well.false) (view_of c.count.new.disk.site) c.in-Ok-count.summary c.count.ensures.keeps c.count.ensures.few c.count.ensures.says c.in-Ok-count.ensures.counts
 
 pub returns-in-Err-Disk-clause-err : goal.returns-in-Err-Disk-clause-err
 returns-in-Err-Disk-clause-err c =
     fails_to_count c.args.setup c.in-Ok.close c.args.answers.now (view_of c.args.site.now.site) (view_of c.session.new.site.site) c.requires.none c.in-Ok.ensures.closed
-    (sym c.is_well.ensures ∙ c.if-not-is_well.false) (view_of c.count.new.disk.site) c.count.ensures.keeps c.count.ensures.few
+    (sym c.is_well.ensures ∙ c.if-not-is_well.false) (view_of c.count.new.disk.site) c.count.ensures.keeps c.count.ensures.few c.count.ensures.says
     (c.count.ensures.disk (c.in-Err-Disk.is ∙ ap (λ e. Err e) c.in-Err-Disk.field-0-is))

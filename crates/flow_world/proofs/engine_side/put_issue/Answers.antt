@@ -1,5 +1,0 @@
-use Rattle.flow_world.proofs.Standing.{filters_kept}
-use Rattle.flow_world.proofs.engine_side.put_issue.Goals as goal
-
-pub returns-in-Ok-clause-filters : goal.returns-in-Ok-clause-filters
-returns-in-Ok-clause-filters g c = filters_kept (g.S.Disk.view c.args.site.now) (g.S.Disk.view c.send-done.new.site) c.in-Ok.ensures.ok.put.disk.disk

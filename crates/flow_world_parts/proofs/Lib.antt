@@ -1,0 +1,13 @@
+pub mod ActSteps
+pub mod EngineSide
+pub mod EngineSteps
+pub mod FilterSteps
+pub mod HandSteps
+pub mod MoveSteps
+pub mod OpenFiles
+pub mod OpenSteps
+pub mod SessionSteps
+pub mod Standing
+pub mod Told
+pub mod TurnSteps
+pub mod WaitSteps
