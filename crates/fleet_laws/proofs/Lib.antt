@@ -1,0 +1,7 @@
+mod Seen
+mod Numbers
+mod Lines
+mod Others
+mod Events
+mod Bystanders
+mod Racks
