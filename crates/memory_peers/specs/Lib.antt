@@ -1,0 +1,4 @@
+pub mod Failing
+pub mod Pieces
+pub mod MemoryLink
+pub mod MemoryPeers

@@ -1,0 +1,9 @@
+mod Lists
+mod Fits
+mod Starts
+mod Kept
+mod Agreed
+mod EngineRecord
+mod EngineCalls
+mod FilterCalls
+mod Blank
