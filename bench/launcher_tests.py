@@ -1,5 +1,5 @@
 #!/usr/bin/env python3
-"""Tries ./cacao and ./prove in seconds, with stand-ins for the toolchain, for the build without proof and for what `rt ci` keeps.
+"""Tries ./cacao, ./cacao-view and ./prove in seconds, with stand-ins for the toolchain, for the build without proof and for what `rt ci` keeps.
 
     bench/launcher_tests.py            # all, in some processes at one time
     bench/launcher_tests.py Order.test_a_proved_program_is_taken_first
@@ -33,7 +33,7 @@ class Repository(unittest.TestCase):
         for path, text in FILES.items():
             self.write(self.top / path, text)
         (self.top / "bench").mkdir()
-        for name in ("cacao", "prove"):
+        for name in ("cacao", "cacao-view", "prove"):
             shutil.copy(ROOT / name, self.top / name)
         shutil.copytree(ROOT / "bench" / "launcher_parts", self.top / "bench" / "launcher_parts", ignore=shutil.ignore_patterns("__pycache__"))
         self.write(self.top / "bench/launcher_parts/unproved_build.py", BUILD)
@@ -71,8 +71,8 @@ class Repository(unittest.TestCase):
             self.assertIn(text, errors)
         return errors
 
-    def prove(self, status=0):
-        ran = self.started(command=self.top / "prove")
+    def prove(self, *words, status=0):
+        ran = self.started(*words, command=self.top / "prove")
         _, errors = ran.communicate(timeout=120)
         self.assertEqual(ran.returncode, status, errors)
         return errors
@@ -269,6 +269,42 @@ class Ways(Repository):
         self.assertEqual((self.notes / "rt").read_text().count("ci in copy"), 1)
 
 
+class SecondName(Repository):
+    """The program that only looks, of the same launcher."""
+
+    def looks(self, wanted, *words, **more):
+        return self.says(wanted, *words, command=self.top / "cacao-view", **more)
+
+    def test_each_program_is_built_once(self):
+        self.looks("looks a  b\n", "a  b", of_errors="./prove cacao-view proves it")
+        self.says("unproved a\n", "a", of_errors="./prove proves it")
+        self.looks("looks\n", status=5, WANTED="5")
+        self.says("unproved\n")
+        self.assertEqual((self.count("builds"), self.count("rt")), (2, 0))
+
+    def test_it_is_proved_by_its_word(self):
+        self.assertIn("cacao_view_main proved; 3 of 3 crates, 0 left", self.prove("cacao-view"))
+        self.assertEqual(self.looks("proved help\n", "help"), "")
+        self.says("unproved\n")
+        self.assertIn("proved already", self.prove("cacao-view"))
+
+    def test_what_it_does_not_stand_on(self):
+        self.prove("cacao-view")
+        self.write(self.top / "crates/high/src/lib.rt", "// hihg\n")
+        self.assertEqual(self.looks("proved\n"), "")
+        self.write(self.top / "crates/other/src/lib.rt", "// ohter\n")
+        self.looks("looks\n")
+
+    def test_through_a_link(self):
+        (self.room / "link").symlink_to(self.top / "cacao-view")
+        self.says("looks a\n", "a", command=self.room / "link", of_errors="./prove cacao-view proves it")
+
+    def test_another_toolchain_proves(self):
+        self.write(self.kit / "KIT-ID", "rattle-kit-99 logic 0\n")
+        self.looks("proved a\n", "a", of_errors="so ./prove cacao-view proves the program")
+        self.assertEqual(self.count("builds"), 0)
+
+
 class CutOff(Repository):
     def killed(self, number, of_group, command="cacao"):
         """Kills a call in the middle of its build, and returns its status."""
@@ -350,6 +386,7 @@ class Gate(Repository):
         for command in (".ci/run", "bench/gate.sh"):
             self.assertTrue(self.ran(command).endswith("9 passed, 0 failed\n"))
             self.assertEqual(self.says("proved a\n", "a"), "")
+            self.assertEqual(self.says("proved b\n", "b", command=self.top / "cacao-view"), "")
             self.assertEqual(self.left(), [])
             shutil.rmtree(self.top / ".build")
         self.assertEqual((self.notes / "checks").read_text(), "wrong_bodies.py --stand\nlauncher_tests.py \n")
@@ -396,9 +433,8 @@ class Proof(Repository):
         self.assertEqual(self.left(), [])
 
     def test_it_takes_no_words(self):
-        ran = self.started("canon", command=self.top / "prove")
-        self.assertIn("takes no words", ran.communicate()[1])
-        self.assertEqual(ran.returncode, 2)
+        self.assertIn("takes no words", self.prove("canon", status=2))
+        self.assertIn("takes no words", self.prove("cacao-view", "canon", status=2))
 
     def test_where_rt_ci_can_keep_nothing(self):
         if os.geteuid():

@@ -1,9 +1,9 @@
 #!/usr/bin/env python3
 """Takes the proved program that an `rt ci` on this machine kept of exactly these sources, in this checkout or another.
 
-    bench/launcher_parts/kept_program.py OUT
+    bench/launcher_parts/kept_program.py OUT PROGRAM
 
-Ends with status 0 where there is one, which is then the file OUT, and else with status 1 and no word.
+PROGRAM is its crate. Ends with status 0 where there is one, which is then the file OUT, and else with status 1 and no word.
 
 `rt ci` keeps what it proved beside the toolchain, under sums of all that a proof reads: the toolchain, HANDLES, a crate's line of
 crates.txt and its files, and the libraries below it as they were built. Here the same sums are made, from the lowest crate up, by the
@@ -19,7 +19,6 @@ import sys
 import kit
 
 ROOT = pathlib.Path(__file__).resolve().parent.parent.parent
-PROGRAM = "cacao"
 
 
 def entry(rt, kept, crate):
@@ -34,11 +33,11 @@ def entry(rt, kept, crate):
     return (place, files) if made["key"] == key else None
 
 
-def kept_program(rt):
+def kept_program(rt, name_of_program):
     """The file of the proved program, and its sum, or None."""
     os.chdir(ROOT)
     rt.Crate.allowed, rt.rtlib.Crate = rt.handles_of(str(ROOT)), rt.Crate
-    program = {crate.name: crate for crate in rt.rtlib.crates_below(str(ROOT))}[PROGRAM]
+    program = {crate.name: crate for crate in rt.rtlib.crates_below(str(ROOT))}[name_of_program]
     kept = rt.Kept([], False)
     if not kept.at:
         return None
@@ -51,13 +50,13 @@ def kept_program(rt):
     if not found:
         return None
     place, files = found
-    return next((place / str(at), total) for at, (name, total) in enumerate(files) if name == PROGRAM)
+    return next((place / str(at), total) for at, (name, total) in enumerate(files) if name == name_of_program)
 
 
 def main(words):
     out = pathlib.Path(words[0]).resolve()
     try:
-        found = kept_program(kit.loaded())
+        found = kept_program(kit.loaded(), words[1])
         if not found:
             return False
         shutil.copyfile(found[0], out)

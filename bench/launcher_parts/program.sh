@@ -1,10 +1,9 @@
-# Functions for `./cacao`, `./prove`, `.ci/run` and `bench/gate.sh`, which set `top`, the top of the repository: what a program is made of,
-# the folder in which it stands, and whose turn it is to build there.
+# Functions for `./cacao`, `./cacao-view`, `./prove`, `.ci/run` and `bench/gate.sh`, which set `top`, the top of the repository, and `program`,
+# the crate of a program: what a program is made of, the folder in which it stands, and whose turn it is to build there.
 #
 # A program NAME stands beside NAME.sources, the list of what it was made of (made_of), and NAME.times, by which an unchanged list is known
 # sooner. Whoever replaces a program removes these first and writes them last, so what was cut off half way counts for nothing.
 
-program=cacao
 # The toolchain with which unproved_build.py and kept_program.py were tried; they lean on what it does not document.
 known_kit='rattle-kit-13f logic dac8208d650f15bf'
 
@@ -100,7 +99,7 @@ put() {
 
 # The caller's own folder for programs of this checkout.
 own_folder() {
-    echo "${XDG_CACHE_HOME:-${HOME:-/dev/null}/.cache}/$program/$(echo "$top" | sha256sum | cut -c 1-16)"
+    echo "${XDG_CACHE_HOME:-${HOME:-/dev/null}/.cache}/cacao/$(echo "$top" | sha256sum | cut -c 1-16)"
 }
 
 # Sets `folder` to the one to build in: `.build`, or the caller's own where that cannot be written.
@@ -166,26 +165,45 @@ store() {
 take_kept() {
     [ "$(kit_line)" = "$known_kit" ] && found=$(ls -d "$(store)/proof-$program"-* 2>/dev/null) && choose_folder || return 1
     sought=$(times_of "$top" proved; echo "$found")
-    [ "$sought" != "$(cat "$folder/sought" 2>/dev/null)" ] || return 1
+    [ "$sought" != "$(cat "$folder/$program.sought" 2>/dev/null)" ] || return 1
     take_turn build "take a proved program" && made_of "$top" proved >"$folder/made.sources" || return 1
-    begin python3 "$top/bench/launcher_parts/kept_program.py" "$folder/made"
+    begin python3 "$top/bench/launcher_parts/kept_program.py" "$folder/made" "$program"
     if end && made_of "$top" proved | cmp -s - "$folder/made.sources"; then
         put "$folder/made" "$folder/made.sources" "$folder/$program"
     else
-        echo "$sought" >"$folder/sought"
+        echo "$sought" >"$folder/$program.sought"
         rm -f "$folder"/made*
     fi
     give_turn
     is_current "$top" proved "$folder/$program"
 }
 
-# Notes what the proved program would be made of, before `rt ci` runs in `top`.
-before_gate() {
-    listed=$(mktemp) && made_of "$top" proved >"$listed"
+# The crates of the programs that crates.txt lists.
+programs_listed() {
+    for program in cacao cacao_view_main; do
+        ! grep -q "^$program:" "$top/crates.txt" || echo "$program"
+    done
 }
 
-# Keeps the program that `rt ci` proved and ran, if what it is made of is still the same. It fails nothing.
+# Notes what the proved programs would be made of, before `rt ci` runs in `top`.
+before_gate() {
+    noted=$(mktemp -d) || return 1
+    for program in $(programs_listed); do
+        made_of "$top" proved >"$noted/$program"
+    done
+}
+
+# Keeps the programs that `rt ci` proved and ran. It fails nothing.
 after_gate() {
+    for program in $(programs_listed); do
+        listed=$noted/$program
+        keep_listed
+    done
+    rm -rf "$noted"
+}
+
+# Keeps the program that `rt ci` proved and ran, if what it is made of is still the list `listed`.
+keep_listed() {
     made_of "$top" proved | cmp -s - "$listed" && choose_folder && (
         take_turn build "keep the program" && cp "$top/crates/$program/out/$program" "$folder/made" &&
             put "$folder/made" "$listed" "$folder/$program" && say "kept the proved program as $folder/$program"

@@ -1,6 +1,6 @@
 """What stands for the toolchain, for the build without proof and for what `rt ci` keeps, in bench/launcher_tests.py."""
 
-# What stands for `rt`: it notes each call, and `rt ci` and `rt run` leave a program in crates/cacao/out.
+# What stands for `rt`: it notes each call, and `rt ci` and `rt run` leave programs in their crates' out/.
 RT = r"""#!/bin/sh
 echo "$* in $(basename "$PWD")" >>"$NOTES/rt"
 leave() {
@@ -10,8 +10,8 @@ leave() {
         done
     fi
     mkdir -p "$1"
-    printf '#!/bin/sh\necho proved "$@"\nexit "${WANTED:-0}"\n' >"$1/cacao"
-    chmod +x "$1/cacao"
+    printf '#!/bin/sh\necho proved "$@"\nexit "${WANTED:-0}"\n' >"$1/$2"
+    chmod +x "$1/$2"
 }
 case $1 in
 version) cat "$(dirname "$0")/../KIT-ID" ;;
@@ -20,11 +20,13 @@ ci)
         [ ! -e "$NOTES/fails" ] || { echo "rt: $crate NOT PROVED"; exit 1; }
         echo "rt: $crate proved"
     done
-    leave crates/cacao/out
+    for crate in cacao cacao_view_main; do
+        [ ! -d "crates/$crate" ] || leave "crates/$crate/out" "$crate"
+    done
     echo "9 passed, 0 failed"
     ;;
 lib) ;;
-run) leave out ;;
+run) leave out "$(basename "$PWD")" ;;
 *) exit 3 ;;
 esac
 """
@@ -49,7 +51,7 @@ with tempfile.TemporaryDirectory(prefix="work.", dir=pathlib.Path(sys.argv[1]).p
         with open(notes.parent / "a repository" / "crates" / "low" / "src" / "lib.rt", "a") as it:
             it.write("// one more\n")
     made = pathlib.Path(sys.argv[1])
-    made.write_text('#!/bin/sh\necho unproved "$@"\nexit "${WANTED:-0}"\n')
+    made.write_text(f'#!/bin/sh\necho {"unproved" if sys.argv[2] == "cacao" else "looks"} "$@"\nexit "${{WANTED:-0}}"\n')
     made.chmod(0o755)
 """
 
@@ -66,7 +68,8 @@ os.chmod(sys.argv[1], 0o755)
 """
 
 FILES = {
-    "crates.txt": "# crates\nlow:\nother: low\nhigh: low\ncacao: high\ncacao_tests: high\n",
+    "crates.txt": "# crates\nlow:\nother: low\nhigh: low\ncacao: high\ncacao_view_main: other\ncacao_tests: high\n",
+    "crates/cacao_view_main/src/main.rt": "// the program that looks\n",
     "HANDLES": "Handles allowed: Net, Processes.\n",
     "crates/low/src/lib.rt": "// low\n",
     "crates/low/src/tests.rt": "// tests\n",

@@ -1,0 +1,32 @@
+-- What a call of the program does.
+use Rattle.std.specs.Prelude.{◌≡◌, ℕ, ◌≤◌}
+use Rattle.cacao_site.specs.DiskCalls.{EachBeat, IsLeft}
+use Rattle.cacao_site.specs.SayCalls.{KeepsTime}
+use Rattle.cacao_site.specs.View.{SiteView}
+use Rattle.cacao_view_words.specs.Requests.{Request}
+use Rattle.cacao_view.specs.Ends.{End}
+use Rattle.cacao_view.specs.Lines.{SaysWork, Tells}
+use Rattle.cacao_view.specs.Work.{Work, says, work}
+
+-- No file was written, nothing was put or taken, and no time went by: each image that a crash may leave of a file at each beat of
+-- the call is one that it could leave before.
+pub record OnlyLooks (old new : SiteView) : Type 0 where
+  pub images : (file : ℕ) → EachBeat file old.disk new.disk (IsLeft old.disk file old.disk.beat)
+  pub written : new.disk.written ≤ old.disk.written
+  pub puts : new.link.puts ≡ old.link.puts
+  pub taken : new.link.taken ≡ old.link.taken
+  pub empty_takes : new.link.empty_takes ≡ old.link.empty_takes
+  pub pending : new.link.pending ≡ old.link.pending
+  pub time : KeepsTime old.clock new.clock
+  pub mishaps : new.counts.mishaps ≡ old.counts.mishaps
+
+-- the work was done, from the one site to the other, all but the last line
+abbrev pub Looks : Work → SiteView → SiteView → End → Type 0
+Looks (says lines end) old new last = SaysWork lines end old new last
+
+-- the work of the request was done, its last line was said, if it has one, and its status answered
+pub record Ended (request : Request) (old new : SiteView) (answer : ℕ) : Type 0 where
+  pub between : SiteView
+  pub last : End
+  pub looks : Looks (work request) old between last
+  pub tells : Tells last between new answer

@@ -1,0 +1,8 @@
+//! The program that only looks, as one call: from the words to the lines said and the exit status. It writes no file and sends nothing.
+#![tactic(auto)]
+
+mod end;
+mod program;
+mod say;
+
+pub use program::view;

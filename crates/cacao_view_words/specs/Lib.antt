@@ -1,0 +1,6 @@
+pub mod Asked
+pub mod Requests
+pub mod Rules
+pub mod Texts
+pub mod Topics
+pub mod Wants

@@ -1,0 +1,108 @@
+// The words of which help tells.
+ghost use Rattle.std.specs.Prelude.{◌≡◌};
+ghost use Rattle.cacao_view_words.specs.Texts.{AreLines, lines_in};
+ghost use Rattle.cacao_view_words.specs.Topics.{all_words, topic_in, topic_lines, version_lines};
+
+use crate::topic_texts::{
+    ALL_WORDS, AUDIT, CANON, CHECK, DECIDE, EXPLAIN, HELP, REHEARSE, RULES, RUN, SHADOW, SHOW,
+    VERSION, VERSION_LINES,
+};
+
+/// A word of one of the two programs.
+#[derive(Clone, Copy)]
+pub enum Topic {
+    Canon,
+    Check,
+    Run,
+    Show,
+    Rules,
+    Decide,
+    Shadow,
+    Audit,
+    Rehearse,
+    Help,
+    Version,
+    Explain,
+}
+
+impl Topic {
+    /// What there is to know of the word, a line each: what stands behind it, what it does, its options, and its statuses.
+    pub fn lines(self) -> &'static [&'static str]
+        ensures value { lines_in result.now ≡ topic_lines self }
+        ensures whole { AreLines (lines_in result.now) }
+    {
+        match self {
+            Topic::Canon => CANON,
+            Topic::Check => CHECK,
+            Topic::Run => RUN,
+            Topic::Show => SHOW,
+            Topic::Rules => RULES,
+            Topic::Decide => DECIDE,
+            Topic::Shadow => SHADOW,
+            Topic::Audit => AUDIT,
+            Topic::Rehearse => REHEARSE,
+            Topic::Help => HELP,
+            Topic::Version => VERSION,
+            Topic::Explain => EXPLAIN,
+        }
+    }
+}
+
+/// The word, if it is one of the two programs'.
+pub(crate) fn topic_in(word: &str) -> Option<Topic>
+    ensures { result ≡ topic_in word.now }
+{
+    if word == "canon" {
+        return Some(Topic::Canon);
+    }
+    if word == "check" {
+        return Some(Topic::Check);
+    }
+    if word == "run" {
+        return Some(Topic::Run);
+    }
+    if word == "show" {
+        return Some(Topic::Show);
+    }
+    if word == "rules" {
+        return Some(Topic::Rules);
+    }
+    if word == "decide" {
+        return Some(Topic::Decide);
+    }
+    if word == "shadow" {
+        return Some(Topic::Shadow);
+    }
+    if word == "audit" {
+        return Some(Topic::Audit);
+    }
+    if word == "rehearse" {
+        return Some(Topic::Rehearse);
+    }
+    if word == "help" {
+        return Some(Topic::Help);
+    }
+    if word == "version" {
+        return Some(Topic::Version);
+    }
+    if word == "explain" {
+        return Some(Topic::Explain);
+    }
+    None
+}
+
+/// What help says of all words of both programs, a line each.
+pub fn all_words() -> &'static [&'static str]
+    ensures value { lines_in result.now ≡ all_words }
+    ensures whole { AreLines (lines_in result.now) }
+{
+    ALL_WORDS
+}
+
+/// The version, and of which standards, a line each.
+pub fn version_lines() -> &'static [&'static str]
+    ensures value { lines_in result.now ≡ version_lines }
+    ensures whole { AreLines (lines_in result.now) }
+{
+    VERSION_LINES
+}

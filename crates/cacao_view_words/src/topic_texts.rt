@@ -1,0 +1,107 @@
+// What help says: of all words, and of each.
+
+/// Of all words of both programs, a line each.
+pub(crate) const ALL_WORDS: &[&str] = &[
+    "cacao canon BOOK: says the canonical text of a playbook, as in: cacao canon a.json\n",
+    "cacao check BOOK [LIBRARY..]: says whether playbooks are accepted, or which rule they break first, as in: cacao check a.json b.json\n",
+    "cacao run --run N [--steps N] [--bind FILE] [--answers FILE] BOOK [LIBRARY..]: begins run N of a playbook or goes on with it, as in: cacao run --run 7 a.json\n",
+    "cacao show: says how the run in this folder stands, as in: cacao show\n",
+    "cacao rules AGENT: says the rules that a filter holds, as in: cacao rules 1\n",
+    "cacao decide AGENT PACKETS: says what a filter decides for packets, as in: cacao decide 1 p.txt\n",
+    "cacao shadow AGENT: says which rules of a filter never decide, as in: cacao shadow 1\n",
+    "cacao audit ENGINE [AGENT FILE ..]: says whether the files of a run agree, as in: cacao audit engine.journal 1 agent-01.journal\n",
+    "cacao rehearse N: makes a playbook of N positions and runs it in memory, as in: cacao rehearse 3\n",
+    "cacao-view help [WORD]: says these lines, or what there is to know of one word, as in: cacao-view help run\n",
+    "cacao-view version: says the version, and of which standards, as in: cacao-view version\n",
+    "cacao-view explain RULE: says a rule and how a break of it is usually mended, as in: cacao-view explain K22\n",
+];
+
+pub(crate) const CANON: &[&str] = &[
+    "cacao canon BOOK\n",
+    "Says the canonical text (RFC 8785) of the JSON text in the file BOOK, without the member signatures of its top object. It reads BOOK and no other file.\n",
+    "Status 0: it was said. 3: the file could not be read. 4: there is no such file. 5: it is not JSON, has a name twice, or has a number that is not whole. 11: it is longer than 1,048,576 bytes.\n",
+    "Status 2: the words were not understood. 9: a line could not be written. 10: memory was wanted.\n",
+];
+
+pub(crate) const CHECK: &[&str] = &[
+    "cacao check BOOK [LIBRARY..]\n",
+    "Says accepted where the playbooks together break none of the rules K1 to K25, to be read and not to be run, else the first rule that they break: cacao-view explain tells of a rule. At most 16 playbooks.\n",
+    "Status 0: accepted. 1: a rule is broken. 3, 4, 5 and 11: as for cacao canon, of the first file at fault; 11 also where there are more than 16 playbooks.\n",
+    "Status 2: the words were not understood. 9: a line could not be written. 10: memory was wanted.\n",
+];
+
+pub(crate) const RUN: &[&str] = &[
+    "cacao run --run N [--steps N] [--bind FILE] [--answers FILE] BOOK [LIBRARY..]\n",
+    "Begins run N of the playbook BOOK in this folder, or goes on with it, with the playbooks that it may call. Says a line for each record that it appends to engine.journal, and then how it ended. The same words again go on where a call was cut off.\n",
+    "--run N: the run's number, 1 to 9,007,199,254,740,991. --steps N: the most records of this call, 1,000,000,000 where it is not given.\n",
+    "--bind FILE: which agent is which filter, 1 to 16, and texts of external variables. An agent that is not bound is filter 1. --answers FILE: lines RUN ISSUE STATUS TEXT of what operators answered.\n",
+    "Status 0: ended ok. 6: ended failed. 7: paused, as many records as --steps allows. 14: waits for a moment. 15: too many messages changed nothing. 16: waits for an operator's answer.\n",
+    "Status 1: a rule K1 to K25 or B1 to B3 is broken. 3, 4 and 5: a file could not be read, is not there, or has no reading. 8: the disk failed. 11: a limit would be passed. 12: the files are those of another run or of other playbooks. 13: a file is damaged.\n",
+    "Status 2: the words were not understood. 9: a line could not be written. 10: memory was wanted.\n",
+];
+
+pub(crate) const SHOW: &[&str] = &[
+    "cacao show\n",
+    "Says how the run stands that engine.journal in this folder keeps: no run, or its number, how many records it has, the moment of the last one, each task, issue and variable, and the state, a line each. It writes nothing.\n",
+    "Status 0: it was said. 8: the disk failed. 11: the run has more than 1,000,000 tasks. 13: the file is damaged.\n",
+    "Status 2: the words were not understood. 9: a line could not be written. 10: memory was wanted.\n",
+];
+
+pub(crate) const RULES: &[&str] = &[
+    "cacao rules AGENT\n",
+    "Says the rules that the filter of AGENT, 1 to 16, holds by its file agent-NN.journal in this folder, a line each: NUMBER VERDICT DIRECTION FLOW START STOP DROP. A filter without a file holds none. It writes nothing.\n",
+    "Status 0: they were said. 8: the disk failed. 13: the file is damaged.\n",
+    "Status 2: the words were not understood. 9: a line could not be written. 10: memory was wanted.\n",
+];
+
+pub(crate) const DECIDE: &[&str] = &[
+    "cacao decide AGENT PACKETS\n",
+    "Says what the filter of AGENT, 1 to 16, decides for each packet of the file PACKETS: allow N or deny N, N the number of the rule that decides, or - where none does. A line of the file is MOMENT DIRECTION PROTOCOL SOURCE PORT DESTINATION PORT. It writes nothing.\n",
+    "Status 0: it was said. 3, 4, 5 and 11: the file could not be read, is not there, has a line that is no packet, or is longer than 1,048,576 bytes. 8: the disk failed. 13: the filter's file is damaged.\n",
+    "Status 2: the words were not understood. 9: a line could not be written. 10: memory was wanted.\n",
+];
+
+pub(crate) const SHADOW: &[&str] = &[
+    "cacao shadow AGENT\n",
+    "Says which rules of the filter of AGENT, 1 to 16, never decide, since an earlier one by itself decides wherever they would: RULE by EARLIER, a line each. It writes nothing.\n",
+    "Status 0: they were said. 8: the disk failed. 13: the filter's file is damaged.\n",
+    "Status 2: the words were not understood. 9: a line could not be written. 10: memory was wanted.\n",
+];
+
+pub(crate) const AUDIT: &[&str] = &[
+    "cacao audit ENGINE [AGENT FILE ..]\n",
+    "Says whether the engine's file ENGINE and the files of filters, each behind its agent's number, stand for a run and for acts that agree, or where they first do not. It reads the files by their names, so it may be asked of copies.\n",
+    "Status 0: they agree. 18: they do not. 3, 4 and 11: a file could not be read, is not there, or is longer than 67,108,864 bytes; 11 also where the run has more than 1,000,000 tasks.\n",
+    "Status 2: the words were not understood. 9: a line could not be written. 10: memory was wanted.\n",
+];
+
+pub(crate) const REHEARSE: &[&str] = &[
+    "cacao rehearse N\n",
+    "Makes a playbook with N positions, 1 to 1,000, runs it on a site in memory of its own, and says what was counted. It touches no file.\n",
+    "Status 0: the rehearsal ended ok. 1, 6, 8, 11 and 15: as for cacao run, of the rehearsal.\n",
+    "Status 2: the words were not understood. 9: a line could not be written. 10: memory was wanted.\n",
+];
+
+pub(crate) const HELP: &[&str] = &[
+    "cacao-view help [WORD]\n",
+    "Says a line for each word of cacao and of cacao-view, or what there is to know of WORD: what stands behind it, its options, and its statuses. --help, -h and no words at all are the same as help.\n",
+    "Status 0: it was said. 2: there is no such word. 9: a line could not be written. 10: memory was wanted.\n",
+];
+
+pub(crate) const VERSION: &[&str] = &[
+    "cacao-view version\n",
+    "Says the version, and of which standards. --version is the same.\n",
+    "Status 0: it was said. 2: there were more words. 9: a line could not be written. 10: memory was wanted.\n",
+];
+
+pub(crate) const EXPLAIN: &[&str] = &[
+    "cacao-view explain RULE\n",
+    "Says the sentence of a rule, K1 to K25 of playbooks or B1 to B3 of bindings, and how a break of it is usually mended, a line each. cacao check and cacao run name the rule that is broken.\n",
+    "Status 0: it was said. 2: there is no such rule. 9: a line could not be written. 10: memory was wanted.\n",
+];
+
+/// What `version` says.
+pub(crate) const VERSION_LINES: &[&str] = &[
+    "cacao and cacao-view 1\n",
+    "playbooks of CACAO 2.0; commands of OpenC2 1.0 with the actuator profile SLPF 1.0; canonical JSON by RFC 8785\n",
+];

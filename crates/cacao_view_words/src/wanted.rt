@@ -1,0 +1,47 @@
+// What was wanted in the place of words that have no reading.
+ghost use Rattle.std.specs.Prelude.{◌≡◌, IsTrue};
+ghost use Rattle.cacao_view_words.specs.Texts.{is_line};
+ghost use Rattle.cacao_view_words.specs.Wants.{wanted_line};
+
+/// What the line says where a word is wanted that begins the words.
+pub(crate) const WANTED_FIRST: &str =
+    "words not understood: help, version or explain is wanted first; cacao-view help says more\n";
+
+/// And where one word of the programs, or no word more, is wanted behind `help`.
+pub(crate) const WANTED_TOPIC: &str =
+    "words not understood: help takes no word more, or one word of cacao or of cacao-view; cacao-view help lists them\n";
+
+/// And where no word more is wanted.
+pub(crate) const WANTED_NO_MORE: &str = "words not understood: version takes no word more\n";
+
+/// And where a rule is wanted.
+pub(crate) const WANTED_RULE: &str =
+    "words not understood: explain takes one rule, K1 to K25 or B1 to B3\n";
+
+/// What was wanted where the words have no reading.
+#[derive(Clone, Copy)]
+pub enum Wanted {
+    /// A word that begins them.
+    First,
+    /// Behind `help`, a word of one of the programs, or none.
+    Topic,
+    /// Behind `version`, nothing.
+    NoMore,
+    /// Behind `explain`, a rule.
+    Rule,
+}
+
+impl Wanted {
+    /// The line that says so, with its line feed.
+    pub fn line(self) -> &'static str
+        ensures value { result.now ≡ wanted_line self }
+        ensures whole { IsTrue (is_line result.now) }
+    {
+        match self {
+            Wanted::First => WANTED_FIRST,
+            Wanted::Topic => WANTED_TOPIC,
+            Wanted::NoMore => WANTED_NO_MORE,
+            Wanted::Rule => WANTED_RULE,
+        }
+    }
+}
