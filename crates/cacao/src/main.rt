@@ -2,7 +2,7 @@
 #![tactic(auto)]
 
 use cacao_cli::top;
-use file_site::{FileShelf, FileSite};
+use cacao_site_files::{FileShelf, FileSite};
 use std::alloc::{AllocError, Global};
 use std::process::ExitCode;
 use std::{env, fs, io};

@@ -3,8 +3,8 @@ use Rattle.std.proofs.Common.{◌≡◌, ◌≢◌, inl, inr, ℕ, suc, ◌+◌,
 use Rattle.std.specs.List.{before_first, prefix_len}
 use Rattle.std.specs.Prelude.{IsSomeAnd, unwrap_or}
 use Rattle.cacao_vars.specs.Names.{IsName}
-use Rattle.cacao_shape.specs.Shape.{IsArgument}
-use Rattle.cacao_shape.proofs.ArgumentLemmas.{HasNoColon, name_has_no_colon}
+use Rattle.cacao_book_shape.specs.Shape.{IsArgument}
+use Rattle.cacao_book_shape.proofs.ArgumentLemmas.{HasNoColon, name_has_no_colon}
 use Rattle.cacao_book.specs.Books.{argument}
 
 not_colon : (c : ℕ) → c ≢ 58 → (c == 58) ≡ false

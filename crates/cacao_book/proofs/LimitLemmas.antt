@@ -12,12 +12,12 @@ use Rattle.serde_json.specs.Data.{Data, Members}
 use Rattle.serde_json.specs.Find.{get, as_str, as_array, as_object}
 use Rattle.cacao_ids.specs.Ids.{IsId}
 use Rattle.cacao_book.specs.declared.step_kinds.StepKind.TheVariants.{Start, End, Parallel}
-use Rattle.cacao_shape.specs.Members.{Has, TextFits, IsText, IsShort, IsObject, items_in, members_in, with_member, in_order, members_at, items_at, texts_at, text_of}
-use Rattle.cacao_shape.specs.Orders.{IsRising}
-use Rattle.cacao_shape.specs.Shape.{ShapeRule, KeepsOfStep, k4, k5, k9, k11, k12, IsArgument, is_of_type, IsWellShaped, IsWellShapedStep, workflow}
+use Rattle.cacao_book_shape.specs.Members.{Has, TextFits, IsText, IsShort, IsObject, items_in, members_in, with_member, in_order, members_at, items_at, texts_at, text_of}
+use Rattle.cacao_book_shape.specs.Orders.{IsRising}
+use Rattle.cacao_book_shape.specs.Shape.{ShapeRule, KeepsOfStep, k4, k5, k9, k11, k12, IsArgument, is_of_type, IsWellShaped, IsWellShapedStep, workflow}
 use Rattle.cacao_book.specs.Books.{arguments_at, argument, command_of, case_of, kind_at, action_of, playbook_action_of, if_of, while_of, switch_of, step_of}
 use Rattle.cacao_book.specs.Steps.{KindKeepsLimits, KeepsLimits, AreSteps}
-use Rattle.cacao_shape.proofs.ListLemmas.{items_fit, may_have}
+use Rattle.cacao_book_shape.proofs.ListLemmas.{items_fit, may_have}
 use Rattle.cacao_book.proofs.OrderLemmas.{steps_in_order}
 
 -- ---- how many members stand in order: no more than there are

@@ -3,7 +3,7 @@ use Rattle.std.proofs.Common.{ℕ, List, [], ◌∷◌, map}
 use Rattle.std.specs.List.{AllByRecursion}
 use Rattle.serde_json.specs.Data.{Data}
 use Rattle.cacao_vars.specs.Declarations.{IsBefore, IsInNameOrder}
-use Rattle.cacao_shape.specs.Orders.{IsRising}
+use Rattle.cacao_book_shape.specs.Orders.{IsRising}
 use Rattle.cacao_book.specs.Books.{var_of, step_of}
 use Rattle.cacao_book.specs.Steps.{IsInKeyOrder}
 

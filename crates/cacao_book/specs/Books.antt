@@ -1,4 +1,4 @@
--- The typed playbook of a tree's data. It is total, with defaults where the shape fails; `read_book` gives it only where
+-- Promise: The typed playbook of a tree's data. It is total, with defaults where the shape fails; `read_book` gives it only where
 -- no rule of shape is broken.
 use Rattle.std.specs.Prelude.{ℕ, ◌==◌, List, ◌++◌, map, codes, Option, Some, None, option_and_then, if◌then◌else◌}
 use Rattle.std.specs.Option.{option_map_or}
@@ -14,8 +14,8 @@ use Rattle.cacao_book.specs.declared.step_kinds.StepKind.{StepKind}
 use Rattle.cacao_book.specs.declared.step_kinds.StepKind.TheVariants.{Start, End, Action, PlaybookAction, Parallel, If, While, Switch}
 use Rattle.cacao_book.specs.declared.commands.StepCommand.{StepCommand}
 use Rattle.cacao_book.specs.declared.cases.Case.{Case}
-use Rattle.cacao_shape.specs.Members.{maybe_text, some_text, items_at, text_of, texts_at, number_at, flag_at, members_at}
-use Rattle.cacao_shape.specs.Shape.{is_of_type, workflow}
+use Rattle.cacao_book_shape.specs.Members.{maybe_text, some_text, items_at, text_of, texts_at, number_at, flag_at, members_at}
+use Rattle.cacao_book_shape.specs.Shape.{is_of_type, workflow}
 
 -- ---- arguments
 

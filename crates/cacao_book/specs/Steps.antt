@@ -1,4 +1,4 @@
--- Lists of steps: what each such list keeps, and steps by their keys.
+-- Promise: Lists of steps: what each such list keeps, and steps by their keys.
 use Rattle.std.specs.Prelude.{ℕ, suc, ◌≤◌, List, [], ◌∷◌, length, All, Option, Some, None, ⊤, slice_get, option_map, option_and_then, if◌then◌else◌}
 use Rattle.std.specs.List.{AllByRecursion}
 use Rattle.std.specs.Str.{bytes_eq}

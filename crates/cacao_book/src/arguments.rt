@@ -1,12 +1,12 @@
 // Reading arguments of actions as the names of variables that they mean.
-ghost use Rattle.std.specs.Prelude.{◌≡◌, All, IfOk, map};
+ghost use Rattle.std.specs.Prelude.{◌≡◌, All, IfOk};
 ghost use Rattle.cacao_json.specs.Tree.{data_of};
-ghost use Rattle.cacao_shape.specs.Members.{TextFits, text_of as text_of_data, items_at};
-ghost use Rattle.cacao_shape.specs.Shape.{IsArgument};
+ghost use Rattle.cacao_book_shape.specs.Members.{TextFits, text_of as text_of_data, items_at};
+ghost use Rattle.cacao_book_shape.specs.Shape.{IsArgument};
 ghost use Rattle.cacao_book.specs.Books.{argument, arguments_at};
 
+use cacao_book_shape::{items_at, text_or_empty};
 use cacao_json::Tree;
-use cacao_shape::{items_at, text_or_empty};
 use cacao_vars::{Name, Names};
 use std::alloc::{AllocError, Global};
 

@@ -1,14 +1,14 @@
 // Reading commands of actions, and their contents.
 ghost use Rattle.std.specs.Prelude.{◌≡◌, All, IfOk, codes};
 ghost use Rattle.cacao_json.specs.Tree.{data_of};
-ghost use Rattle.cacao_shape.specs.Members.{MayHave, TextFits, items_at};
-ghost use Rattle.cacao_shape.specs.Shape.{IsEncodedText, HasContent, OnType};
+ghost use Rattle.cacao_book_shape.specs.Members.{MayHave, TextFits, items_at};
+ghost use Rattle.cacao_book_shape.specs.Shape.{IsEncodedText, HasContent, OnType};
 ghost use Rattle.cacao_book.specs.Books.{sent_of, content_of, command_of, commands_at};
 
 use crate::commands::{StepCommand, StepCommands};
 use crate::text_reading::read_text;
+use cacao_book_shape::{decoded, has_type, items_at, some_text, text_at};
 use cacao_json::{Text, Tree};
-use cacao_shape::{decoded, has_type, items_at, some_text, text_at};
 use std::alloc::{AllocError, Global};
 
 // The content of an OpenC2 command.

@@ -2,12 +2,12 @@
 ghost use Rattle.std.specs.Prelude.{◌≡◌, IfOk};
 ghost use Rattle.cacao_vars.specs.Names.{IsName};
 ghost use Rattle.cacao_json.specs.Tree.{data_of, pair_data};
-ghost use Rattle.cacao_shape.specs.Members.{MayHave, maybe_text};
-ghost use Rattle.cacao_shape.specs.Shape.{IsDictionary};
+ghost use Rattle.cacao_book_shape.specs.Members.{MayHave, maybe_text};
+ghost use Rattle.cacao_book_shape.specs.Shape.{IsDictionary};
 ghost use Rattle.cacao_book.specs.Books.{var_of, vars_at};
 
+use cacao_book_shape::{flag_at, members_at, some_text, text_at};
 use cacao_json::{Pair, Tree};
-use cacao_shape::{flag_at, members_at, some_text, text_at};
 use cacao_vars::{Kind, Name, Var, Vars, Word};
 use std::alloc::{AllocError, Global};
 

@@ -17,7 +17,7 @@ mod text_reading;
 mod texts;
 
 pub use books::Book;
-pub use cacao_shape::BookError;
+pub use cacao_book_shape::BookError;
 pub use cases::{Case, Cases};
 pub use commands::{StepCommand, StepCommands};
 pub use finding::find_place;

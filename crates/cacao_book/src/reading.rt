@@ -1,19 +1,19 @@
 // Reading a tree as a playbook.
-ghost use Rattle.std.specs.Prelude.{◌≡◌, ◌++◌, OnOk, IfOk, IfErr, codes, map};
+ghost use Rattle.std.specs.Prelude.{◌≡◌, ◌++◌, OnOk, IfOk, IfErr, map};
 ghost use Rattle.cacao_ids.specs.Stamps.{IsStamp};
 ghost use Rattle.cacao_json.specs.Tree.{data_of, pair_data};
-ghost use Rattle.cacao_book.specs.Books.{book, names_at, agents_of};
-ghost use Rattle.cacao_shape.specs.Shape.{IsWellShaped};
-ghost use Rattle.cacao_shape.specs.Refusals.{RefusesTree};
+ghost use Rattle.cacao_book.specs.Books.{book, agents_of};
+ghost use Rattle.cacao_book_shape.specs.Shape.{IsWellShaped};
+ghost use Rattle.cacao_book_shape.specs.Refusals.{RefusesTree};
 
 use crate::books::Book;
 use crate::dictionaries::read_vars;
 use crate::step_reading::{known_id, read_steps};
 use crate::text_reading::{read_some_text, read_text};
 use crate::texts::Texts;
+use cacao_book_shape::{BookError, members_at, some_text, test_shape};
 use cacao_ids::Stamp;
 use cacao_json::{Pair, Text, Tree};
-use cacao_shape::{BookError, members_at, some_text, test_shape};
 use std::alloc::{AllocError, Global};
 
 // The stamp that a text is.

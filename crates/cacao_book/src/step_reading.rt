@@ -1,10 +1,10 @@
 // Reading the steps of a book that breaks no rule of shape.
-ghost use Rattle.std.specs.Prelude.{◌≡◌, ◌≤◌, IsTrue, All, IfOk, codes, map, nat_abs};
+ghost use Rattle.std.specs.Prelude.{◌≡◌, IsTrue, IfOk, codes, map, nat_abs};
 ghost use Rattle.std.specs.Option.{option_map_or};
 ghost use Rattle.cacao_ids.specs.Ids.{IsId};
 ghost use Rattle.cacao_json.specs.Tree.{data_of, pair_data};
-ghost use Rattle.cacao_shape.specs.Members.{MayHave, IsUpTo, whole, members_at, number_at, some_text, texts_at};
-ghost use Rattle.cacao_shape.specs.Shape.{IsWellShapedStep, IsWellShaped, K5, K9, K10, K11, is_of_type, workflow};
+ghost use Rattle.cacao_book_shape.specs.Members.{MayHave, IsUpTo, whole, members_at, number_at, texts_at};
+ghost use Rattle.cacao_book_shape.specs.Shape.{IsWellShapedStep, IsWellShaped, K9, K10, K11, is_of_type, workflow};
 ghost use Rattle.cacao_book.specs.Books.{action_of, playbook_action_of, if_of, while_of, switch_of, kind_at, step_of, case_of};
 ghost use Rattle.cacao_book.specs.declared.step_kinds.StepKind.TheVariants as step_kind;
 
@@ -16,9 +16,9 @@ use crate::step_kinds::StepKind;
 use crate::step_lists::Steps;
 use crate::steps::Step;
 use crate::text_reading::{read_some_text, read_text, read_texts};
+use cacao_book_shape::{has_type, members_at, text_or_empty};
 use cacao_ids::Id;
 use cacao_json::{Pair, Text, Tree, member, whole_of};
-use cacao_shape::{has_type, members_at, text_or_empty};
 use std::alloc::{AllocError, Global};
 
 // How many milliseconds a step's commands may take where it states no timeout.

@@ -1,11 +1,11 @@
 // Reading texts.
 ghost use Rattle.std.specs.Prelude.{◌≡◌, IfOk};
 ghost use Rattle.cacao_json.specs.Tree.{data_of};
-ghost use Rattle.cacao_shape.specs.Members.{maybe_text, some_text, texts_at};
+ghost use Rattle.cacao_book_shape.specs.Members.{maybe_text, some_text, texts_at};
 
 use crate::texts::Texts;
+use cacao_book_shape::{items_at, some_text, text_at, text_or_empty};
 use cacao_json::{Text, Tree};
-use cacao_shape::{items_at, some_text, text_at, text_or_empty};
 use std::alloc::{AllocError, Global};
 
 /// The text of a member.

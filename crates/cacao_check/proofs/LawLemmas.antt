@@ -3,19 +3,19 @@ use Rattle.std.proofs.Common.{◌≡◌, inl, inr, ℕ, ◌<◌, ◌≤◌, Bool
 use Rattle.std.specs.Fmt.{decimal}
 use Rattle.std.proofs.lemmas.Bool.{false≢true}
 use Rattle.serde_json.specs.Data.{Data}
-use Rattle.decimals.specs.Laws.{IntegersReadBack}
+use Rattle.base_decimals.specs.Laws.{IntegersReadBack}
 use Rattle.cacao_vars.specs.declared.kinds.Kind.{Kind}
 use Rattle.cacao_vars.specs.declared.kinds.Kind.TheVariants as kind
 use Rattle.cacao_book.specs.declared.books.Book.{Book}
 use Rattle.cacao_book.specs.declared.steps.Step.{Step}
-use Rattle.cacao_shape.specs.Least.{Before, IsLeastBreak}
-use Rattle.cacao_shape.specs.Shape.{ShapeDemand, shape_rank, KeepsShape, IsWellShaped}
+use Rattle.cacao_book_shape.specs.Least.{Before, IsLeastBreak}
+use Rattle.cacao_book_shape.specs.Shape.{ShapeDemand, shape_rank, KeepsShape, IsWellShaped}
 use Rattle.cacao_book.specs.Books.{book}
 use Rattle.cacao_check.specs.declared.breaks.Mode.{Mode}
 use Rattle.cacao_check.specs.declared.rules.SenseRule.{SenseRule}
 use Rattle.cacao_check.specs.declared.rules.SenseRule.TheVariants as rule
 use Rattle.cacao_check.specs.Fits.{FitsKind}
-use Rattle.cacao_regions.specs.Flaws.{may_take}
+use Rattle.cacao_check_regions.specs.Flaws.{may_take}
 use Rattle.cacao_check.specs.Rules.{K19, K25}
 use Rattle.cacao_check.specs.Sense.{SenseDemand, sense_rank, IsSound, KeepsSense, KeepsOfStep, KeepsAt}
 use Rattle.cacao_check.specs.FirstBreak.{Demand, of_shape, of_sense, rank, Keeps, AreWellShaped}

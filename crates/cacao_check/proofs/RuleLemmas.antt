@@ -15,13 +15,13 @@ use Rattle.cacao_vars.specs.declared.kinds.Kind.TheVariants as kind
 use Rattle.cacao_vars.specs.Declarations.{declared}
 use Rattle.cacao_book.specs.declared.books.Book.{Book}
 use Rattle.cacao_book.specs.declared.steps.Step.{Step}
-use Rattle.cacao_regions.specs.declared.flaws.Flaw.{Flaw}
-use Rattle.cacao_regions.specs.declared.flaws.Flaw.TheVariants as flaw
-use Rattle.cacao_steps.specs.Links.{declares}
-use Rattle.cacao_regions.specs.Regions.{Sees, IsPlaced}
-use Rattle.cacao_steps.specs.Uses.{Uses, in_args_of, out_args_of, is_action, version_of}
-use Rattle.cacao_steps.specs.Calls.{called, LeadsTo}
-use Rattle.cacao_regions.specs.Flaws.{same_kind, may_take, is_flawed, result_flaw, SeesFlaw}
+use Rattle.cacao_check_regions.specs.declared.flaws.Flaw.{Flaw}
+use Rattle.cacao_check_regions.specs.declared.flaws.Flaw.TheVariants as flaw
+use Rattle.cacao_check_steps.specs.Links.{declares}
+use Rattle.cacao_check_regions.specs.Regions.{Sees, IsPlaced}
+use Rattle.cacao_check_steps.specs.Uses.{Uses, in_args_of, out_args_of, is_action, version_of}
+use Rattle.cacao_check_steps.specs.Calls.{called, LeadsTo}
+use Rattle.cacao_check_regions.specs.Flaws.{same_kind, may_take, is_flawed, result_flaw, SeesFlaw}
 use Rattle.cacao_check.specs.Rules.{K19, K22, K23, K24, IsDeclaredAlike}
 
 -- ---- lists

@@ -3,8 +3,8 @@ use Rattle.std.proofs.Common.{◌≡◌, ◌↔◌, inl, inr, ℕ, suc, ◌<◌,
 use Rattle.std.proofs.lemmas.Bool.{cases_lt}
 use Rattle.std.proofs.lemmas.Option.{slice_get_past}
 use Rattle.cacao_book.specs.declared.books.Book.{Book}
-use Rattle.cacao_shape.specs.Least.{IsLeastBreak}
-use Rattle.cacao_shape.specs.Shape.{place_rank}
+use Rattle.cacao_book_shape.specs.Least.{IsLeastBreak}
+use Rattle.cacao_book_shape.specs.Shape.{place_rank}
 use Rattle.cacao_check.specs.declared.breaks.Mode.{Mode}
 use Rattle.cacao_check.specs.declared.breaks.Break.{Break}
 use Rattle.cacao_check.specs.declared.rules.SenseRule.{SenseRule}

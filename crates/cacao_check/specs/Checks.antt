@@ -1,7 +1,7 @@
--- What checking books answers.
+-- Promise: What checking books answers.
 use Rattle.std.specs.Prelude.{◌≡◌, ℕ, List, Option, option_map, option_and_then, slice_get, ⊤}
 use Rattle.cacao_book.specs.declared.books.Book.{Book}
-use Rattle.cacao_shape.specs.Least.{IsLeastBreak}
+use Rattle.cacao_book_shape.specs.Least.{IsLeastBreak}
 use Rattle.cacao_check.specs.declared.breaks.Mode.{Mode}
 use Rattle.cacao_check.specs.declared.breaks.Break.{Break}
 use Rattle.cacao_check.specs.declared.breaks.CheckError.{CheckError}

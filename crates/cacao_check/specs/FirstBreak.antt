@@ -1,9 +1,9 @@
--- The first break of playbooks, from their trees: the rules of shape of all books come before those of sense.
+-- Promise: The first break of playbooks, from their trees: the rules of shape of all books come before those of sense.
 use Rattle.std.specs.Prelude.{◌≡◌, ℕ, List, ◌∷◌, map, Option, IfSome, option_and_then, slice_get}
 use Rattle.serde_json.specs.Data.{Data}
-use Rattle.cacao_shape.specs.Least.{IsLeastBreak}
-use Rattle.cacao_shape.specs.Shape.{ShapeDemand, shape_rank, shape_number, KeepsShape, IsWellShaped}
-use Rattle.cacao_shape.specs.Refusals.{key_at as key_in}
+use Rattle.cacao_book_shape.specs.Least.{IsLeastBreak}
+use Rattle.cacao_book_shape.specs.Shape.{ShapeDemand, shape_rank, shape_number, KeepsShape, IsWellShaped}
+use Rattle.cacao_book_shape.specs.Refusals.{key_at as key_in}
 use Rattle.cacao_book.specs.Books.{book}
 use Rattle.cacao_check.specs.declared.breaks.Mode.{Mode}
 use Rattle.cacao_check.specs.declared.breaks.Break.{Break}

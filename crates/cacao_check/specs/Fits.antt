@@ -1,7 +1,7 @@
--- Whether a text may be the value of a variable of a kind (CACAO 2.0, section 10.18.1). Each kind takes the empty text.
+-- Promise: Whether a text may be the value of a variable of a kind (CACAO 2.0, section 10.18.1). Each kind takes the empty text.
 use Rattle.std.specs.Prelude.{◌≡◌, ◌⊎◌, ℕ, ◌<◌, ◌≤◌, ◌%◌, ◌==◌, ◌&&◌, ◌||◌, nat_le, Bool, IsTrue, List, [], ◌∷◌, ◌++◌, length, slice_index, codes, IsSome, ⊤, if◌then◌else◌}
 use Rattle.std.specs.List.{list_all}
-use Rattle.decimals.specs.Numbers.{integer}
+use Rattle.base_decimals.specs.Numbers.{integer}
 use Rattle.cacao_ids.specs.Uuids.{IsUuid}
 use Rattle.oc2_nets.specs.Nets.{net4_of, net6_of}
 use Rattle.cacao_vars.specs.declared.kinds.Kind.{Kind}

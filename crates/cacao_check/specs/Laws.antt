@@ -1,20 +1,20 @@
--- What holds of books that break no rule, as far as a run of them rests on it.
+-- Promise: What holds of books that break no rule, as far as a run of them rests on it.
 use Rattle.std.specs.Prelude.{◌≡◌, ℕ, ◌<◌, ◌≤◌, List, Some, IsTrue, map, slice_get}
 use Rattle.std.specs.Fmt.{decimal}
 use Rattle.serde_json.specs.Data.{Data}
 use Rattle.cacao_vars.specs.declared.kinds.Kind.{Kind}
 use Rattle.cacao_book.specs.declared.books.Book.{Book}
 use Rattle.cacao_book.specs.declared.steps.Step.{Step}
-use Rattle.cacao_shape.specs.Least.{IsLeastBreak}
-use Rattle.cacao_shape.specs.Shape.{ShapeDemand, shape_rank, KeepsShape, IsWellShaped}
+use Rattle.cacao_book_shape.specs.Least.{IsLeastBreak}
+use Rattle.cacao_book_shape.specs.Shape.{ShapeDemand, shape_rank, KeepsShape, IsWellShaped}
 use Rattle.cacao_book.specs.Books.{book}
 use Rattle.cacao_check.specs.declared.breaks.Mode.{Mode}
 use Rattle.cacao_check.specs.declared.rules.SenseRule.{SenseRule}
-use Rattle.cacao_regions.specs.Regions.{Encloses}
-use Rattle.cacao_regions.specs.Endings.{ReachesEnd}
-use Rattle.cacao_steps.specs.Calls.{called, LeadsTo}
+use Rattle.cacao_check_regions.specs.Regions.{Encloses}
+use Rattle.cacao_check_regions.specs.Endings.{ReachesEnd}
+use Rattle.cacao_check_steps.specs.Calls.{called, LeadsTo}
 use Rattle.cacao_check.specs.Fits.{FitsKind}
-use Rattle.cacao_regions.specs.Flaws.{may_take}
+use Rattle.cacao_check_regions.specs.Flaws.{may_take}
 use Rattle.cacao_check.specs.Sense.{SenseDemand, sense_rank, IsSound, KeepsSense, KeepsOfBook, KeepsOfStep}
 use Rattle.cacao_check.specs.FirstBreak.{of_shape, of_sense, IsFirstBroken, IsAccepted, AreWellShaped}
 

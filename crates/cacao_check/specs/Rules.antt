@@ -1,4 +1,4 @@
--- The rules K13 to K25, each as one predicate that holds where the rule is kept. A step stands at a place of a book, and a book has a number.
+-- Promise: The rules K13 to K25, each as one predicate that holds where the rule is kept. A step stands at a place of a book, and a book has a number.
 use Rattle.std.specs.Prelude.{◌≡◌, ◌⊎◌, not, take, ℕ, ◌≤◌, Bool, true, false, List, ◌++◌, length, codes, All, Contains, Option, Some, IsSome, IfSome, IsSomeAnd, IsTrue, slice_get}
 use Rattle.std.specs.List.{list_all, list_any}
 use Rattle.std.specs.Str.{bytes_eq}
@@ -13,16 +13,16 @@ use Rattle.cacao_book.specs.declared.books.Book.{Book}
 use Rattle.cacao_book.specs.declared.steps.Step.{Step}
 use Rattle.cacao_book.specs.declared.step_kinds.StepKind.TheVariants.{Start}
 use Rattle.cacao_book.specs.declared.commands.StepCommand.{StepCommand}
-use Rattle.cacao_shape.specs.Members.{IsObject}
+use Rattle.cacao_book_shape.specs.Members.{IsObject}
 use Rattle.cacao_book.specs.Steps.{place_of, step_with}
 use Rattle.cacao_check.specs.declared.breaks.Mode.{Mode}
 use Rattle.cacao_check.specs.declared.breaks.Mode.TheVariants.{Run}
-use Rattle.cacao_steps.specs.Links.{next_keys, head_keys, declares}
-use Rattle.cacao_regions.specs.Regions.{Sees, Encloses, IsPlaced}
-use Rattle.cacao_regions.specs.Endings.{ReachesEnd}
-use Rattle.cacao_regions.specs.Flaws.{may_take}
-use Rattle.cacao_steps.specs.Uses.{commands_of, addressees_of, in_args_of, out_args_of, condition_of, subject_of, call_of, version_of, is_action, Uses}
-use Rattle.cacao_steps.specs.Calls.{book_with, called, LeadsTo}
+use Rattle.cacao_check_steps.specs.Links.{next_keys, head_keys, declares}
+use Rattle.cacao_check_regions.specs.Regions.{Sees, Encloses, IsPlaced}
+use Rattle.cacao_check_regions.specs.Endings.{ReachesEnd}
+use Rattle.cacao_check_regions.specs.Flaws.{may_take}
+use Rattle.cacao_check_steps.specs.Uses.{commands_of, addressees_of, in_args_of, out_args_of, condition_of, subject_of, call_of, version_of, is_action, Uses}
+use Rattle.cacao_check_steps.specs.Calls.{book_with, called, LeadsTo}
 use Rattle.cacao_check.specs.Fits.{FitsKind}
 
 -- K13 (CACAO 2.0, section 5): in mode `Run`, each command of an action is for a filter, with an object as its content, or for an operator, with a text.

@@ -1,8 +1,8 @@
--- What playbooks are asked together: the rules K13 to K25 at each of their places.
+-- Promise: What playbooks are asked together: the rules K13 to K25 at each of their places.
 use Rattle.std.specs.Prelude.{ℕ, List, [], ◌∷◌, Option, Some, None, IfSome, slice_get, ⊤}
 use Rattle.cacao_book.specs.declared.books.Book.{Book}
 use Rattle.cacao_book.specs.declared.steps.Step.{Step}
-use Rattle.cacao_shape.specs.Shape.{place_rank}
+use Rattle.cacao_book_shape.specs.Shape.{place_rank}
 use Rattle.cacao_check.specs.declared.breaks.Mode.{Mode}
 use Rattle.cacao_check.specs.declared.rules.SenseRule.{SenseRule}
 use Rattle.cacao_check.specs.declared.rules.SenseRule.TheVariants as rule

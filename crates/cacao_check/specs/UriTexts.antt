@@ -1,4 +1,4 @@
--- What stands behind the first letter of a URI, read from the left.
+-- Scaffold: What stands behind the first letter of a URI, read from the left.
 use Rattle.std.specs.Prelude.{ℕ, ◌&&◌, ◌==◌, Bool, false, not, List, [], ◌∷◌, length, if◌then◌else◌}
 use Rattle.std.specs.List.{list_all}
 use Rattle.cacao_check.specs.Fits.{is_scheme_character, is_visible}

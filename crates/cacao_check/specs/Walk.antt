@@ -1,7 +1,7 @@
--- What a walk over books, places and rules has found so far.
+-- Scaffold: What a walk over books, places and rules has found so far.
 use Rattle.std.specs.Prelude.{ℕ, ◌<◌, List, Option, Some, None}
 use Rattle.cacao_book.specs.declared.books.Book.{Book}
-use Rattle.cacao_shape.specs.Least.{IsLeastBreak}
+use Rattle.cacao_book_shape.specs.Least.{IsLeastBreak}
 use Rattle.cacao_check.specs.declared.breaks.Mode.{Mode}
 use Rattle.cacao_check.specs.declared.breaks.Break.{Break}
 use Rattle.cacao_check.specs.declared.rules.SenseRule.{SenseRule}

@@ -2,8 +2,8 @@
 use crate::books::Books;
 use crate::breaks::Mode;
 use cacao_book::{Book, Step};
-use cacao_regions::{Regions, Seen, Survey, seen_at_key, stands_in, step_with};
-use cacao_steps::Parts;
+use cacao_check_regions::{Regions, Seen, Survey, seen_at_key, stands_in, step_with};
+use cacao_check_steps::Parts;
 use cacao_vars::Name;
 use std::alloc::{AllocError, Global};
 use std::marker::Model;
@@ -31,16 +31,15 @@ impl Model for Checked {
 }
 
 impl Checked {
-    ghost use Rattle.std.specs.Prelude.{◌≡◌, ◌↔◌, ◌≤◌, ◌<◌, ℕ, Option, Some, IsTrue, IfOk, IsSomeAnd, length, slice_get};
+    ghost use Rattle.std.specs.Prelude.{◌≡◌, ◌↔◌, ◌≤◌, ◌<◌, Option, Some, IsTrue, IfOk, length, slice_get};
     ghost use Rattle.std.specs.Option.{option_copied};
-    ghost use Rattle.cacao_vars.specs.declared.declarations.Var.{Var};
     ghost use Rattle.cacao_book.specs.declared.books.Book.{Book};
     ghost use Rattle.cacao_book.specs.declared.steps.Step.{Step};
     ghost use Rattle.cacao_book.specs.Steps.{step_with as step_under};
     ghost use Rattle.cacao_check.specs.Sense.{IsSound};
-    ghost use Rattle.cacao_steps.specs.Parts.{ReadsStep};
+    ghost use Rattle.cacao_check_steps.specs.Parts.{ReadsStep};
     ghost use Rattle.cacao_check.specs.Tables.{HasTables};
-    ghost use Rattle.cacao_regions.specs.Looking.{StandsIn, ListsSights};
+    ghost use Rattle.cacao_check_regions.specs.Looking.{StandsIn, ListsSights};
 
     // Playbooks that are known to break no rule, with their tables.
     pub(crate) fn new(

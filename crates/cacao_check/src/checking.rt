@@ -2,7 +2,7 @@
 ghost use Rattle.std.specs.Prelude.{◌≡◌, ◌≤◌, length, IfOk, OnOk, IfErr};
 ghost use Rattle.cacao_check.specs.Sense.{IsSound};
 ghost use Rattle.cacao_check.specs.Checks.{RefusesBooks};
-ghost use Rattle.cacao_regions.specs.Surveys.{AreSurveysOf};
+ghost use Rattle.cacao_check_regions.specs.Surveys.{AreSurveysOf};
 ghost use Rattle.cacao_check.specs.Tables.{AreTablesOf, HasTables};
 
 use crate::books::Books;
@@ -10,7 +10,7 @@ use crate::breaks::{CheckError, Mode};
 use crate::checked::Checked;
 use crate::walking::least_break;
 use cacao_book::Book;
-use cacao_regions::{Regions, Survey, leads_of, regions_of, survey_all};
+use cacao_check_regions::{Regions, Survey, leads_of, regions_of, survey_all};
 use std::alloc::{AllocError, Global};
 
 // The regions of each book.

@@ -1,12 +1,12 @@
 // Whether a text may be the value of a variable of a kind. No call here takes memory.
-ghost use Rattle.std.specs.Prelude.{◌≡◌, ◌↔◌, IsTrue, ◌≤◌, ◌&&◌, length, nat_le};
+ghost use Rattle.std.specs.Prelude.{◌≡◌, ◌↔◌, IsTrue, ◌&&◌, nat_le};
 ghost use Rattle.std.specs.List.{list_all};
 ghost use Rattle.cacao_check.specs.Fits.{is_letter as is_letter_of, is_hex as is_hex_of, is_scheme_character, is_visible, may_stand_in_mac as may_stand, IsMac, IsUri, IsOfKind, FitsKind};
 ghost use Rattle.cacao_check.specs.UriTexts.{has_rest, is_rest as is_rest_of};
 
+use base_decimals::read_integer;
 use cacao_ids::is_uuid;
 use cacao_vars::Kind;
-use decimals::read_integer;
 use oc2_nets::{read_net4, read_net6};
 
 fn is_letter(byte: u8) -> bool

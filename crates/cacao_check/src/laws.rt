@@ -1,7 +1,7 @@
 // Laws over the definitions that the contracts of this crate speak by. Each function does nothing; its contract is the law.
 ghost use Rattle.cacao_check.specs.Laws.{SoundGives, SoundEnds, ResultsFit, FirstBreakIs};
 
-use decimals::decimal_law;
+use base_decimals::decimal_law;
 
 /// Books that break no rule keep each rule, of each book and of each step.
 #[tactic(auto, using(crate::proofs::LawLemmas::sound_gives))]

@@ -15,8 +15,8 @@ mod walking;
 
 pub use books::Books;
 pub use breaks::{Break, CheckError, Mode};
-pub use cacao_regions::{Seen, Sight};
-pub use cacao_steps::Parts;
+pub use cacao_check_regions::{Seen, Sight};
+pub use cacao_check_steps::Parts;
 pub use checked::Checked;
 pub use checking::check;
 pub use fits::value_fits;

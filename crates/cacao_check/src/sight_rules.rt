@@ -1,18 +1,18 @@
 // The rules of a step that look at what it sees of names, one function each.
-ghost use Rattle.std.specs.Prelude.{◌≡◌, ◌↔◌, ◌⊎◌, ◌<◌, ℕ, Bool, IsTrue, IsSome, IfOk, OnOk, All, length, Some, slice_get};
+ghost use Rattle.std.specs.Prelude.{◌≡◌, ◌↔◌, ◌⊎◌, ◌<◌, IsTrue, IsSome, IfOk, OnOk, All, Some, slice_get};
 ghost use Rattle.cacao_book.specs.Steps.{KeepsLimits};
-ghost use Rattle.cacao_steps.specs.Links.{declares};
-ghost use Rattle.cacao_regions.specs.Regions.{IsPlaced};
-ghost use Rattle.cacao_regions.specs.Flaws.{SeesFlaw, result_flaw as result_flaw_of};
+ghost use Rattle.cacao_check_steps.specs.Links.{declares};
+ghost use Rattle.cacao_check_regions.specs.Regions.{IsPlaced};
+ghost use Rattle.cacao_check_regions.specs.Flaws.{SeesFlaw, result_flaw as result_flaw_of};
 ghost use Rattle.cacao_check.specs.Rules.{K22, K23, K24, IsDeclaredAlike};
-ghost use Rattle.cacao_regions.specs.Charts.{IsChartOf, AreMarksOf};
-ghost use Rattle.cacao_steps.specs.Parts.{ReadsStep};
-ghost use Rattle.cacao_regions.specs.Surveys.{IsSurveyOf};
-ghost use Rattle.cacao_regions.specs.Memories.{Remembers};
+ghost use Rattle.cacao_check_regions.specs.Charts.{IsChartOf};
+ghost use Rattle.cacao_check_steps.specs.Parts.{ReadsStep};
+ghost use Rattle.cacao_check_regions.specs.Surveys.{IsSurveyOf};
+ghost use Rattle.cacao_check_regions.specs.Memories.{Remembers};
 
 use cacao_book::{Book, Step};
-use cacao_regions::{Chart, Flaw, Memory, Survey, sees_flaw};
-use cacao_steps::{Parts, in_args_of, is_action, out_args_of, used_names};
+use cacao_check_regions::{Chart, Flaw, Memory, Survey, sees_flaw};
+use cacao_check_steps::{Parts, in_args_of, is_action, out_args_of, used_names};
 use cacao_vars::{Kind, Name, Var};
 use std::alloc::{AllocError, Global};
 

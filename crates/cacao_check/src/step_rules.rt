@@ -1,21 +1,23 @@
 // The rules of a step that look at no other step's variables, one function each. No call here takes memory.
-ghost use Rattle.std.specs.Prelude.{◌≡◌, ◌↔◌, ◌<◌, ◌≤◌, ◌++◌, ◌∷◌, List, ℕ, IsTrue, IsSome, IsSomeAnd, IfSome, All, map, length, Some, slice_get, option_map, option_to_list, is_some};
+ghost use Rattle.std.specs.Prelude.{◌≡◌, ◌↔◌, ◌<◌, IsTrue, IsSomeAnd, IfSome, map, Some, option_map, option_to_list, is_some};
 ghost use Rattle.std.specs.List.{list_all, list_any};
 ghost use Rattle.std.specs.Str.{bytes_eq};
 ghost use Rattle.cacao_json.specs.Tree.{data_of};
-ghost use Rattle.cacao_shape.specs.Members.{IsObject};
+ghost use Rattle.cacao_book_shape.specs.Members.{IsObject};
 ghost use Rattle.cacao_book.specs.Steps.{IsInKeyOrder, KeepsLimits, place_of};
-ghost use Rattle.cacao_steps.specs.Links.{next_keys, head_keys};
-ghost use Rattle.cacao_steps.specs.Uses.{content_tree, commands_of as commands_in, version_of as version_in};
+ghost use Rattle.cacao_check_steps.specs.Links.{next_keys, head_keys};
+ghost use Rattle.cacao_check_steps.specs.Uses.{content_tree, commands_of as commands_in, version_of as version_in};
 ghost use Rattle.cacao_check.specs.Rules.{CanBeSent, K13, K16, K17, K18, K19, ConditionIsRead, SubjectIsRead, K21};
-ghost use Rattle.cacao_steps.specs.Parts.{ReadsStep};
-ghost use Rattle.cacao_regions.specs.Surveys.{AreLeads};
+ghost use Rattle.cacao_check_steps.specs.Parts.{ReadsStep};
+ghost use Rattle.cacao_check_regions.specs.Surveys.{AreLeads};
 
 use crate::breaks::Mode;
+use base_graphs::Bits;
 use cacao_book::{Book, Case, Step, StepCommand, StepKind, find_place};
+use cacao_check_steps::{
+    Parts, call_of, commands_of, condition_of, is_manual, subject_of, version_of,
+};
 use cacao_json::{Text, Tree};
-use cacao_steps::{Parts, call_of, commands_of, condition_of, is_manual, subject_of, version_of};
-use reachability::Bits;
 
 fn is_object(tree: &Option<Tree>) -> bool
     ensures { IsTrue result ↔ IsSomeAnd (option_map data_of tree.now) IsObject }

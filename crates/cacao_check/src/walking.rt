@@ -1,12 +1,12 @@
 // The walk over books, their places and the rules.
 ghost use Rattle.std.specs.Prelude.{◌≡◌, ◌↔◌, ◌<◌, ◌≤◌, ◌+◌, IsTrue, IfOk, OnOk, Some, length, slice_get, option_map, option_and_then};
 ghost use Rattle.std.specs.Option.{ForSome};
-ghost use Rattle.cacao_shape.specs.Shape.{place_rank};
+ghost use Rattle.cacao_book_shape.specs.Shape.{place_rank};
 ghost use Rattle.cacao_book.specs.Steps.{KeepsLimits};
-ghost use Rattle.cacao_steps.specs.Parts.{ReadsStep};
+ghost use Rattle.cacao_check_steps.specs.Parts.{ReadsStep};
 ghost use Rattle.cacao_check.specs.Sense.{sense_number, KeepsOfStep, KeepsIn};
-ghost use Rattle.cacao_regions.specs.Surveys.{IsSurveyOf, AreSurveysOf, AreLeads};
-ghost use Rattle.cacao_regions.specs.Memories.{Remembers};
+ghost use Rattle.cacao_check_regions.specs.Surveys.{IsSurveyOf, AreSurveysOf, AreLeads};
+ghost use Rattle.cacao_check_regions.specs.Memories.{Remembers};
 ghost use Rattle.cacao_check.specs.Walk.{FindsRule, FindsAt, FindsLeast};
 
 use crate::book_rules::{keeps_k20, keeps_of_book};
@@ -14,11 +14,11 @@ use crate::breaks::{Break, Mode};
 use crate::rules::{SenseRule, number_of, rule_of};
 use crate::sight_rules::{keeps_k22, keeps_k23, keeps_k24};
 use crate::step_rules::{keeps_k13, keeps_k16, keeps_k17, keeps_k18, keeps_k19, keeps_k21};
+use base_graphs::Bits;
 use cacao_book::{Book, Step};
+use cacao_check_regions::{Memory, Survey};
+use cacao_check_steps::Parts;
 use cacao_json::Text;
-use cacao_regions::{Memory, Survey};
-use cacao_steps::Parts;
-use reachability::Bits;
 use std::alloc::{AllocError, Global};
 
 // What was read of a step.

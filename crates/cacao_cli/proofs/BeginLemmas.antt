@@ -6,12 +6,12 @@ use Rattle.cacao_check.specs.Fits.{FitsKind}
 use Rattle.cacao_site.specs.View.{SiteView}
 use Rattle.flow_core.specs.SetupReading.{AreTreesOf, BreaksBindRule}
 use Rattle.flow_core.specs.Setups.{AreAccepted}
-use Rattle.operator_answers.specs.Answers as told
-use Rattle.operator_answers.specs.declared.answers.OperatorAnswer.{OperatorAnswer}
-use Rattle.flow_rules.specs.Accepted.{Accepted}
-use Rattle.flow_rules.specs.Bindings.{bindings_of}
-use Rattle.flow_rules.specs.Givens.{Given}
-use Rattle.cacao_words.specs.Requests.{RunRequest}
+use Rattle.flow_engine_answers.specs.Answers as told
+use Rattle.flow_engine_answers.specs.declared.answers.OperatorAnswer.{OperatorAnswer}
+use Rattle.flow_core_rules.specs.Accepted.{Accepted}
+use Rattle.flow_core_rules.specs.Bindings.{bindings_of}
+use Rattle.flow_core_rules.specs.Givens.{Given}
+use Rattle.cacao_cli_words.specs.Requests.{RunRequest}
 use Rattle.cacao_cli_ends.specs.Told.{end_of}
 use Rattle.cacao_cli_ends.specs.Ends.{End, bind_refused}
 use Rattle.cacao_cli_session.specs.Holding.{HoldsSo}

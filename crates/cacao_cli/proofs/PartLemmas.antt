@@ -16,9 +16,9 @@ use Rattle.cacao_json.specs.declared.error.JsonError.{JsonError}
 use Rattle.cacao_json.specs.declared.error.JsonError.TheVariants.{NotJson}
 use Rattle.cacao_site.specs.View.{SiteView}
 use Rattle.flow_core.specs.SetupReading.{AreTreesOf, IsFirstUnreadable, texts_read}
-use Rattle.flow_rules.specs.Bindings.{bindings_of}
-use Rattle.cacao_words.specs.Requests.{RunRequest}
-use Rattle.cacao_words.specs.Words.{Text}
+use Rattle.flow_core_rules.specs.Bindings.{bindings_of}
+use Rattle.cacao_cli_words.specs.Requests.{RunRequest}
+use Rattle.cacao_cli_words.specs.Words.{Text}
 use Rattle.cacao_cli_ends.specs.Asked.{runs}
 use Rattle.cacao_cli_ends.specs.Ends.{End, no_memory, not_readable, past}
 use Rattle.cacao_cli_status_laws.specs.Ended.{Performed, Performs}

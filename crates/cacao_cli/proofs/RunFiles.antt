@@ -2,8 +2,8 @@
 use Rattle.std.proofs.Common.{◌≡◌, ◌∙◌, refl, sym, ap, arith, ℕ, ◌≤◌, Bool, List, [], ◌∷◌, ◌++◌, length, length-append, length-take-le, map, Bor, Option, Some, Ok, Err}
 use Rattle.std.specs.Prelude.{if◌then◌else◌}
 use Rattle.std.proofs.lemmas.List.{length-map}
-use Rattle.cacao_words.specs.Requests.{RunRequest}
-use Rattle.cacao_words.specs.Words.{Text}
+use Rattle.cacao_cli_words.specs.Requests.{RunRequest}
+use Rattle.cacao_cli_words.specs.Words.{Text}
 use Rattle.cacao_cli_ends.specs.Asked.{runs}
 use Rattle.cacao_cli_ends.specs.Files.{File, Files, NamedText, Reads, all_read, wants_memory, stops, goes_on, book_file, files_of, item_then, listed, run_names}
 use Rattle.cacao_cli.specs.Starting.{IsStartFrom}

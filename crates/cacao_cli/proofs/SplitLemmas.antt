@@ -3,8 +3,8 @@ use Rattle.std.proofs.Common.{◌≡◌, ◌∙◌, refl, sym, ap, arith, ℕ, �
 use Rattle.std.specs.Prelude.{IsSome, is_some, option_map, option_to_list}
 use Rattle.std.proofs.lemmas.Bool.{true≢false}
 use Rattle.std.proofs.lemmas.List.{length-map, map-append}
-use Rattle.cacao_words.specs.Requests.{RunRequest}
-use Rattle.cacao_words.specs.Words.{Text}
+use Rattle.cacao_cli_words.specs.Requests.{RunRequest}
+use Rattle.cacao_cli_words.specs.Words.{Text}
 use Rattle.cacao_cli_looks.specs.Command.{text_of}
 use Rattle.cacao_cli_ends.specs.Files.{NamedText, listed, run_names}
 use Rattle.cacao_cli_ends.specs.Work.{Start, bytes_of, start_of}

@@ -1,13 +1,13 @@
--- How the code of `run` has the texts of a run, and what its parts come to.
+-- Promise: How the code of `run` has the texts of a run, and what its parts come to.
 use Rattle.std.specs.Prelude.{◌≡◌, ◌≢◌, ◌⊎◌, ℕ, ◌≤◌, List, length, [], Some, Err, IsSome, option_map, slice_get}
 use Rattle.serde_json.specs.Data.{Data}
 use Rattle.cacao_json.specs.declared.error.JsonError.{JsonError}
 use Rattle.cacao_site.specs.View.{SiteView}
 use Rattle.flow_core.specs.SetupReading.{AreTreesOf, IsFirstUnreadable, texts_read}
-use Rattle.flow_rules.specs.Bindings.{bindings_of}
-use Rattle.operator_answers.specs.Answers.{IsFirstBadLine}
-use Rattle.cacao_words.specs.Requests.{RunRequest}
-use Rattle.cacao_words.specs.Words.{Text}
+use Rattle.flow_core_rules.specs.Bindings.{bindings_of}
+use Rattle.flow_engine_answers.specs.Answers.{IsFirstBadLine}
+use Rattle.cacao_cli_words.specs.Requests.{RunRequest}
+use Rattle.cacao_cli_words.specs.Words.{Text}
 use Rattle.cacao_cli_ends.specs.Told.{end_of}
 use Rattle.cacao_cli_looks.specs.Command.{text_of}
 use Rattle.cacao_cli_status_laws.specs.Ended.{Performs}

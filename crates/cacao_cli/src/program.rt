@@ -29,9 +29,9 @@ use crate::rehearse::rehearse;
 use crate::run::run;
 use cacao_cli_ends::{End, finish};
 use cacao_cli_looks::{audit, canon, check, decide, say_rules, say_shadows, show};
+use cacao_cli_words::{Command, read_words};
 use cacao_site::{Shelf, Site};
-use cacao_words::{Command, read_words};
-use session_laws::complete_laws;
+use flow_world_laws::complete_laws;
 use std::alloc::Global;
 
 /// Does what a command asks, all but the last line.

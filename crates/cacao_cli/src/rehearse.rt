@@ -5,10 +5,10 @@ ghost use Rattle.cacao_cli_ends.specs.Told.{end_of};
 ghost use Rattle.cacao_cli_status_laws.specs.Rehearsing.{Rehearses, TellsRehearsal, failed_end};
 
 use cacao_cli_ends::{End, Limit};
+use cacao_cli_rehearsal::{RehearsalError, Summary, new_site};
 use cacao_cli_session::{close_end, error_end};
+use cacao_cli_words::Positions;
 use cacao_site::Site;
-use cacao_words::Positions;
-use rehearsal::{RehearsalError, Summary, new_site};
 use std::alloc::Global;
 
 /// `rehearse`: runs the playbook with so many positions on a site of its own, and says what was counted.
@@ -27,7 +27,7 @@ fn on_new_site<'w>(alloc: Global, wanted: Positions) -> End<'w>
         Ok(site) => site,
         Err(_) => return End::NoMemory,
     };
-    match rehearsal::rehearse(alloc, &mut site, positions) {
+    match cacao_cli_rehearsal::rehearse(alloc, &mut site, positions) {
         Ok(summary) => rehearsed_end(positions, summary),
         Err(error) => failed_end(error),
     }

@@ -1,6 +1,6 @@
 // The command `run`.
 ghost use Rattle.std.specs.Prelude.{◌≡◌, ◌≤◌, [], Some};
-ghost use Rattle.cacao_words.specs.Commands.{run_request};
+ghost use Rattle.cacao_cli_words.specs.Commands.{run_request};
 ghost use Rattle.cacao_cli_ends.specs.Asked.{runs};
 ghost use Rattle.cacao_cli_ends.specs.Told.{end_of};
 ghost use Rattle.cacao_cli_status_laws.specs.Ended.{Performed};
@@ -10,8 +10,8 @@ use crate::run_parts::{names_of, split};
 use crate::start::start;
 use cacao_cli_ends::{End, Limit};
 use cacao_cli_looks::read_files;
+use cacao_cli_words::RunWords;
 use cacao_site::{Shelf, Site};
-use cacao_words::RunWords;
 use std::alloc::Global;
 
 /// `run`: one session of a run, a line for each record that it appends.

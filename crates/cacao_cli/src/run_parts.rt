@@ -1,7 +1,7 @@
 // The files of a run, and its texts.
 ghost use Rattle.std.specs.Prelude.{◌≡◌, ◌<◌, ◌++◌, All, IfOk, IsSome, None, OnOk, length, map, option_map, option_to_list, true, false};
 ghost use Rattle.flow_core.specs.Setups.{IsReadable};
-ghost use Rattle.cacao_words.specs.Commands.{run_request};
+ghost use Rattle.cacao_cli_words.specs.Commands.{run_request};
 ghost use Rattle.cacao_cli_looks.specs.Command.{text_of};
 ghost use Rattle.cacao_cli_ends.specs.Files.{run_names};
 ghost use Rattle.cacao_cli.specs.Starting.{IsStartFrom};
@@ -9,8 +9,8 @@ ghost use Rattle.cacao_cli_ends.specs.Work.{bytes_of};
 
 use crate::run_texts::RunTexts;
 use cacao_cli_looks::FileText;
+use cacao_cli_words::RunWords;
 use cacao_site::Bytes;
-use cacao_words::RunWords;
 use std::alloc::{AllocError, Global};
 
 /// The bytes of these texts, in order.

@@ -1,10 +1,7 @@
 // One session, from the texts that were read.
 ghost use Rattle.std.specs.Prelude.{◌≤◌, IfOk, IfErr, length};
-ghost use Rattle.cacao_check.specs.Fits.{FitsKind};
-ghost use Rattle.flow_core.specs.Setups.{AreAccepted};
-ghost use Rattle.flow_rules.specs.Accepted.{Accepted};
-ghost use Rattle.operator_answers.specs.Answers.{Answers as TellAnswers};
-ghost use Rattle.cacao_words.specs.Commands.{run_request};
+ghost use Rattle.flow_engine_answers.specs.Answers.{Answers as TellAnswers};
+ghost use Rattle.cacao_cli_words.specs.Commands.{run_request};
 ghost use Rattle.cacao_cli_ends.specs.Told.{end_of};
 ghost use Rattle.cacao_cli.specs.Starting.{BeginsSo, HasBind, IsNoAnswers, IsUnreadableEnd, LacksOthers, answers_of};
 
@@ -12,11 +9,11 @@ use crate::run_texts::RunTexts;
 use cacao_cli_ends::{End, Reason};
 use cacao_cli_looks::json_end;
 use cacao_cli_session::hold;
+use cacao_cli_words::RunWords;
 use cacao_json::JsonError;
 use cacao_site::Site;
-use cacao_words::RunWords;
 use flow_core::{Setup, SetupError};
-use operator_answers::{AnswerError, Answers, read_answers};
+use flow_engine_answers::{AnswerError, Answers, read_answers};
 use std::alloc::Global;
 
 /// The answers for the run. Without a file of them there are none.

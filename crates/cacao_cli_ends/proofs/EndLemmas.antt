@@ -1,7 +1,7 @@
 -- The status and the line of an end.
 use Rattle.std.proofs.Common.{◌≡◌, ◌∙◌, refl, ap, arith, ℕ, List, [], ◌∷◌, ◌++◌, Option, Some, None}
 use Rattle.cacao_site.specs.View.{SiteView}
-use Rattle.cacao_words.specs.Words.{Text}
+use Rattle.cacao_cli_words.specs.Words.{Text}
 use Rattle.cacao_cli_ends.specs.Ends.{End, status_of, text_of, done, accepted, refused, not_understood, past, shelf_failed, no_such_file, not_readable, agrees, disagrees, rehearsed, damaged, disk_failed, unsaid, no_memory, bind_refused, ended_ok, ended_failed, paused, waiting, flooded, asked_for, other_run, other_book, run_used}
 use Rattle.cacao_cli_ends.specs.Lines.{Tells, TellsText}
 

@@ -1,7 +1,7 @@
 -- What is said, and the status that comes of it.
 use Rattle.std.proofs.Common.{◌≡◌, ◌⊎◌, inl, inr, refl, sym, subst, ℕ, List, [], ◌∷◌, Option, Some, None}
 use Rattle.cacao_site.specs.View.{SiteView}
-use Rattle.cacao_words.specs.Words.{Text}
+use Rattle.cacao_cli_words.specs.Words.{Text}
 use Rattle.cacao_cli_ends.specs.Ends.{End, status_of, text_of}
 use Rattle.cacao_cli_ends.specs.Comes.{IsOneOf, file_faults}
 use Rattle.cacao_cli_ends.specs.Files.{File}

@@ -3,7 +3,7 @@ use Rattle.std.proofs.Common.{zero, suc, ◌+◌, ◌++◌, take, drop, get_or, 
 use Rattle.std.specs.Prelude.{IsSomeAnd, nat_le, if◌then◌else◌}
 use Rattle.std.proofs.lemmas.List.{map-append, take_more, take-append-drop}
 use Rattle.cacao_site.specs.Counts.{CountsOne, next_count}
-use Rattle.cacao_words.specs.Words.{Text}
+use Rattle.cacao_cli_words.specs.Words.{Text}
 use Rattle.cacao_cli_ends.specs.Ends.{End, most, shelf_failed, no_memory}
 use Rattle.cacao_cli_ends.specs.Comes.{file_faults}
 use Rattle.cacao_cli_ends.specs.Files.{File, Files, Content, ShelfCall, NamedText, Gives, Reads, ReadsTo, Counts, counted, whole, missing, too_long, failed, no_room, named, text_in, item_then, content_in, reading, faults_behind, all_read, wants_memory, stops, goes_on}

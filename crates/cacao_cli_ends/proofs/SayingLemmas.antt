@@ -6,7 +6,7 @@ use Rattle.cacao_site.specs.LinkCalls.{Gains}
 use Rattle.cacao_site.specs.SayCalls.{KeepsTime, SaysOnly}
 use Rattle.cacao_site.specs.View.{DiskView, SiteView, device_calls}
 use Rattle.cacao_site.proofs.Beats.{goes_on-refl, goes_on-trans, stays-trans}
-use Rattle.cacao_words.specs.Words.{Text}
+use Rattle.cacao_cli_words.specs.Words.{Text}
 use Rattle.cacao_cli_ends.specs.Ends.{End, text_of}
 use Rattle.cacao_cli_ends.specs.Stays.{SaysAtMost}
 use Rattle.cacao_cli_ends.specs.Lines.{FailsToSay, SaysAll, SaysLine, Tells, TellsText}

@@ -8,7 +8,7 @@ use Rattle.cacao_json.specs.Reading.{reading, tree}
 use Rattle.cacao_json.specs.Refusals.{answer, if_read, if_whole}
 use Rattle.cacao_json.specs.declared.error.JsonError.TheVariants as json
 use Rattle.cacao_json.proofs.Readings.{members-reading, tree-from_reading}
-use Rattle.cacao_words.specs.Words.{Text}
+use Rattle.cacao_cli_words.specs.Words.{Text}
 use Rattle.cacao_cli_ends.specs.Ends.{End, not_readable}
 use Rattle.cacao_cli_ends.specs.Files.{NamedText, item_then}
 use Rattle.cacao_cli_ends.specs.Work.{tree_or_end, tree_of, trees_of}

@@ -2,7 +2,7 @@
 use Rattle.std.proofs.Common.{◌≡◌, inl, inr, ◌∙◌, refl, sym, ap, subst, arith, ℕ, List, [], ◌∷◌, ◌++◌, Option, Some, None}
 use Rattle.cacao_site.specs.Counts.{next_count}
 use Rattle.cacao_site.specs.View.{SiteView}
-use Rattle.cacao_words.specs.Words.{Text}
+use Rattle.cacao_cli_words.specs.Words.{Text}
 use Rattle.cacao_cli_ends.specs.Ends.{End, status_of, text_of, unsaid, no_memory}
 use Rattle.cacao_cli_ends.specs.Lines.{SaysAll, SaysLine, SaysWork, Tells, TellsText}
 use Rattle.cacao_cli_ends.proofs.EndLemmas.{no-more}

@@ -1,8 +1,8 @@
--- What the program is asked to do: one case and one row a command that is built.
+-- Promise: What the program is asked to do: one case and one row a command that is built.
 use Rattle.std.specs.Prelude.{ℕ, List, Option, Some, option_and_then}
-use Rattle.cacao_words.specs.Words.{Text}
-use Rattle.cacao_words.specs.Requests.{Request, RunRequest, request}
-use Rattle.cacao_words.specs.Requests as words
+use Rattle.cacao_cli_words.specs.Words.{Text}
+use Rattle.cacao_cli_words.specs.Requests.{Request, RunRequest, request}
+use Rattle.cacao_cli_words.specs.Requests as words
 
 -- what the program is asked to do
 pub data Asked : Type 0 where

@@ -1,4 +1,4 @@
--- Which status may stand in the place of which.
+-- Promise: Which status may stand in the place of which.
 use Rattle.std.specs.Prelude.{◌≡◌, ◌⊎◌, ℕ, Bool, true, false, nat_eq, nat_lt, if◌then◌else◌, List, [], ◌∷◌, ◌++◌, Option, Some}
 use Rattle.std.specs.Prelude.{None, IfSome, IsTrue, is_some}
 use Rattle.std.specs.List.{list_any}

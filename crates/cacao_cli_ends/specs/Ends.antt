@@ -1,7 +1,7 @@
--- How a call of the program ends: its exit status, and its last line if it has one.
+-- Promise: How a call of the program ends: its exit status, and its last line if it has one.
 use Rattle.std.specs.Prelude.{ℕ, Bool, true, false, ◌++◌, codes, decimal, Option, Some, None}
 use Rattle.cacao_check.specs.declared.breaks.Break.{Break}
-use Rattle.cacao_words.specs.Words.{Text}
+use Rattle.cacao_cli_words.specs.Words.{Text}
 use Rattle.cacao_cli_ends.specs.declared.limit.Limit.{Limit}
 use Rattle.cacao_cli_ends.specs.declared.limit.Limit.TheVariants.{FileBytes, BookCount, TaskCount, JournalBytes, LastMoment}
 use Rattle.cacao_cli_ends.specs.declared.limit.Limit.TheVariants.{CommandBytes}

@@ -1,15 +1,15 @@
--- What the files of the words settle. They are those of the words, in the order in which they are read.
+-- Promise: What the files of the words settle. They are those of the words, in the order in which they are read.
 use Rattle.std.specs.Prelude.{◌≡◌, ◌⊎◌, ℕ, ◌<◌, ◌≤◌, length, List, [], ◌∷◌, map, false, Some, None, IsSomeAnd, IsOkAnd, Ok, Err}
 use Rattle.serde_json.specs.Data.{Data}
 use Rattle.cacao_json.specs.Reading.{tree}
 use Rattle.oc2_nets.specs.declared.packets.Packet.{Packet}
-use Rattle.filter_reports.specs.PacketFiles.{packets_of}
+use Rattle.cacao_cli_filters.specs.PacketFiles.{packets_of}
 use Rattle.cacao_cli_ends.specs.Asked.{audits, runs}
 use Rattle.cacao_cli_ends.specs.Ends.{most}
-use Rattle.cacao_words.specs.Requests.{RunRequest}
+use Rattle.cacao_cli_words.specs.Requests.{RunRequest}
 use Rattle.cacao_cli_ends.specs.Files.{File, Files, files_of, has_too_many, reading, NamedText, book_file, run_names}
 use Rattle.cacao_cli_ends.specs.Work.{run_files, trees_wanted}
-use Rattle.cacao_words.specs.Words.{Text}
+use Rattle.cacao_cli_words.specs.Words.{Text}
 
 -- the file is there, within its limit
 abbrev pub IsWithin : Files → File → Type 0

@@ -1,10 +1,10 @@
--- The lines that a call says.
+-- Promise: The lines that a call says.
 use Rattle.std.specs.Prelude.{◌≡◌, ◌⊎◌, ℕ, List, [], ◌∷◌, ◌++◌, Bool, true, false, Option, Some, None, codes}
 use Rattle.cacao_site.specs.Counts.{next_count}
 use Rattle.cacao_site.specs.LinkCalls.{Gains}
 use Rattle.cacao_site.specs.SayCalls.{SaysOnly}
 use Rattle.cacao_site.specs.View.{SiteView}
-use Rattle.cacao_words.specs.Words.{Text}
+use Rattle.cacao_cli_words.specs.Words.{Text}
 use Rattle.cacao_cli_ends.specs.Ends.{End, status_of, text_of, is_fault, unsaid, no_memory}
 
 -- the line was said, and nothing else changed

@@ -1,4 +1,4 @@
--- What a call of the program that holds no session leaves as it was.
+-- Promise: What a call of the program that holds no session leaves as it was.
 use Rattle.std.specs.Prelude.{◌≡◌, ℕ, ◌+◌, ◌/◌, ◌≤◌, IsTrue, length, Option, IfSome}
 use Rattle.cacao_site.specs.DiskCalls.{EachBeat, IsLeft}
 use Rattle.cacao_site.specs.SayCalls.{KeepsTime}

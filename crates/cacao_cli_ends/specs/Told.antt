@@ -1,4 +1,4 @@
--- An end of the code as that of the definitions.
+-- Promise: An end of the code as that of the definitions.
 use Rattle.cacao_cli_ends.specs.Ends as as_said
 use Rattle.cacao_cli_ends.specs.declared.end.End.{End}
 use Rattle.cacao_cli_ends.specs.declared.end.End.TheVariants as how

@@ -1,4 +1,4 @@
--- What a command does, once the words and the files that it reads are known. The tests stand in the order of the statuses.
+-- Promise: What a command does, once the words and the files that it reads are known. The tests stand in the order of the statuses.
 use Rattle.std.specs.Prelude.{ℕ, List, [], ◌∷◌, ◌++◌, map, replicate, slice_set, length, take, drop, codes, if◌then◌else◌, Option}
 use Rattle.std.specs.Prelude.{Some, None, option_to_list, Result, Ok, Err}
 use Rattle.serde_json.specs.Data.{Data}
@@ -7,11 +7,11 @@ use Rattle.cacao_json.specs.declared.error.JsonError.{JsonError}
 use Rattle.cacao_json.specs.declared.error.JsonError.TheVariants as json
 use Rattle.cacao_text.specs.Canon.{book_text}
 use Rattle.oc2_nets.specs.declared.packets.Packet.{Packet}
-use Rattle.filter_reports.specs.PacketFiles.{packets_of}
+use Rattle.cacao_cli_filters.specs.PacketFiles.{packets_of}
 use Rattle.cacao_check.specs.declared.breaks.Mode.{Mode}
 use Rattle.cacao_check.specs.declared.breaks.Mode.TheVariants.{Read}
-use Rattle.cacao_words.specs.Requests.{RunRequest}
-use Rattle.cacao_words.specs.Words.{Text}
+use Rattle.cacao_cli_words.specs.Requests.{RunRequest}
+use Rattle.cacao_cli_words.specs.Words.{Text}
 use Rattle.cacao_cli_ends.specs.Asked.{Asked, canonises, checks, shows, lists_rules, decides, shadows, rehearses, audits, runs}
 use Rattle.cacao_cli_ends.specs.Ends.{End, done, accepted, not_understood, past, not_readable, no_memory}
 use Rattle.cacao_cli_ends.specs.Files.{NamedText, item_then, has_too_many}

@@ -8,7 +8,7 @@ use Rattle.cacao_site.specs.LinkCalls.{Gains, GainsAll}
 use Rattle.cacao_site.specs.Sound.{IsSound}
 use Rattle.cacao_site.specs.View.{LinkView, SiteView}
 use Rattle.cacao_site.specs.declared.parcel.Parcel.{Parcel}
-use Rattle.flow_rules.specs.Laws.{IsRecordLine}
+use Rattle.flow_core_rules.specs.Laws.{IsRecordLine}
 use Rattle.flow_laws.specs.Beats.{OnlyChanges}
 use Rattle.flow_laws.specs.Held.{plain}
 use Rattle.flow_laws.specs.Images.{WasSaid, puts_of, told_list, up_to}
@@ -16,7 +16,7 @@ use Rattle.flow_laws.specs.Since.{Agreed, AgreedSince}
 use Rattle.flow_laws.proofs.Calls.{same_entries}
 use Rattle.flow_laws.proofs.Fresh.{fresh_shrinks}
 use Rattle.flow_laws.proofs.Shrink.{images_shrink}
-use Rattle.cacao_words.specs.Words.{Text}
+use Rattle.cacao_cli_words.specs.Words.{Text}
 use Rattle.cacao_cli_ends.specs.Lines.{FailsToSay, SaysAll, SaysLine}
 use Rattle.cacao_cli_ends.proofs.SayingLemmas.{keeps-refl, keeps-trans}
 

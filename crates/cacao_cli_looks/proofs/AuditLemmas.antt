@@ -4,7 +4,7 @@ use Rattle.cacao_site.specs.Counts.{next_count}
 use Rattle.cacao_site.specs.View.{SiteView}
 use Rattle.flow_audit.specs.declared.verdict.Verdict17.{Verdict17}
 use Rattle.flow_audit.specs.declared.verdict.Verdict17.TheVariants as verdict
-use Rattle.cacao_words.specs.Words.{Text}
+use Rattle.cacao_cli_words.specs.Words.{Text}
 use Rattle.cacao_cli_looks.specs.Audited.{FilesAgree, Compares, Disagree, IsOnlyVerdict, PassTasks, TellsFiles, verdict_end, HasVerdict}
 use Rattle.cacao_cli_ends.specs.Ends.{End, status_of, text_of}
 use Rattle.cacao_cli_ends.specs.Lines.{Tells}

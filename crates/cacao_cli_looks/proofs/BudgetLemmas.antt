@@ -4,11 +4,11 @@ use Rattle.std.specs.Prelude.{IfSome, find, nat_le, option_and_then, option_map}
 use Rattle.std.specs.List.{AllByRecursion}
 use Rattle.std.specs.Str.{bytes_eq}
 use Rattle.std.proofs.lemmas.Option.{none-some}
-use Rattle.decimals.specs.Numbers.{number}
-use Rattle.flow_rules.proofs.HereLemmas.{some_option}
-use Rattle.cacao_words.specs.Words.{Text, Reading, read}
-use Rattle.cacao_words.specs.Requests.{Command, Request, agent_number, at_least, audit_asks, canon_asks, check_asks, commands, decide_asks, if_apart, most_records, number_asks, pairs_of, positions_number, request, request_of, run_from, run_number, run_of, show_asks}
-use Rattle.cacao_words.specs.Requests as words
+use Rattle.base_decimals.specs.Numbers.{number}
+use Rattle.flow_core_rules.proofs.HereLemmas.{some_option}
+use Rattle.cacao_cli_words.specs.Words.{Text, Reading, read}
+use Rattle.cacao_cli_words.specs.Requests.{Command, Request, agent_number, at_least, audit_asks, canon_asks, check_asks, commands, decide_asks, if_apart, most_records, number_asks, pairs_of, positions_number, request, request_of, run_from, run_number, run_of, show_asks}
+use Rattle.cacao_cli_words.specs.Requests as words
 use Rattle.cacao_cli_ends.specs.Asked.{Asked, canonises, checks, runs, shows, lists_rules, decides, shadows, rehearses, audits, asked, built}
 
 -- one record at least, where it is a run that is asked for

@@ -4,15 +4,15 @@ use Rattle.std.specs.Prelude.{IfSome, option_and_then, slice_get}
 use Rattle.serde_json.specs.Data.{Data}
 use Rattle.cacao_book.specs.declared.books.Book.{Book}
 use Rattle.cacao_book.specs.Books.{book}
-use Rattle.cacao_shape.specs.Least.{Before, IsLeastBreak}
-use Rattle.cacao_shape.specs.Refusals.{RefusesTree, key_at}
-use Rattle.cacao_shape.specs.declared.refusals.BookError.{BookError}
-use Rattle.cacao_shape.specs.declared.refusals.BookError.TheVariants as book_error
+use Rattle.cacao_book_shape.specs.Least.{Before, IsLeastBreak}
+use Rattle.cacao_book_shape.specs.Refusals.{RefusesTree, key_at}
+use Rattle.cacao_book_shape.specs.declared.refusals.BookError.{BookError}
+use Rattle.cacao_book_shape.specs.declared.refusals.BookError.TheVariants as book_error
 use Rattle.cacao_check.specs.declared.breaks.CheckError.{CheckError}
 use Rattle.cacao_check.specs.declared.breaks.CheckError.TheVariants as check_error
 use Rattle.cacao_cli_looks.specs.Command.{IsJudgement, sense_end, shape_end}
 use Rattle.cacao_cli_ends.specs.Ends.{accepted}
-use Rattle.cacao_shape.specs.Shape.{ShapeDemand, shape_rank, shape_number, KeepsShape, IsWellShaped}
+use Rattle.cacao_book_shape.specs.Shape.{ShapeDemand, shape_rank, shape_number, KeepsShape, IsWellShaped}
 use Rattle.cacao_check.specs.declared.breaks.Break.{Break}
 use Rattle.cacao_check.specs.declared.breaks.Mode.{Mode}
 use Rattle.cacao_check.specs.Checks.{RefusesBooks, TellsBreak}

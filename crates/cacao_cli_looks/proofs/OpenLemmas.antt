@@ -4,7 +4,7 @@ use Rattle.std.specs.Prelude.{IfSome, IsTrue}
 use Rattle.cacao_site.specs.DiskCalls.{EachBeat, IsLeft, KeepsDisk}
 use Rattle.cacao_site.specs.View.{SiteView, device_calls}
 use Rattle.cacao_site.proofs.Beats.{each-keeps, each-stays, since-start}
-use Rattle.cacao_words.specs.Words.{Text}
+use Rattle.cacao_cli_words.specs.Words.{Text}
 use Rattle.cacao_cli_ends.specs.Ends.{End, status_of, no_memory, unsaid}
 use Rattle.cacao_cli_ends.specs.Stays.{WritesNothing}
 use Rattle.cacao_cli_ends.specs.Lines.{SaysWork, Tells}

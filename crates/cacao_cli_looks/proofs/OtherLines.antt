@@ -5,14 +5,14 @@ use Rattle.std.specs.Fmt.{decimal, digits, digits_onto, digit_glyph}
 use Rattle.std.specs.List.{list_all}
 use Rattle.serde_json.specs.Data.{Data, Num, null, boolean, number, string, array, object, unsigned, negative, float}
 use Rattle.cacao_text.specs.Canon.{canon, unsigned_of, whole_text}
-use Rattle.flow_rules.specs.Laws.{is_digit}
-use Rattle.flow_rules.proofs.LineLemmas.{others_are_no_records}
+use Rattle.flow_core_rules.specs.Laws.{is_digit}
+use Rattle.flow_core_rules.proofs.LineLemmas.{others_are_no_records}
 use Rattle.oc2_nets.specs.declared.packets.Packet.{Packet}
 use Rattle.slpf_rules.specs.Verdicts.{verdict}
 use Rattle.slpf_rules.specs.declared.rules.Rule.{Rule}
 use Rattle.slpf_shadow.specs.declared.shadow_lists.Shadow.{Shadow}
-use Rattle.filter_reports.specs.Lines.{decision_lines, rule_line, rule_lines, shadow_line, verdict_word}
-use Rattle.cacao_words.specs.Words.{Text}
+use Rattle.cacao_cli_filters.specs.Lines.{decision_lines, rule_line, rule_lines, shadow_line, verdict_word}
+use Rattle.cacao_cli_words.specs.Words.{Text}
 use Rattle.cacao_cli_ends.specs.Ends.{End, text_of, done, accepted, agrees, disagrees, refused, bind_refused, ended_ok, ended_failed, paused, waiting, flooded, asked_for, other_run, other_book, run_used, not_understood, past, shelf_failed, no_such_file, not_readable, rehearsed, damaged, disk_failed, unsaid, no_memory}
 use Rattle.cacao_cli_looks.specs.Openings.{AreLines}
 use Rattle.cacao_cli_ends.specs.Work.{Look, at_decisions, at_rules, at_shadows, canon_line}

@@ -5,20 +5,17 @@ use Rattle.std.proofs.lemmas.List.{length-map}
 use Rattle.serde_json.specs.Data.{Data}
 use Rattle.cacao_check.specs.declared.breaks.Mode.TheVariants.{Read as Reading}
 use Rattle.cacao_site.specs.View.{SiteView}
-use Rattle.oc2_nets.specs.declared.packets.Packet.{Packet}
-use Rattle.filter_reports.specs.PacketFiles.{packets_of}
-use Rattle.cacao_words.specs.Words.{Text}
-use Rattle.cacao_cli_ends.specs.Asked.{canonises, checks, decides, audits}
+use Rattle.cacao_cli_words.specs.Words.{Text}
+use Rattle.cacao_cli_ends.specs.Asked.{canonises, checks, audits}
 use Rattle.cacao_cli_looks.specs.Audited.{TellsFiles}
 use Rattle.cacao_cli_looks.specs.Command.{IsJudgement}
 use Rattle.cacao_cli_ends.specs.Ends.{End, accepted, past, not_readable, no_memory, done}
-use Rattle.cacao_cli_ends.specs.Files.{File, ShelfCall, NamedText, ReadsTo, book_file, files_of, packet_file, has_too_many, item_then}
+use Rattle.cacao_cli_ends.specs.Files.{File, ShelfCall, NamedText, ReadsTo, book_file, files_of, has_too_many, item_then}
 use Rattle.cacao_cli_ends.specs.Lines.{SaysWork}
-use Rattle.cacao_cli_ends.specs.Work.{ends, judges, opens_filter, at_decisions, or_end, packets_or_end, run_files, trees_of, work_on, canon_line, tree_of}
+use Rattle.cacao_cli_ends.specs.Work.{ends, judges, or_end, run_files, trees_of, work_on, canon_line, tree_of}
 use Rattle.cacao_cli_looks.specs.Looking.{Looks, Looked}
 use Rattle.cacao_cli_ends.specs.declared.limit.Limit.TheVariants.{BookCount}
 use Rattle.cacao_cli_ends.proofs.TreeCases.{TreesCase, all_trees, one_treeless, trees_case}
-use Rattle.cacao_cli_looks.proofs.OpenLemmas.{opens-refl}
 use Rattle.cacao_cli_ends.proofs.ReadLemmas.{Read, none-read}
 use Rattle.cacao_cli_ends.proofs.TreeLemmas.{TreeCase, has_tree, tree_case, treeless}
 
@@ -28,11 +25,6 @@ says-end end site = inl (record { says = refl; ends = refl })
 
 -- ---- audit
 
--- a file was not read
-pub audit-unread : (engine : Text) (filters : List (ℕ × Text)) (shelf : ShelfCall) (site : SiteView) (end : End) → ReadsTo shelf (files_of (Some (audits engine filters))) (Err end)
-    → Looked (Some (audits engine filters)) shelf site site end
-audit-unread engine filters shelf site end reads = record { read = Err end; reads = reads; looks = says-end end site }
-
 -- the files were compared
 pub audit-read : (engine : Text) (filters : List (ℕ × Text)) (shelf : ShelfCall) (site : SiteView) (end : End) (files : List Text) (texts : List NamedText) → ReadsTo shelf (files_of (Some (audits engine filters))) (Ok texts)
     → files ≡ run_files filters texts → TellsFiles files end → Looked (Some (audits engine filters)) shelf site site end
@@ -40,37 +32,6 @@ audit-read engine filters shelf site end files texts reads is tells = record {
   read = Ok texts;
   reads = reads;
   looks = record { same = refl; tells = subst (λ (files : List Text). TellsFiles files end) is tells };
-}
-
--- the file was not read
-pub decide-unread : (agent : ℕ) (packets : Text) (shelf : ShelfCall) (site : SiteView) (end : End) → ReadsTo shelf (packet_file packets ∷ []) (Err end) → Looked (Some (decides agent packets)) shelf site site end
-decide-unread agent packets shelf site end reads = record { read = Err end; reads = reads; looks = says-end end site }
-
--- the file has no packets, or memory was wanted
-pub decide-bad : (agent : ℕ) (packets : Text) (shelf : ShelfCall) (text : NamedText) (site : SiteView) (end : End) → ReadsTo shelf (packet_file packets ∷ []) (Ok (text ∷ []))
-    → (packets_or_end text.name (packets_of text.bytes) ≡ Err end) ⊎ (end ≡ no_memory) → Looked (Some (decides agent packets)) shelf site site end
-decide-bad agent packets shelf text site end reads (inl is) = record {
-  read = Ok (text ∷ []);
-  reads = reads;
-  looks = subst (λ (r : Result (List (ℕ × Packet)) End). Looks (or_end r (λ found. opens_filter agent (at_decisions found))) site site end) (sym is) (says-end end site);
-}
-decide-bad agent packets shelf text site end reads (inr is) = record {
-  read = Ok (text ∷ []);
-  reads = reads;
-  looks = subst (λ (e : End). Looks (or_end (packets_or_end text.name (packets_of text.bytes)) (λ found. opens_filter agent (at_decisions found))) site site e) (sym is) (go (packets_of text.bytes));
-}
-  where
-    go : (r : Result (List (ℕ × Packet)) ℕ) → Looks (or_end (packets_or_end text.name r) (λ found. opens_filter agent (at_decisions found))) site site no_memory
-    go (Ok found) = inr (inr (inr (record { opens = opens-refl agent site; steady = refl; ends = refl })))
-    go (Err number) = inr (inr (record { same = refl; no_fault = refl; ends = refl }))
-
--- the packets were decided
-pub decide-found : (agent : ℕ) (packets : Text) (shelf : ShelfCall) (text : NamedText) (found : List (ℕ × Packet)) (old new : SiteView) (end : End) → ReadsTo shelf (packet_file packets ∷ []) (Ok (text ∷ []))
-    → packets_or_end text.name (packets_of text.bytes) ≡ Ok found → Looks (opens_filter agent (at_decisions found)) old new end → Looked (Some (decides agent packets)) shelf old new end
-decide-found agent packets shelf text found old new end reads is looks = record {
-  read = Ok (text ∷ []);
-  reads = reads;
-  looks = subst (λ (r : Result (List (ℕ × Packet)) End). Looks (or_end r (λ found. opens_filter agent (at_decisions found))) old new end) (sym is) looks;
 }
 
 -- ---- check

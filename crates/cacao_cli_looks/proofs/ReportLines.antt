@@ -13,36 +13,36 @@ use Rattle.cacao_book.specs.declared.steps.Step.{Step}
 use Rattle.cacao_vars.specs.declared.declarations.Var.{Var}
 use Rattle.cacao_vars.specs.declared.scoping.Scope.{Scope}
 use Rattle.cacao_vars.specs.declared.scoping.Write.{Write}
-use Rattle.flow_rules.specs.Changes.{outcome, moment_of}
-use Rattle.flow_rules.specs.Givens.{Given, step_at}
-use Rattle.flow_rules.specs.Laws.{is_digit}
-use Rattle.flow_rules.specs.Lines.{agent_word, issue_lines, issue_words, key_of, line, line_from, maybe_number, maybe_text, outcome_words, phase_words, report, task_lines, variable_lines, well_words}
-use Rattle.flow_rules.specs.State.{Shown, State, Texts, shown, texts_from, texts_now}
-use Rattle.flow_rules.specs.declared.issues.Issue.{Issue}
-use Rattle.flow_rules.specs.declared.issues.IssuePhase.{IssuePhase}
-use Rattle.flow_rules.specs.declared.issues.IssuePhase.TheVariants as issue_phase
-use Rattle.flow_rules.specs.declared.phases.Phase.{Phase}
-use Rattle.flow_rules.specs.declared.phases.Phase.TheVariants as phase
-use Rattle.flow_rules.specs.declared.tasks.Task.{Task}
-use Rattle.flow_rules.proofs.LineLemmas.{others_are_no_records}
+use Rattle.flow_core_rules.specs.Changes.{outcome, moment_of}
+use Rattle.flow_core_rules.specs.Givens.{Given, step_at}
+use Rattle.flow_core_rules.specs.Laws.{is_digit}
+use Rattle.flow_core_rules.specs.Lines.{agent_word, issue_lines, issue_words, key_of, line, line_from, maybe_number, maybe_text, outcome_words, phase_words, report, task_lines, variable_lines, well_words}
+use Rattle.flow_core_rules.specs.State.{Shown, State, Texts, shown, texts_from, texts_now}
+use Rattle.flow_core_rules.specs.declared.issues.Issue.{Issue}
+use Rattle.flow_core_rules.specs.declared.issues.IssuePhase.{IssuePhase}
+use Rattle.flow_core_rules.specs.declared.issues.IssuePhase.TheVariants as issue_phase
+use Rattle.flow_core_rules.specs.declared.phases.Phase.{Phase}
+use Rattle.flow_core_rules.specs.declared.phases.Phase.TheVariants as phase
+use Rattle.flow_core_rules.specs.declared.tasks.Task.{Task}
+use Rattle.flow_core_rules.proofs.LineLemmas.{others_are_no_records}
 use Rattle.oc2_nets.specs.Texts.{parts}
-use Rattle.cacao_shape.specs.Members.{IsObject, ObjectOf, members_at, members_in}
-use Rattle.cacao_shape.specs.Shape.{IsDeclaration, K3, K4, KeepsOfBook, ShapeRule, k3, k4, workflow}
+use Rattle.cacao_book_shape.specs.Members.{IsObject, ObjectOf, members_at, members_in}
+use Rattle.cacao_book_shape.specs.Shape.{IsDeclaration, K3, K4, KeepsOfBook, ShapeRule, k3, k4, workflow}
 use Rattle.cacao_check.specs.FirstBreak.{IsAccepted, of_shape}
 use Rattle.cacao_check.specs.Fits.{FitsKind}
 use Rattle.cacao_check.specs.declared.breaks.Mode.TheVariants.{Run}
 use Rattle.cacao_ids.specs.Ids.{IsId}
 use Rattle.cacao_vars.specs.Names.{IsName}
-use Rattle.cacao_words.specs.Words.{Text}
+use Rattle.cacao_cli_words.specs.Words.{Text}
 use Rattle.run_records.specs.declared.record.Record.{Record}
-use Rattle.run_reports.specs.RunLines.{Reports, each_line, lines_of, no_run}
+use Rattle.flow_engine_reports.specs.RunLines.{Reports, each_line, lines_of, no_run}
 use Rattle.std.proofs.lemmas.Option.{none-some}
-use Rattle.flow_setup.proofs.SetupLists.{mapped_at}
-use Rattle.flow_setup.proofs.SetupRunnable.{members_all}
+use Rattle.flow_core_setup.proofs.SetupLists.{mapped_at}
+use Rattle.flow_core_setup.proofs.SetupRunnable.{members_all}
 use Rattle.flow_core.specs.Setups.{AreAccepted}
-use Rattle.flow_rules.specs.Accepted.{Accepted}
-use Rattle.flow_rules.specs.Edits.{Edit, all_edited, closes, edited, issues, makes, moves, opens, upgrades, writes}
-use Rattle.flow_rules.specs.Runs.{GoesOn, Leads, after, begun, blank, first_task}
+use Rattle.flow_core_rules.specs.Accepted.{Accepted}
+use Rattle.flow_core_rules.specs.Edits.{Edit, all_edited, closes, edited, issues, makes, moves, opens, upgrades, writes}
+use Rattle.flow_core_rules.specs.Runs.{GoesOn, Leads, after, begun, blank, first_task}
 use Rattle.cacao_cli_looks.proofs.AgreeLemmas.{AreOtherLines}
 use Rattle.cacao_cli_looks.proofs.ReportWords.{IsWord, both-words, first-true, id-word, is_other_than_feed, name-word, number-word, second-true, string-word}
 
@@ -197,9 +197,6 @@ report-clean s count keys names =
 
 inner : {A : Type 0} (x y : A) → Some x ≡ Some y → x ≡ y
 inner x y e = cc
-
-all-fit : (P Q : List ℕ × Data → Type 0) → ((m : List ℕ × Data) → P m → Q m) → (list : List (List ℕ × Data)) → All P list → All Q list
-all-fit P Q to list h k d lt = to _ (h k d lt)
 
 -- the members of an object of so many, each of which fits
 some-fit : (least most : ℕ) (Fits : List ℕ → Data → Type 0) (o : Option Data) → IsSomeAnd o (ObjectOf least most Fits) → IfSome o (λ d. IsSomeAnd (as_object d) (λ ms. All (λ m. Fits m.0 m.1) (members_in ms)))

@@ -9,7 +9,7 @@ use Rattle.cacao_ids.specs.Ids.{IsId, IsPart, is_part_character}
 use Rattle.cacao_ids.specs.Uuids.{IsUuid, is_hyphen_at, is_lower_hex, may_stand}
 use Rattle.cacao_text.specs.Canon.{escaped, hex_digit, string_text}
 use Rattle.cacao_vars.specs.Names.{IsName, is_name_character, underscores}
-use Rattle.flow_rules.specs.Laws.{is_digit}
+use Rattle.flow_core_rules.specs.Laws.{is_digit}
 use Rattle.cacao_cli_looks.proofs.OtherLines.{decimal-digits}
 
 abbrev pub is_other_than_feed : ℕ → Bool

@@ -2,7 +2,7 @@
 use Rattle.std.proofs.Common.{◌≡◌, ◌∙◌, refl, sym, ap, subst, arith, ℕ, suc, List, [], ◌∷◌, ◌++◌, length, map, Option, Some, Ok, Err}
 use Rattle.std.specs.Prelude.{replicate, slice_set}
 use Rattle.std.proofs.lemmas.List.{map-append, length-append, length-map}
-use Rattle.cacao_words.specs.Words.{Text}
+use Rattle.cacao_cli_words.specs.Words.{Text}
 use Rattle.cacao_cli_ends.specs.Asked.{audits}
 use Rattle.cacao_cli_ends.specs.Ends.{End}
 use Rattle.cacao_cli_ends.specs.Files.{File, Files, ShelfCall, NamedText, ReadsTo, Counts, Gives, files_of, journal_file, named, whole}

@@ -7,12 +7,12 @@ use Rattle.cacao_site.specs.View.{SiteView}
 use Rattle.run_journal.specs.Layout.{Stands}
 use Rattle.run_journal.specs.declared.error.JournalError.{JournalError}
 use Rattle.run_journal.specs.declared.error.JournalError.TheVariants as journal_error
-use Rattle.run_reports.specs.RunFiles as run
-use Rattle.run_reports.specs.RunLines.{HoldsReport, lines_of}
-use Rattle.run_reports.specs.declared.error.ReportError.{ReportError}
-use Rattle.run_reports.specs.declared.error.ReportError.TheVariants as report_error
-use Rattle.run_reports.proofs.OneAnswer.{damaged-or-large, report-or-damaged, report-or-large}
-use Rattle.cacao_words.specs.Words.{Text}
+use Rattle.flow_engine_reports.specs.RunFiles as run
+use Rattle.flow_engine_reports.specs.RunLines.{HoldsReport, lines_of}
+use Rattle.flow_engine_reports.specs.declared.error.ReportError.{ReportError}
+use Rattle.flow_engine_reports.specs.declared.error.ReportError.TheVariants as report_error
+use Rattle.flow_engine_reports.proofs.OneAnswer.{damaged-or-large, report-or-damaged, report-or-large}
+use Rattle.cacao_cli_words.specs.Words.{Text}
 use Rattle.cacao_cli_looks.specs.Command.{journal_end, report_end}
 use Rattle.cacao_cli_ends.specs.Ends.{End, status_of, damaged, disk_failed, done, no_memory, past}
 use Rattle.cacao_cli_looks.specs.Looking.{Looks}

@@ -1,10 +1,10 @@
--- What is told of the files of a run that are audited.
+-- Promise: What is told of the files of a run that are audited.
 use Rattle.std.specs.Prelude.{◌≡◌, ◌⊎◌, ℕ, List}
 use Rattle.cacao_site.specs.View.{SiteView}
 use Rattle.flow_audit.specs.Audits.{AllAgree, IsVerdict, PassesTasksAt}
 use Rattle.flow_audit.specs.declared.verdict.Verdict17.{Verdict17}
 use Rattle.flow_audit.specs.declared.verdict.Verdict17.TheVariants as verdict
-use Rattle.cacao_words.specs.Words.{Text}
+use Rattle.cacao_cli_words.specs.Words.{Text}
 use Rattle.cacao_cli_ends.specs.Ends.{End, agrees, disagrees, past, no_memory}
 use Rattle.cacao_cli_ends.specs.declared.limit.Limit.TheVariants.{TaskCount}
 

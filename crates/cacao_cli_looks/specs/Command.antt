@@ -1,10 +1,10 @@
--- What the code of the commands reads and judges, as the definitions have it.
+-- Promise: What the code of the commands reads and judges, as the definitions have it.
 use Rattle.std.specs.Prelude.{◌≡◌, ◌⊎◌, ℕ, Some, List, [], ◌∷◌, map, Vec, Result, Ok, Err}
 use Rattle.std.specs.declared.alloc.Global.{Global}
 use Rattle.serde_json.specs.Data.{Data}
 use Rattle.cacao_check.specs.FirstBreak.{IsAccepted, IsFirstBreak}
-use Rattle.cacao_shape.specs.declared.refusals.BookError.{BookError}
-use Rattle.cacao_shape.specs.declared.refusals.BookError.TheVariants as book_error
+use Rattle.cacao_book_shape.specs.declared.refusals.BookError.{BookError}
+use Rattle.cacao_book_shape.specs.declared.refusals.BookError.TheVariants as book_error
 use Rattle.cacao_check.specs.declared.breaks.Break.{Break}
 use Rattle.cacao_check.specs.declared.breaks.CheckError.{CheckError}
 use Rattle.cacao_check.specs.declared.breaks.CheckError.TheVariants as check_error
@@ -14,12 +14,12 @@ use Rattle.cacao_json.specs.declared.tree.Tree.{Tree}
 use Rattle.oc2_nets.specs.declared.packets.Packet.{Packet}
 use Rattle.run_journal.specs.declared.error.JournalError.{JournalError}
 use Rattle.run_journal.specs.declared.error.JournalError.TheVariants as journal_error
-use Rattle.run_reports.specs.declared.error.ReportError.{ReportError}
-use Rattle.run_reports.specs.declared.error.ReportError.TheVariants as report_error
+use Rattle.flow_engine_reports.specs.declared.error.ReportError.{ReportError}
+use Rattle.flow_engine_reports.specs.declared.error.ReportError.TheVariants as report_error
 use Rattle.slpf_actuator.specs.declared.error.ActError.{ActError}
 use Rattle.slpf_actuator.specs.declared.error.ActError.TheVariants as act_error
-use Rattle.filter_reports.specs.PacketFiles.{packets_of}
-use Rattle.cacao_words.specs.Words.{Text}
+use Rattle.cacao_cli_filters.specs.PacketFiles.{packets_of}
+use Rattle.cacao_cli_words.specs.Words.{Text}
 use Rattle.cacao_cli_ends.specs.Asked.{audits}
 use Rattle.cacao_cli_ends.specs.Ends as as_said
 use Rattle.cacao_cli_ends.specs.Files.{NamedText, ReadsTo, ShelfCall, files_of, named}

@@ -1,4 +1,4 @@
--- How a command goes that holds no session: what it reads, what it does and the lines that it says, all but the last.
+-- Promise: How a command goes that holds no session: what it reads, what it does and the lines that it says, all but the last.
 use Rattle.std.specs.Prelude.{◌≡◌, ◌⊎◌, List, Option, Result}
 use Rattle.serde_json.specs.Data.{Data}
 use Rattle.cacao_check.specs.FirstBreak.{IsAccepted, IsFirstBreak}

@@ -1,4 +1,4 @@
--- What opening a file of the disk does, and what it finds there.
+-- Promise: What opening a file of the disk does, and what it finds there.
 use Rattle.std.specs.Prelude.{◌≡◌, ℕ, ◌+◌, ◌/◌, ◌≤◌, IsTrue, List, length}
 use Rattle.cacao_site.specs.Counts.{Rose}
 use Rattle.cacao_site.specs.DiskCalls.{IsDurable, IsLeft, OnlyFile}
@@ -7,14 +7,14 @@ use Rattle.run_records.specs.declared.act.Act.{Act}
 use Rattle.run_journal.specs.Layout.{Stands}
 use Rattle.flow_laws.specs.Images.{IsAgent}
 use Rattle.slpf_rules.specs.declared.rules.Rule.{Rule}
-use Rattle.slpf_acts.specs.Acts.{table_of}
+use Rattle.slpf_rules_acts.specs.Acts.{table_of}
 use Rattle.slpf_actuator.specs.ActLists.{IsHistory}
 use Rattle.slpf_actuator.specs.ActuatorView.{HoldsActs}
 use Rattle.slpf_actuator.specs.Damage.{IsDamaged}
-use Rattle.filter_reports.specs.Lines.{AreShadowLines, decision_lines, rule_lines}
-use Rattle.run_reports.specs.RunFiles as run
-use Rattle.run_reports.specs.RunLines.{HoldsReport, Reports, lines_of}
-use Rattle.cacao_words.specs.Words.{Text}
+use Rattle.cacao_cli_filters.specs.Lines.{AreShadowLines, decision_lines, rule_lines}
+use Rattle.flow_engine_reports.specs.RunFiles as run
+use Rattle.flow_engine_reports.specs.RunLines.{HoldsReport, Reports, lines_of}
+use Rattle.cacao_cli_words.specs.Words.{Text}
 use Rattle.cacao_cli_ends.specs.Ends.{End, damaged, disk_failed, done, no_memory, past}
 use Rattle.cacao_cli_ends.specs.Lines.{SaysWork}
 use Rattle.cacao_cli_ends.specs.Work.{Look, at_rules, at_decisions, at_shadows}

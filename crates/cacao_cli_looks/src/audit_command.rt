@@ -1,6 +1,6 @@
 // The command `audit`.
 ghost use Rattle.std.specs.Prelude.{◌≡◌, ◌≤◌, [], IfOk, Some, map, replicate};
-ghost use Rattle.cacao_words.specs.Commands.{filter_of};
+ghost use Rattle.cacao_cli_words.specs.Commands.{filter_of};
 ghost use Rattle.cacao_cli_ends.specs.Asked.{audits};
 ghost use Rattle.cacao_cli_looks.specs.Audited.{TellsFiles, verdict_end};
 ghost use Rattle.cacao_cli_looks.specs.Command.{ReadsRun};
@@ -10,8 +10,8 @@ ghost use Rattle.cacao_cli_ends.specs.Files.{shelf_call};
 
 use crate::file::read_bytes;
 use cacao_cli_ends::{End, Limit};
+use cacao_cli_words::FilterFile;
 use cacao_site::{Bytes, Shelf, Site};
-use cacao_words::FilterFile;
 use flow_audit::{AuditError, Files17, Verdict17};
 use std::alloc::{AllocError, Global};
 

@@ -10,9 +10,9 @@ ghost use Rattle.cacao_cli_ends.specs.Work.{at_decisions, at_rules, at_shadows, 
 use crate::file::read_file;
 use crate::packets::packets_of;
 use cacao_cli_ends::{End, say_all};
+use cacao_cli_filters::{decision_lines, rule_lines, shadow_lines};
+use cacao_cli_words::Agent;
 use cacao_site::{Shelf, Site};
-use cacao_words::Agent;
-use filter_reports::{decision_lines, rule_lines, shadow_lines};
 use oc2_nets::Packet;
 use slpf_actuator::{ActError, Actuator};
 use std::alloc::Global;

@@ -3,7 +3,7 @@ ghost use Rattle.cacao_cli_looks.specs.Command.{ArePacketsOrMemory, text_of};
 
 use crate::file_text::FileText;
 use cacao_cli_ends::{End, Reason};
-use filter_reports::{PacketsError, read_packets};
+use cacao_cli_filters::{PacketsError, read_packets};
 use oc2_nets::Packet;
 use std::alloc::Global;
 

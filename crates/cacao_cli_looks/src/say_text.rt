@@ -1,11 +1,11 @@
 // The lines of a text, said.
-ghost use Rattle.run_reports.specs.RunLines.{lines_of};
+ghost use Rattle.flow_engine_reports.specs.RunLines.{lines_of};
 ghost use Rattle.cacao_cli_ends.specs.Told.{end_of};
 ghost use Rattle.cacao_cli_ends.specs.Lines.{SaysOrStops, SaysWork};
 
 use cacao_cli_ends::End;
 use cacao_site::Site;
-use run_reports::next_line;
+use flow_engine_reports::next_line;
 use std::alloc::Global;
 
 /// Says the lines of a text in order; the end is this one, if all were said.

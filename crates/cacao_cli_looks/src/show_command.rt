@@ -8,8 +8,8 @@ ghost use Rattle.cacao_cli_ends.specs.Work.{opens_run};
 use crate::say_text::say_text;
 use cacao_cli_ends::{End, Limit};
 use cacao_site::Site;
+use flow_engine_reports::{ReportError, run_report};
 use run_journal::{Journal, JournalError};
-use run_reports::{ReportError, run_report};
 use std::alloc::Global;
 
 /// How a call ends where the engine's file was not opened.

@@ -1,17 +1,17 @@
--- A session, from the texts that were read.
+-- Promise: A session, from the texts that were read.
 use Rattle.std.specs.Prelude.{◌≡◌, ◌⊎◌, ℕ, Bool, true, false, List, Some}
 use Rattle.cacao_check.specs.Fits.{FitsKind}
 use Rattle.cacao_check.specs.declared.breaks.Break.{Break}
 use Rattle.cacao_site.specs.View.{SiteView}
-use Rattle.flow_rules.specs.Accepted.{Accepted}
-use Rattle.flow_rules.specs.Givens.{Given}
+use Rattle.flow_core_rules.specs.Accepted.{Accepted}
+use Rattle.flow_core_rules.specs.Givens.{Given}
 use Rattle.flow_core.specs.SetupReading.{BreaksBindRule, BreaksRule}
 use Rattle.flow_core.specs.Setups.{AreAccepted}
 use Rattle.flow_core.specs.declared.flow_errors.LimitKind.{LimitKind}
 use Rattle.flow_core.specs.declared.flow_errors.LimitKind.TheVariants as kind
-use Rattle.operator_answers.specs.Answers.{IsFirstBadLine}
-use Rattle.operator_answers.specs.Answers as told
-use Rattle.operator_answers.specs.declared.answers.OperatorAnswer.{OperatorAnswer}
+use Rattle.flow_engine_answers.specs.Answers.{IsFirstBadLine}
+use Rattle.flow_engine_answers.specs.Answers as told
+use Rattle.flow_engine_answers.specs.declared.answers.OperatorAnswer.{OperatorAnswer}
 use Rattle.flow_world.specs.Sessions.{HasClosed, HasRefused, IsStart, KeepsAgreement}
 use Rattle.flow_world_parts.specs.declared.close.Close.{Close}
 use Rattle.flow_world_parts.specs.declared.close.Close.TheVariants as close

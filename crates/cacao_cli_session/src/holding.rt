@@ -6,8 +6,8 @@ ghost use Rattle.cacao_cli_session.specs.Holding.{HoldsSo, close_end, error_end,
 use cacao_cli_ends::{End, Limit};
 use cacao_site::Site;
 use flow_core::{LimitKind, Setup};
+use flow_engine_answers::Answers;
 use flow_world::{Close, WorldError, session};
-use operator_answers::Answers;
 use std::alloc::Global;
 
 /// The quantity whose limit a session would pass.

@@ -8,16 +8,16 @@ use Rattle.cacao_site.specs.LinkCalls.{GainsAll}
 use Rattle.cacao_site.specs.View.{LinkView, SiteView}
 use Rattle.cacao_site.specs.declared.parcel.Parcel.{Parcel}
 use Rattle.oc2_msg.specs.declared.answers.Answer.{Answer}
-use Rattle.flow_rules.specs.Givens.{Given}
-use Rattle.engine_history.specs.HistoryView.{HistoryView}
-use Rattle.operator_answers.specs.declared.answers.OperatorAnswer.{OperatorAnswer}
+use Rattle.flow_core_rules.specs.Givens.{Given}
+use Rattle.flow_engine_history.specs.HistoryView.{HistoryView}
+use Rattle.flow_engine_answers.specs.declared.answers.OperatorAnswer.{OperatorAnswer}
 use Rattle.flow_engine.specs.EngineCalls.{IsReplyTo, IsWaiting}
 use Rattle.flow_laws.proofs.OneList.{acts_of_layout}
-use Rattle.flow_steps.specs.Handled.{HasItsAct, IsCommand}
-use Rattle.flow_steps.specs.Steps.{IsAddressed}
-use Rattle.flow_steps.specs.Unbroken.{AreFiltersSure}
-use Rattle.flow_steps.specs.Worlds.{Notes, looked, rests, waits}
-use Rattle.flow_steps.proofs.Came.{same_last}
+use Rattle.flow_world_steps.specs.Handled.{HasItsAct, IsCommand}
+use Rattle.flow_world_steps.specs.Steps.{IsAddressed}
+use Rattle.flow_world_steps.specs.Unbroken.{AreFiltersSure}
+use Rattle.flow_world_steps.specs.Worlds.{Notes, looked, rests, waits}
+use Rattle.flow_world_steps.proofs.Came.{same_last}
 use Rattle.flow_world_parts.specs.Closes.{IsClose}
 use Rattle.flow_world.specs.Sessions.{Went}
 use Rattle.flow_world_parts.specs.declared.close.Close.{Close}

@@ -5,18 +5,18 @@ use Rattle.cacao_site.specs.View.{SiteView}
 use Rattle.cacao_site.specs.declared.parcel.Parcel.{Parcel}
 use Rattle.run_records.specs.declared.act.Act.{Act}
 use Rattle.flow_core.specs.declared.flow_errors.LimitKind.TheVariants as limit
-use Rattle.flow_rules.specs.Moves.{enabled_move}
-use Rattle.flow_rules.specs.State.{Shown}
-use Rattle.engine_history.specs.Openings.{RefusesImage}
-use Rattle.engine_history.specs.declared.error.EngineError.TheVariants as refusal
+use Rattle.flow_core_rules.specs.Moves.{enabled_move}
+use Rattle.flow_core_rules.specs.State.{Shown}
+use Rattle.flow_engine_history.specs.Openings.{RefusesImage}
+use Rattle.flow_engine_history.specs.declared.error.EngineError.TheVariants as refusal
 use Rattle.flow_laws.specs.Images.{IsActs, IsRecords}
-use Rattle.flow_steps.specs.Grown.{acts_of}
-use Rattle.flow_steps.specs.Handled.{one_reply}
-use Rattle.flow_steps.specs.Sums.{total}
+use Rattle.flow_world_steps.specs.Grown.{acts_of}
+use Rattle.flow_world_steps.specs.Handled.{one_reply}
+use Rattle.flow_world_steps.specs.Sums.{total}
 use Rattle.slpf_actuator.specs.ActLists.{length_with}
 use Rattle.slpf_actuator.specs.ActuatorView.{act_for}
 use Rattle.slpf_actuator.specs.Damage.{IsDamaged}
-use Rattle.session_laws.specs.Undamaged.{IsDamagedFor}
+use Rattle.flow_world_laws.specs.Undamaged.{IsDamagedFor}
 use Rattle.cacao_cli_ends.specs.Comes.{IsOneOf}
 use Rattle.cacao_cli_ends.specs.Lines.{SaysAtMostALine}
 use Rattle.cacao_cli_session_laws.specs.Returning.{AsksSo, BeginsAnother, CanGoOn, ComesInTurn, CouldAppend, DuePasses, FindsFirstUsed, FindsUsed, FloodsSo, GainsActs, GainsRecords, HasDamagedFilter, IsIdleNow, IsLateSo, IsRepliedLast, IsResend, IsTakenLast, KeepsWithin, LeavesNoReply, LeavesRecords, NextActPasses, PausesSo, ReadsAsAnother, ReadsAsDamaged, ReadsSo, ReadsTooLarge, ReturnsSo, StatusTells, NextPasses, PassesIdle, PassesInHand, WaitsFirst, WaitsInTurn, WaitsSo, WouldPassSo, or_any}

@@ -13,22 +13,22 @@ use Rattle.run_records.specs.declared.act.Act.{Act}
 use Rattle.run_records.specs.declared.record.Record.{Record}
 use Rattle.run_records.specs.declared.record.Record.TheVariants as entry
 use Rattle.flow_core.specs.Views.{View, taken}
-use Rattle.flow_rules.specs.Changes.{Waiting, change, edits_of, expire, expired, is_in_time, is_waiting, moment_of, waiting_at}
-use Rattle.flow_rules.specs.Edits.{Edit}
-use Rattle.flow_rules.specs.Givens.{Given}
-use Rattle.flow_rules.specs.Moves.{deadline_of, deadlines, deadlines_from, delays, due, has_deadline, least}
-use Rattle.flow_rules.specs.State.{Shown}
-use Rattle.flow_rules.specs.declared.issues.Issue.{Issue}
-use Rattle.flow_rules.proofs.HereLemmas.{IsWaitingAt, waiting_known}
-use Rattle.operator_answers.specs.declared.answers.OperatorAnswer.{OperatorAnswer}
-use Rattle.operator_answers.proofs.AnswerLawLemmas.{answers_are_one}
+use Rattle.flow_core_rules.specs.Changes.{Waiting, change, edits_of, expire, expired, is_in_time, is_waiting, moment_of, waiting_at}
+use Rattle.flow_core_rules.specs.Edits.{Edit}
+use Rattle.flow_core_rules.specs.Givens.{Given}
+use Rattle.flow_core_rules.specs.Moves.{deadline_of, deadlines, deadlines_from, delays, due, has_deadline, least}
+use Rattle.flow_core_rules.specs.State.{Shown}
+use Rattle.flow_core_rules.specs.declared.issues.Issue.{Issue}
+use Rattle.flow_core_rules.proofs.HereLemmas.{IsWaitingAt, waiting_known}
+use Rattle.flow_engine_answers.specs.declared.answers.OperatorAnswer.{OperatorAnswer}
+use Rattle.flow_engine_answers.proofs.AnswerLawLemmas.{answers_are_one}
 use Rattle.flow_engine.specs.EngineCalls.{IsWaiting}
 use Rattle.flow_laws.proofs.OneList.{same_acts, same_records}
-use Rattle.flow_steps.specs.Handled.{IsCommand, one_reply}
-use Rattle.flow_steps.specs.Turns.{answer_for}
-use Rattle.run_reports.proofs.AcceptLemmas.{accepted-one}
-use Rattle.session_laws.specs.Returned.{ReadsAsRun}
-use Rattle.session_laws.proofs.Returning.{reads_as_one_run}
+use Rattle.flow_world_steps.specs.Handled.{IsCommand, one_reply}
+use Rattle.flow_world_steps.specs.Turns.{answer_for}
+use Rattle.flow_engine_reports.proofs.AcceptLemmas.{accepted-one}
+use Rattle.flow_world_laws.specs.Returned.{ReadsAsRun}
+use Rattle.flow_world_laws.proofs.Returning.{reads_as_one_run}
 use Rattle.cacao_cli_session_laws.specs.Returning.{ActsOnAll, AsksSo, ComesInTurn, HasActFor, IsIdleNow, IsLateSo, IsOfEnabledMove, IsRepliedLast, IsTakenLast, IsToldNext, NextActPasses, NextPasses, PassesInHand, ReadsSo, WouldPassSo}
 use Rattle.cacao_cli_ends.specs.Work.{Start, bytes_of}
 use Rattle.cacao_cli_session_laws.proofs.ActedLemmas.{AllSince}

@@ -6,7 +6,7 @@ use Rattle.flow_world_parts.specs.declared.close.Close.{Close}
 use Rattle.flow_world_parts.specs.declared.close.Close.TheVariants as close
 use Rattle.flow_world_parts.specs.declared.error.WorldError.{WorldError}
 use Rattle.flow_world_parts.specs.declared.error.WorldError.TheVariants as error
-use Rattle.session_laws.specs.Complete.{EndsSo, IsUndisturbed, StopsSo, TellsOfAnother}
+use Rattle.flow_world_laws.specs.Complete.{EndsSo, IsUndisturbed, StopsSo, TellsOfAnother}
 use Rattle.cacao_cli_ends.specs.Ends.{End, status_of, no_memory, shelf_failed}
 use Rattle.cacao_cli_ends.specs.Comes.{IsOneOf}
 use Rattle.cacao_cli_ends.specs.Files.{File}

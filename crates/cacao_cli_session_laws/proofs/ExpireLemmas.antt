@@ -9,27 +9,27 @@ use Rattle.cacao_site.specs.View.{SiteView}
 use Rattle.cacao_site.proofs.Beats.{goes_on-refl, told-goes_on}
 use Rattle.run_records.specs.Ranges.{InRange}
 use Rattle.run_records.specs.declared.record.Record.{Record}
-use Rattle.flow_rules.specs.Givens.{Given}
-use Rattle.engine_history.specs.HistoryView.{HoldsRecords}
-use Rattle.engine_history.specs.Openings.{IsRefusedOpening}
-use Rattle.engine_history.specs.declared.error.EngineError.{EngineError}
-use Rattle.engine_history.specs.declared.error.EngineError.TheVariants as refusal
-use Rattle.operator_answers.specs.declared.answers.OperatorAnswer.{OperatorAnswer}
+use Rattle.flow_core_rules.specs.Givens.{Given}
+use Rattle.flow_engine_history.specs.HistoryView.{HoldsRecords}
+use Rattle.flow_engine_history.specs.Openings.{IsRefusedOpening}
+use Rattle.flow_engine_history.specs.declared.error.EngineError.{EngineError}
+use Rattle.flow_engine_history.specs.declared.error.EngineError.TheVariants as refusal
+use Rattle.flow_engine_answers.specs.declared.answers.OperatorAnswer.{OperatorAnswer}
 use Rattle.flow_laws.specs.Good.{AgreeOn}
 use Rattle.flow_laws.specs.Images.{IsRecords, puts_to}
 use Rattle.flow_laws.proofs.OneList.{records_of_layout}
-use Rattle.flow_steps.specs.Complete.{IsComplete, IsNoExpire}
-use Rattle.flow_steps.specs.Sides.{HoldsWithUnsure}
-use Rattle.flow_steps.specs.Unbroken.{IsJournalSure}
-use Rattle.flow_steps.specs.Unsure.{UnsureByStep}
-use Rattle.flow_steps.specs.Worlds.{Notes}
+use Rattle.flow_world_steps.specs.Complete.{IsComplete, IsNoExpire}
+use Rattle.flow_world_steps.specs.Sides.{HoldsWithUnsure}
+use Rattle.flow_world_steps.specs.Unbroken.{IsJournalSure}
+use Rattle.flow_world_steps.specs.Unsure.{UnsureByStep}
+use Rattle.flow_world_steps.specs.Worlds.{Notes}
 use Rattle.flow_world_parts.specs.Errors.{opening_refusal}
 use Rattle.flow_world_parts.specs.Openings.{RefusesJournal, RefusesOpening}
 use Rattle.flow_world.specs.Sessions.{HasRefused, IsStart, Went}
 use Rattle.flow_world_parts.specs.declared.error.WorldError.{WorldError}
 use Rattle.flow_world_parts.specs.declared.error.WorldError.TheVariants as error
-use Rattle.session_laws.proofs.Opening.{OnlyOpens, opens_refused}
-use Rattle.session_laws.proofs.Undamaged.{reads_agree}
+use Rattle.flow_world_laws.proofs.Opening.{OnlyOpens, opens_refused}
+use Rattle.flow_world_laws.proofs.Undamaged.{reads_agree}
 use Rattle.cacao_cli_session_laws.specs.Completing.{AddsNoExpire}
 use Rattle.cacao_cli_session_laws.proofs.DoneLemmas.{complete}
 use Rattle.cacao_cli_session_laws.proofs.ReturnedRuns.{gains-added, had-records, sound-reads, sound-there, told-there}

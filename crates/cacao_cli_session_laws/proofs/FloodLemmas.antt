@@ -8,22 +8,22 @@ use Rattle.cacao_site.specs.View.{LinkView, SiteView}
 use Rattle.cacao_site.specs.declared.parcel.Parcel.{Parcel}
 use Rattle.run_records.specs.declared.act.Act.{Act}
 use Rattle.run_records.specs.declared.record.Record.{Record}
-use Rattle.flow_rules.specs.Givens.{Given}
-use Rattle.operator_answers.specs.declared.answers.OperatorAnswer.{OperatorAnswer}
+use Rattle.flow_core_rules.specs.Givens.{Given}
+use Rattle.flow_engine_answers.specs.declared.answers.OperatorAnswer.{OperatorAnswer}
 use Rattle.flow_laws.specs.Images.{IsActs, IsAgent}
 use Rattle.flow_laws.proofs.OneList.{acts_of_layout, same_acts, same_records}
 use Rattle.slpf_actuator.specs.ActuatorView.{ActuatorView}
-use Rattle.flow_steps.specs.Appends.{Tries}
-use Rattle.flow_steps.specs.Appends.Tries.{done, failed, limited}
-use Rattle.flow_steps.specs.Grown.{HasGrown, acts_of}
-use Rattle.flow_steps.specs.Handled.{IsAtHand, one_reply}
-use Rattle.flow_steps.specs.Steps.{Step, Steps}
-use Rattle.flow_steps.specs.Steps.Step.{opens_clock, finds_run_used, asks_clock, finds_late, begins, moves, upgrades, tells, expires, says, fails_to_say, puts_first, resends, takes, finds_none, fails_to_take, drops, replies, ignores_reply, acts_on, repeats_reply, fails_to_act, wants_memory_now}
-use Rattle.flow_steps.specs.Steps.Steps.{nothing, and_then}
-use Rattle.flow_steps.specs.Sums.{total}
-use Rattle.flow_steps.specs.Unbroken.{AreFiltersSure, IsJournalSure}
-use Rattle.flow_steps.specs.Worlds.{Notes, Phase, World}
-use Rattle.flow_steps.proofs.Failing.{fails_notes}
+use Rattle.flow_world_steps.specs.Appends.{Tries}
+use Rattle.flow_world_steps.specs.Appends.Tries.{done, failed, limited}
+use Rattle.flow_world_steps.specs.Grown.{HasGrown, acts_of}
+use Rattle.flow_world_steps.specs.Handled.{IsAtHand, one_reply}
+use Rattle.flow_world_steps.specs.Steps.{Step, Steps}
+use Rattle.flow_world_steps.specs.Steps.Step.{opens_clock, finds_run_used, asks_clock, finds_late, begins, moves, upgrades, tells, expires, says, fails_to_say, puts_first, resends, takes, finds_none, fails_to_take, drops, replies, ignores_reply, acts_on, repeats_reply, fails_to_act, wants_memory_now}
+use Rattle.flow_world_steps.specs.Steps.Steps.{nothing, and_then}
+use Rattle.flow_world_steps.specs.Sums.{total}
+use Rattle.flow_world_steps.specs.Unbroken.{AreFiltersSure, IsJournalSure}
+use Rattle.flow_world_steps.specs.Worlds.{Notes, Phase, World}
+use Rattle.flow_world_steps.proofs.Failing.{fails_notes}
 use Rattle.flow_world_parts.specs.Openings.{IsFilterOpen}
 use Rattle.flow_world.specs.Sessions.{Went}
 use Rattle.cacao_cli_session_laws.specs.Returning.{FloodsSo, GainsActs}

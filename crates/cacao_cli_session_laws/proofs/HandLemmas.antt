@@ -12,34 +12,34 @@ use Rattle.run_records.specs.declared.record.Record.{Record}
 use Rattle.flow_core.specs.Setups.{AreAccepted}
 use Rattle.flow_core.specs.declared.flow_errors.LimitKind.{LimitKind}
 use Rattle.flow_core.specs.declared.flow_errors.LimitKind.TheVariants as limit
-use Rattle.flow_rules.specs.Accepted.{Accepted}
-use Rattle.flow_rules.specs.Givens.{Given}
-use Rattle.engine_history.specs.HistoryView.{HistoryView}
-use Rattle.operator_answers.specs.declared.answers.OperatorAnswer.{OperatorAnswer}
+use Rattle.flow_core_rules.specs.Accepted.{Accepted}
+use Rattle.flow_core_rules.specs.Givens.{Given}
+use Rattle.flow_engine_history.specs.HistoryView.{HistoryView}
+use Rattle.flow_engine_answers.specs.declared.answers.OperatorAnswer.{OperatorAnswer}
 use Rattle.flow_engine.specs.EngineCalls.{IsReply}
 use Rattle.flow_engine.specs.EngineView.{EngineView}
 use Rattle.flow_laws.specs.Images.{IsActs, IsAgent}
 use Rattle.flow_laws.proofs.OneList.{acts_of_layout, same_records}
 use Rattle.slpf_actuator.specs.ActuatorView.{ActuatorView}
 use Rattle.slpf_actuator.specs.declared.error.ActError.TheVariants as act_error
-use Rattle.flow_steps.specs.Appends.{HasPassedLimit}
-use Rattle.flow_steps.specs.Grown.{HasGrown, acts_of}
-use Rattle.flow_steps.specs.Handled.{Handles, IsAtHand, one_reply}
-use Rattle.flow_steps.specs.Steps.{FailsToAct, GoesTowards, OnlyPhase, Replies, Steps}
-use Rattle.flow_steps.specs.Steps.Steps.{nothing, and_then}
-use Rattle.flow_steps.specs.Sums.{total}
-use Rattle.flow_steps.specs.Turns.{most_ignored}
-use Rattle.flow_steps.specs.Unbroken.{IsJournalSure}
-use Rattle.flow_steps.specs.Worlds.{IsGoing, Notes, Phase, World, holds, looked, opened, past}
-use Rattle.flow_steps.proofs.Asked.{step_not_opened}
-use Rattle.flow_steps.proofs.Handling.{steps_handle}
-use Rattle.flow_steps.proofs.Timely.{in_time_bounds, opened_in_time, steps_in_time}
+use Rattle.flow_world_steps.specs.Appends.{HasPassedLimit}
+use Rattle.flow_world_steps.specs.Grown.{HasGrown, acts_of}
+use Rattle.flow_world_steps.specs.Handled.{Handles, IsAtHand, one_reply}
+use Rattle.flow_world_steps.specs.Steps.{FailsToAct, GoesTowards, OnlyPhase, Replies, Steps}
+use Rattle.flow_world_steps.specs.Steps.Steps.{nothing, and_then}
+use Rattle.flow_world_steps.specs.Sums.{total}
+use Rattle.flow_world_steps.specs.Turns.{most_ignored}
+use Rattle.flow_world_steps.specs.Unbroken.{IsJournalSure}
+use Rattle.flow_world_steps.specs.Worlds.{IsGoing, Notes, Phase, World, holds, looked, opened, past}
+use Rattle.flow_world_steps.proofs.Asked.{step_not_opened}
+use Rattle.flow_world_steps.proofs.Handling.{steps_handle}
+use Rattle.flow_world_steps.proofs.Timely.{in_time_bounds, opened_in_time, steps_in_time}
 use Rattle.flow_world_parts.specs.Closes.{IsRefusal}
 use Rattle.flow_world.specs.Sessions.{Went}
 use Rattle.flow_world_parts.specs.declared.error.WorldError.TheVariants as error
-use Rattle.session_laws.specs.Ends.{PassesAt, TurnAt}
-use Rattle.session_laws.specs.Ends.PassesAt.{by_begin, by_move, by_upgrade, by_told, by_expire, by_reply, by_act}
-use Rattle.session_laws.proofs.Shown.{steps_in_turn}
+use Rattle.flow_world_laws.specs.Ends.{PassesAt, TurnAt}
+use Rattle.flow_world_laws.specs.Ends.PassesAt.{by_begin, by_move, by_upgrade, by_told, by_expire, by_reply, by_act}
+use Rattle.flow_world_laws.proofs.Shown.{steps_in_turn}
 use Rattle.cacao_cli_session.specs.Holding.{AreAnswers}
 use Rattle.cacao_cli_session_laws.specs.Returning.{FloodsSo, GainsActs, PassesInHand}
 use Rattle.cacao_cli_ends.specs.Work.{Start}
@@ -48,7 +48,7 @@ use Rattle.cacao_cli_session_laws.proofs.LimitLemmas.{TriedNext, Turn, act-so, n
 use Rattle.cacao_cli_session_laws.proofs.PastLemmas.{past-unsure, stands-there}
 use Rattle.cacao_cli_session_laws.proofs.ReachedLemmas.{AsksTime, IsStopped, PastBy, past-by, past-stops}
 use Rattle.cacao_cli_session_laws.proofs.ReturnedRuns.{ReadsImages, sure-records, there-at}
-use Rattle.flow_steps.proofs.Adding.{replies_now}
+use Rattle.flow_world_steps.proofs.Adding.{replies_now}
 
 -- the step left the parcels taken, and what was done with them
 record LeavesCounts (o w : World) : Type 0 where

@@ -6,21 +6,20 @@ use Rattle.std.specs.Option.{option_map_or, option_or}
 use Rattle.std.proofs.lemmas.Bool.{false≢true}
 use Rattle.std.proofs.lemmas.Option.{none-some}
 use Rattle.cacao_book.specs.declared.steps.Step.{Step}
-use Rattle.flow_rules.specs.Changes.{children, command_at, entered, has_ended, is_in_time, issuing, joined, next_command, next_question, outcome, place_at, question_at, walk, walked}
-use Rattle.flow_rules.specs.Givens.{step_at}
-use Rattle.flow_rules.specs.Moves.{deadlines, delay_of, delay_until, delays, due, enabled_move, first_move, least, move_at}
-use Rattle.flow_rules.specs.Places.{Place}
-use Rattle.flow_rules.specs.Sane.{IsSane, IsSaneAt}
-use Rattle.flow_rules.specs.State.{Shown}
-use Rattle.flow_rules.specs.Tasks.{Here, here_at}
-use Rattle.flow_rules.specs.Edits.{Edit}
-use Rattle.flow_rules.specs.declared.issues.Issue.{Issue}
-use Rattle.flow_rules.specs.declared.moves.Move.{Move}
-use Rattle.flow_rules.specs.declared.phases.Phase.{Phase}
-use Rattle.flow_rules.specs.declared.phases.Phase.TheVariants as phase
-use Rattle.flow_rules.specs.declared.tasks.Task.{Task}
-use Rattle.flow_rules.proofs.HereLemmas.{here_of, some_at}
-use Rattle.flow_rules.proofs.NotStuck.{no-move, none_of}
+use Rattle.flow_core_rules.specs.Changes.{children, command_at, entered, has_ended, is_in_time, issuing, joined, next_command, next_question, outcome, place_at, question_at, walk, walked}
+use Rattle.flow_core_rules.specs.Givens.{step_at}
+use Rattle.flow_core_rules.specs.Moves.{deadlines, delay_of, delay_until, delays, due, enabled_move, first_move, least, move_at}
+use Rattle.flow_core_rules.specs.Places.{Place}
+use Rattle.flow_core_rules.specs.Sane.{IsSane, IsSaneAt}
+use Rattle.flow_core_rules.specs.State.{Shown}
+use Rattle.flow_core_rules.specs.Tasks.{Here, here_at}
+use Rattle.flow_core_rules.specs.declared.issues.Issue.{Issue}
+use Rattle.flow_core_rules.specs.declared.moves.Move.{Move}
+use Rattle.flow_core_rules.specs.declared.phases.Phase.{Phase}
+use Rattle.flow_core_rules.specs.declared.phases.Phase.TheVariants as phase
+use Rattle.flow_core_rules.specs.declared.tasks.Task.{Task}
+use Rattle.flow_core_rules.proofs.HereLemmas.{here_of, some_at}
+use Rattle.flow_core_rules.proofs.NotStuck.{no-move, none_of}
 
 -- ---- what is due, and delays
 
@@ -79,10 +78,6 @@ late a b lt = grind arith
 clash : (b : Bool) → b ≡ true → b ≡ false → ⊥
 clash true e f = false≢true (sym f)
 clash false e f = false≢true e
-
-none-later : (b : Bool) (es : List Edit) → b ≡ false → cond b (Some es) None ≡ None
-none-later true es e = absurd (false≢true (sym e))
-none-later false es e = refl
 
 -- a task walks only from its delay on, and one that joins once its children have ended
 no-walk : (h : Here) (at : Phase) → ((since : ℕ) → at ≡ phase.At since → h.now < since + h.step.delay)

@@ -1,11 +1,11 @@
 -- What settles the status of a start.
 use Rattle.std.proofs.Common.{◌≡◌, inl, inr, ap, subst}
 use Rattle.cacao_site.specs.View.{SiteView}
-use Rattle.flow_setup.specs.declared.setup_errors.SetupError.TheVariants as setup_error
-use Rattle.operator_answers.specs.Answers as told
-use Rattle.operator_answers.proofs.AnswerLawLemmas.{bad_lines_tell_nothing}
-use Rattle.run_reports.proofs.AcceptLemmas.{not-accepted}
-use Rattle.cacao_words.specs.Words.{Text}
+use Rattle.flow_core_setup.specs.declared.setup_errors.SetupError.TheVariants as setup_error
+use Rattle.flow_engine_answers.specs.Answers as told
+use Rattle.flow_engine_answers.proofs.AnswerLawLemmas.{bad_lines_tell_nothing}
+use Rattle.flow_engine_reports.proofs.AcceptLemmas.{not-accepted}
+use Rattle.cacao_cli_words.specs.Words.{Text}
 use Rattle.cacao_cli_ends.specs.Ends.{End, status_of, ended_ok}
 use Rattle.cacao_cli_session.specs.Holding.{CameTo, HasAnswers, HasBadAnswer, IsAcceptedStart, IsRefusedStart}
 use Rattle.cacao_cli_ends.specs.Work.{Start, bytes_of}

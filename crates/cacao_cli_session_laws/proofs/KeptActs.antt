@@ -7,16 +7,16 @@ use Rattle.cacao_site.specs.Sound.{IsSound}
 use Rattle.cacao_site.specs.View.{SiteView}
 use Rattle.run_records.specs.Ranges.{ActInRange}
 use Rattle.run_records.specs.declared.act.Act.{Act}
-use Rattle.flow_rules.specs.Givens.{Given}
-use Rattle.operator_answers.specs.declared.answers.OperatorAnswer.{OperatorAnswer}
+use Rattle.flow_core_rules.specs.Givens.{Given}
+use Rattle.flow_engine_answers.specs.declared.answers.OperatorAnswer.{OperatorAnswer}
 use Rattle.flow_laws.specs.Images.{IsActs, IsAgent}
 use Rattle.flow_laws.proofs.OneList.{acts_of_layout}
 use Rattle.slpf_actuator.specs.ActuatorView.{ActuatorView, HoldsActs}
-use Rattle.flow_steps.specs.Grown.{HasGrown, acts_of}
-use Rattle.flow_steps.specs.Ready.{FilterStands, HoldsActsWithUnsure}
-use Rattle.flow_steps.specs.Unsure.{UnsureByFilter}
-use Rattle.flow_steps.specs.Worlds.{Notes}
-use Rattle.flow_steps.proofs.Unsure.{steps_unsure_act}
+use Rattle.flow_world_steps.specs.Grown.{HasGrown, acts_of}
+use Rattle.flow_world_steps.specs.Ready.{FilterStands, HoldsActsWithUnsure}
+use Rattle.flow_world_steps.specs.Unsure.{UnsureByFilter}
+use Rattle.flow_world_steps.specs.Worlds.{Notes}
+use Rattle.flow_world_steps.proofs.Unsure.{steps_unsure_act}
 use Rattle.flow_world_parts.specs.Openings.{IsFileCause, RefusesJournal, RefusesOpening, RefusesSecond}
 use Rattle.flow_world.specs.Sessions.{Went}
 use Rattle.flow_world_parts.specs.declared.error.WorldError.{WorldError}

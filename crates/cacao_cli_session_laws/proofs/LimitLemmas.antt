@@ -13,41 +13,41 @@ use Rattle.flow_core.specs.Setups.{AreAccepted}
 use Rattle.flow_core.specs.Views.{taken}
 use Rattle.flow_core.specs.declared.flow_errors.LimitKind.{LimitKind}
 use Rattle.flow_core.specs.declared.flow_errors.LimitKind.TheVariants as limit
-use Rattle.flow_rules.specs.Accepted.{Accepted}
-use Rattle.flow_rules.specs.Changes.{is_waiting, moment_of, outcome}
-use Rattle.flow_rules.specs.Edits.{Edit}
-use Rattle.flow_rules.specs.Givens.{Given}
-use Rattle.flow_rules.specs.Moves.{due, record_of}
-use Rattle.flow_rules.specs.State.{Shown}
-use Rattle.flow_rules.specs.declared.issues.Issue.{Issue}
-use Rattle.flow_rules.specs.declared.moves.Move.{Move}
-use Rattle.flow_rules.specs.declared.moves.Move.TheVariants as move
-use Rattle.engine_history.specs.HistoryCalls.{limit_of}
-use Rattle.engine_history.specs.HistoryView.{HistoryView, flow_of}
-use Rattle.operator_answers.specs.declared.answers.OperatorAnswer.{OperatorAnswer}
+use Rattle.flow_core_rules.specs.Accepted.{Accepted}
+use Rattle.flow_core_rules.specs.Changes.{is_waiting, moment_of, outcome}
+use Rattle.flow_core_rules.specs.Edits.{Edit}
+use Rattle.flow_core_rules.specs.Givens.{Given}
+use Rattle.flow_core_rules.specs.Moves.{due, record_of}
+use Rattle.flow_core_rules.specs.State.{Shown}
+use Rattle.flow_core_rules.specs.declared.issues.Issue.{Issue}
+use Rattle.flow_core_rules.specs.declared.moves.Move.{Move}
+use Rattle.flow_core_rules.specs.declared.moves.Move.TheVariants as move
+use Rattle.flow_engine_history.specs.HistoryCalls.{limit_of}
+use Rattle.flow_engine_history.specs.HistoryView.{HistoryView, flow_of}
+use Rattle.flow_engine_answers.specs.declared.answers.OperatorAnswer.{OperatorAnswer}
 use Rattle.flow_laws.proofs.Basics.{same_some}
 use Rattle.flow_laws.proofs.OneList.{acts_of_layout}
 use Rattle.slpf_actuator.specs.ActLists.{IsNew, length_with}
 use Rattle.slpf_actuator.specs.ActuatorCalls.{Overflows}
 use Rattle.slpf_actuator.specs.ActuatorView.{ActuatorView, act_for}
 use Rattle.slpf_actuator.specs.declared.error.ActError.TheVariants as act_error
-use Rattle.flow_steps.specs.Appends.{HasPassedLimit}
-use Rattle.flow_steps.specs.Handled.{Handles, IsAtHand, IsCommand}
-use Rattle.flow_steps.specs.Steps.{FailsToAct, FindsLate, Replies, Steps}
-use Rattle.flow_steps.specs.Turns.{IsToBeTold, IsUntold, answer_for}
-use Rattle.flow_steps.specs.Unbroken.{IsJournalSure}
-use Rattle.flow_steps.specs.Worlds.{Cause, Notes, Phase, World, holds, opened, past, refused}
-use Rattle.flow_steps.proofs.Adding.{begins_now, moves_now, of_option, replies_now}
-use Rattle.flow_steps.proofs.Filters.{get_set}
-use Rattle.flow_steps.proofs.Handling.{steps_handle}
+use Rattle.flow_world_steps.specs.Appends.{HasPassedLimit}
+use Rattle.flow_world_steps.specs.Handled.{Handles, IsAtHand, IsCommand}
+use Rattle.flow_world_steps.specs.Steps.{FailsToAct, FindsLate, Replies, Steps}
+use Rattle.flow_world_steps.specs.Turns.{IsToBeTold, IsUntold, answer_for}
+use Rattle.flow_world_steps.specs.Unbroken.{IsJournalSure}
+use Rattle.flow_world_steps.specs.Worlds.{Cause, Notes, Phase, World, holds, opened, past, refused}
+use Rattle.flow_world_steps.proofs.Adding.{begins_now, moves_now, of_option, replies_now}
+use Rattle.flow_world_steps.proofs.Filters.{get_set}
+use Rattle.flow_world_steps.proofs.Handling.{steps_handle}
 use Rattle.flow_engine.specs.EngineCalls.{IsReply}
 use Rattle.flow_engine.specs.EngineView.{EngineView}
 use Rattle.flow_world_parts.specs.Closes.{IsRefusal}
 use Rattle.flow_world.specs.Sessions.{Went}
 use Rattle.flow_world_parts.specs.declared.error.WorldError.TheVariants as error
-use Rattle.session_laws.specs.Ends.{PassesAt, TurnAt}
-use Rattle.session_laws.specs.Ends.PassesAt.{by_begin, by_move, by_upgrade, by_told, by_expire, by_reply, by_act}
-use Rattle.session_laws.proofs.Shown.{steps_in_turn}
+use Rattle.flow_world_laws.specs.Ends.{PassesAt, TurnAt}
+use Rattle.flow_world_laws.specs.Ends.PassesAt.{by_begin, by_move, by_upgrade, by_told, by_expire, by_reply, by_act}
+use Rattle.flow_world_laws.proofs.Shown.{steps_in_turn}
 use Rattle.cacao_cli_session.specs.Holding.{AreAnswers}
 use Rattle.cacao_cli_session_laws.specs.Returning.{ComesInTurn, CouldAppend, DuePasses, IsIdleNow, IsLateSo, IsOfEnabledMove, IsTakenLast, IsToldNext, NextActPasses, NextPasses, ReadsSo, WouldPassSo}
 use Rattle.cacao_cli_ends.specs.Work.{Start}

@@ -5,24 +5,24 @@ use Rattle.cacao_site.specs.View.{SiteView}
 use Rattle.cacao_site.specs.declared.parcel.Parcel.{Parcel}
 use Rattle.run_records.specs.declared.act.Act.{Act}
 use Rattle.flow_core.specs.declared.flow_errors.LimitKind.{LimitKind}
-use Rattle.flow_rules.specs.Givens.{Given}
-use Rattle.operator_answers.specs.declared.answers.OperatorAnswer.{OperatorAnswer}
+use Rattle.flow_core_rules.specs.Givens.{Given}
+use Rattle.flow_engine_answers.specs.declared.answers.OperatorAnswer.{OperatorAnswer}
 use Rattle.flow_laws.specs.Images.{IsAgent}
 use Rattle.flow_laws.proofs.OneList.{acts_of_layout}
 use Rattle.slpf_actuator.specs.ActuatorView.{ActuatorView, HoldsActs}
 use Rattle.slpf_actuator.specs.Damage.{IsDamaged}
 use Rattle.slpf_actuator.specs.declared.error.ActError.{ActError}
 use Rattle.slpf_actuator.specs.declared.error.ActError.TheVariants as act_error
-use Rattle.flow_steps.specs.Ready.{FilterStands, HoldsActsWithUnsure}
-use Rattle.flow_steps.specs.Steps.{DoesNothing, IsActCause, Steps, Unsures}
-use Rattle.flow_steps.specs.Unbroken.{AreFiltersSure, EndedByFilter}
-use Rattle.flow_steps.specs.Unsure.{UnsureByFilter}
-use Rattle.flow_steps.specs.Worlds.{Cause, Notes, Phase, World, disk_failed, holds, past, refused, wants_memory}
-use Rattle.flow_steps.proofs.Unsure.{steps_unsure_act}
+use Rattle.flow_world_steps.specs.Ready.{FilterStands, HoldsActsWithUnsure}
+use Rattle.flow_world_steps.specs.Steps.{DoesNothing, IsActCause, Steps, Unsures}
+use Rattle.flow_world_steps.specs.Unbroken.{AreFiltersSure, EndedByFilter}
+use Rattle.flow_world_steps.specs.Unsure.{UnsureByFilter}
+use Rattle.flow_world_steps.specs.Worlds.{Cause, Notes, Phase, World, disk_failed, holds, past, refused, wants_memory}
+use Rattle.flow_world_steps.proofs.Unsure.{steps_unsure_act}
 use Rattle.flow_world_parts.specs.Closes.{IsRefusal}
 use Rattle.flow_world.specs.Sessions.{Went}
 use Rattle.flow_world_parts.specs.declared.error.WorldError.TheVariants as error
-use Rattle.session_laws.proofs.WholeActs.{acts_undamaged}
+use Rattle.flow_world_laws.proofs.WholeActs.{acts_undamaged}
 use Rattle.cacao_cli_session_laws.proofs.ReturnedRuns.{HoldsFilter, ReadsImages, cause-past, same-cause, sound-there, there-at, told-there}
 
 -- a filter is full where a limit is the cause

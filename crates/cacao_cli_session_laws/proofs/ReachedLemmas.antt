@@ -7,33 +7,33 @@ use Rattle.run_records.specs.Ranges.{last_moment}
 use Rattle.run_records.specs.declared.record.Record.{Record}
 use Rattle.flow_core.specs.declared.flow_errors.LimitKind.{LimitKind}
 use Rattle.flow_core.specs.declared.flow_errors.LimitKind.TheVariants as limit
-use Rattle.flow_rules.specs.Changes.{outcome}
-use Rattle.flow_rules.specs.Givens.{Given}
-use Rattle.flow_rules.specs.State.{Shown}
-use Rattle.operator_answers.specs.declared.answers.OperatorAnswer.{OperatorAnswer}
-use Rattle.engine_history.specs.HistoryView.{HistoryView}
-use Rattle.engine_history.specs.Histories.{IsSoFar}
+use Rattle.flow_core_rules.specs.Changes.{outcome}
+use Rattle.flow_core_rules.specs.Givens.{Given}
+use Rattle.flow_core_rules.specs.State.{Shown}
+use Rattle.flow_engine_answers.specs.declared.answers.OperatorAnswer.{OperatorAnswer}
+use Rattle.flow_engine_history.specs.HistoryView.{HistoryView}
+use Rattle.flow_engine_history.specs.Histories.{IsSoFar}
 use Rattle.flow_engine.specs.EngineView.{EngineView}
 use Rattle.slpf_actuator.specs.ActuatorView.{ActuatorView}
 use Rattle.slpf_actuator.specs.declared.error.ActError.{ActError}
 use Rattle.slpf_actuator.specs.declared.error.ActError.TheVariants as act_error
-use Rattle.flow_steps.specs.Appends.{HasPassedLimit, Tries}
-use Rattle.flow_steps.specs.Appends.Tries.{done, failed, limited}
-use Rattle.flow_steps.specs.Steps.{AsksClock, FailsToAct, FindsLate, GoesTowards, OpensClock, Step, Steps}
-use Rattle.flow_steps.specs.Steps.Step.{opens_clock, finds_run_used, asks_clock, finds_late, begins, moves, upgrades, tells, expires, says, fails_to_say, puts_first, resends, takes, finds_none, fails_to_take, drops, replies, ignores_reply, acts_on, repeats_reply, fails_to_act, wants_memory_now}
-use Rattle.flow_steps.specs.Steps.Steps.{nothing, and_then}
-use Rattle.flow_steps.specs.Worlds.{Cause, IsGoing, Notes, Phase, World, disk_failed, holds, looked, not_said, opened, owes, past, refused, rests, run_used, waits, wants_memory}
-use Rattle.flow_steps.proofs.Adding.{fails_clock}
-use Rattle.flow_steps.proofs.Ended.{going_as, steps_end}
-use Rattle.flow_steps.proofs.Failing.{fails_notes}
-use Rattle.flow_steps.proofs.Timely.{goes_reached}
+use Rattle.flow_world_steps.specs.Appends.{HasPassedLimit, Tries}
+use Rattle.flow_world_steps.specs.Appends.Tries.{done, failed, limited}
+use Rattle.flow_world_steps.specs.Steps.{AsksClock, FailsToAct, FindsLate, GoesTowards, OpensClock, Step, Steps}
+use Rattle.flow_world_steps.specs.Steps.Step.{opens_clock, finds_run_used, asks_clock, finds_late, begins, moves, upgrades, tells, expires, says, fails_to_say, puts_first, resends, takes, finds_none, fails_to_take, drops, replies, ignores_reply, acts_on, repeats_reply, fails_to_act, wants_memory_now}
+use Rattle.flow_world_steps.specs.Steps.Steps.{nothing, and_then}
+use Rattle.flow_world_steps.specs.Worlds.{Cause, IsGoing, Notes, Phase, World, disk_failed, holds, looked, not_said, opened, owes, past, refused, rests, run_used, waits, wants_memory}
+use Rattle.flow_world_steps.proofs.Adding.{fails_clock}
+use Rattle.flow_world_steps.proofs.Ended.{going_as, steps_end}
+use Rattle.flow_world_steps.proofs.Failing.{fails_notes}
+use Rattle.flow_world_steps.proofs.Timely.{goes_reached}
 use Rattle.flow_world_parts.specs.Closes.{IsClose}
 use Rattle.flow_world_parts.specs.declared.close.Close.{Close}
 use Rattle.flow_world_parts.specs.declared.close.Close.TheVariants as close
 use Rattle.flow_world.specs.Sessions.{HasClosed}
-use Rattle.session_laws.specs.Ends.{IsInTurn, PassesAt, TurnAt}
-use Rattle.session_laws.specs.Ends.PassesAt.{by_begin, by_move, by_upgrade, by_told, by_expire, by_reply, by_act}
-use Rattle.session_laws.proofs.Shown.{steps_in_turn}
+use Rattle.flow_world_laws.specs.Ends.{IsInTurn, PassesAt, TurnAt}
+use Rattle.flow_world_laws.specs.Ends.PassesAt.{by_begin, by_move, by_upgrade, by_told, by_expire, by_reply, by_act}
+use Rattle.flow_world_laws.proofs.Shown.{steps_in_turn}
 use Rattle.cacao_cli_session_laws.proofs.SpentLemmas.{unlike, unlike-cause}
 
 -- ---- a session that goes on

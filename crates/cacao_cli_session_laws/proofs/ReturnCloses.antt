@@ -5,28 +5,28 @@ use Rattle.cacao_check.specs.Fits.{FitsKind}
 use Rattle.cacao_check.proofs.LawLemmas.{sound_gives}
 use Rattle.cacao_site.specs.View.{SiteView}
 use Rattle.flow_core.specs.Setups.{AreAccepted}
-use Rattle.flow_setup.proofs.SetupRunnable.{accepted_is_runnable}
-use Rattle.flow_rules.specs.Accepted.{Accepted}
-use Rattle.flow_rules.specs.Changes.{outcome}
-use Rattle.flow_rules.specs.Givens.{Given}
-use Rattle.flow_rules.specs.Moves.{enabled_move}
-use Rattle.flow_rules.specs.State.{Shown}
-use Rattle.engine_history.specs.Laws.{HoldsRun}
-use Rattle.operator_answers.specs.declared.answers.OperatorAnswer.{OperatorAnswer}
+use Rattle.flow_core_setup.proofs.SetupRunnable.{accepted_is_runnable}
+use Rattle.flow_core_rules.specs.Accepted.{Accepted}
+use Rattle.flow_core_rules.specs.Changes.{outcome}
+use Rattle.flow_core_rules.specs.Givens.{Given}
+use Rattle.flow_core_rules.specs.Moves.{enabled_move}
+use Rattle.flow_core_rules.specs.State.{Shown}
+use Rattle.flow_engine_history.specs.Laws.{HoldsRun}
+use Rattle.flow_engine_answers.specs.declared.answers.OperatorAnswer.{OperatorAnswer}
 use Rattle.flow_engine.specs.EngineView.{EngineView}
-use Rattle.flow_steps.specs.Causes.{AskedFirst, AskedLast, IsResendNear, IsShort, Shows}
-use Rattle.flow_steps.specs.Handled.{one_reply}
-use Rattle.flow_steps.specs.Sums.{total}
-use Rattle.flow_steps.specs.Unbroken.{IsJournalSure}
-use Rattle.flow_steps.specs.Worlds.{Notes, Phase, rests}
+use Rattle.flow_world_steps.specs.Causes.{AskedFirst, AskedLast, IsResendNear, IsShort, Shows}
+use Rattle.flow_world_steps.specs.Handled.{one_reply}
+use Rattle.flow_world_steps.specs.Sums.{total}
+use Rattle.flow_world_steps.specs.Unbroken.{IsJournalSure}
+use Rattle.flow_world_steps.specs.Worlds.{Notes, Phase, rests}
 use Rattle.flow_world.specs.Sessions.{HasClosed, Went}
 use Rattle.flow_world_parts.specs.declared.close.Close.{Close}
 use Rattle.flow_world_parts.specs.declared.close.Close.TheVariants as close
-use Rattle.session_laws.specs.Ends.{EndsInTurn, IsInTurn}
-use Rattle.session_laws.specs.Ends as ends_in
-use Rattle.session_laws.specs.Returned.{ReadsAsRun}
-use Rattle.session_laws.proofs.Closing.{steps_end_in_turn}
-use Rattle.session_laws.proofs.Returning.{reads_as_one_run}
+use Rattle.flow_world_laws.specs.Ends.{EndsInTurn, IsInTurn}
+use Rattle.flow_world_laws.specs.Ends as ends_in
+use Rattle.flow_world_laws.specs.Returned.{ReadsAsRun}
+use Rattle.flow_world_laws.proofs.Closing.{steps_end_in_turn}
+use Rattle.flow_world_laws.proofs.Returning.{reads_as_one_run}
 use Rattle.cacao_cli_ends.specs.Ends.{status_of}
 use Rattle.cacao_cli_session.specs.Holding.{AreAnswers, close_end}
 use Rattle.cacao_cli_session_laws.specs.Returning.{GainsRecords, IsRepliedLast, IsResend, KeepsWithin, CanGoOn, ReturnsSo, WaitsFirst, WaitsInTurn, WaitsSo}

@@ -4,18 +4,18 @@ use Rattle.cacao_check.specs.Fits.{FitsKind}
 use Rattle.cacao_site.specs.View.{SiteView}
 use Rattle.flow_core.specs.Setups.{AreAccepted}
 use Rattle.flow_core.specs.declared.flow_errors.LimitKind.TheVariants as limit
-use Rattle.flow_rules.specs.Accepted.{Accepted}
-use Rattle.flow_rules.specs.Changes.{outcome}
-use Rattle.flow_rules.specs.Givens.{Given}
-use Rattle.flow_rules.specs.State.{Shown}
-use Rattle.engine_history.specs.Laws.{HoldsRun}
-use Rattle.engine_history.specs.Openings.{RefusesImage}
-use Rattle.engine_history.specs.declared.error.EngineError.TheVariants as refusal
-use Rattle.engine_history.proofs.RefusalLaws.{no_run_where_refused}
-use Rattle.run_reports.proofs.AcceptLemmas.{accepted-one}
-use Rattle.session_laws.specs.Returned.{ReadsAsRun}
-use Rattle.session_laws.specs.Undamaged.{IsDamagedFor}
-use Rattle.session_laws.proofs.Returning.{reads_as_one_run}
+use Rattle.flow_core_rules.specs.Accepted.{Accepted}
+use Rattle.flow_core_rules.specs.Changes.{outcome}
+use Rattle.flow_core_rules.specs.Givens.{Given}
+use Rattle.flow_core_rules.specs.State.{Shown}
+use Rattle.flow_engine_history.specs.Laws.{HoldsRun}
+use Rattle.flow_engine_history.specs.Openings.{RefusesImage}
+use Rattle.flow_engine_history.specs.declared.error.EngineError.TheVariants as refusal
+use Rattle.flow_engine_history.proofs.RefusalLaws.{no_run_where_refused}
+use Rattle.flow_engine_reports.proofs.AcceptLemmas.{accepted-one}
+use Rattle.flow_world_laws.specs.Returned.{ReadsAsRun}
+use Rattle.flow_world_laws.specs.Undamaged.{IsDamagedFor}
+use Rattle.flow_world_laws.proofs.Returning.{reads_as_one_run}
 use Rattle.cacao_cli_ends.specs.Comes.{IsOneOf}
 use Rattle.cacao_cli_session_laws.specs.Returning.{BeginsAnother, FileTells, FindsUsed, GainsRecords, HasDamagedFilter, ReadsAsAnother, ReadsAsDamaged, ReadsSo, ReadsTooLarge, ReturnsSo, StatusTells, TurnTells, or_any}
 use Rattle.cacao_cli_ends.specs.Work.{Start}

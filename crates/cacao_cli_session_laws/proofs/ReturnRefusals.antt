@@ -9,22 +9,22 @@ use Rattle.flow_core.specs.Setups.{AreAccepted}
 use Rattle.flow_core.specs.Views.{blank_shown}
 use Rattle.flow_core.specs.declared.flow_errors.LimitKind.{LimitKind}
 use Rattle.flow_core.specs.declared.flow_errors.LimitKind.TheVariants as limit
-use Rattle.flow_rules.specs.Accepted.{Accepted}
-use Rattle.flow_rules.specs.Changes.{outcome}
-use Rattle.flow_rules.specs.Givens.{Given}
-use Rattle.flow_rules.specs.State.{Shown}
-use Rattle.engine_history.specs.HistoryView.{HoldsRecords}
-use Rattle.engine_history.specs.Histories.{IsSoFar}
-use Rattle.engine_history.specs.Laws.{HoldsRun}
-use Rattle.engine_history.specs.Openings.{IsRefusedOpening, RefusesAsEntries, RefusesImage}
-use Rattle.operator_answers.specs.declared.answers.OperatorAnswer.{OperatorAnswer}
-use Rattle.engine_history.specs.declared.error.EngineError.{EngineError}
-use Rattle.engine_history.specs.declared.error.EngineError.TheVariants as refusal
-use Rattle.engine_history.proofs.RefusalLaws.{no_run_where_refused, one_refusal}
+use Rattle.flow_core_rules.specs.Accepted.{Accepted}
+use Rattle.flow_core_rules.specs.Changes.{outcome}
+use Rattle.flow_core_rules.specs.Givens.{Given}
+use Rattle.flow_core_rules.specs.State.{Shown}
+use Rattle.flow_engine_history.specs.HistoryView.{HoldsRecords}
+use Rattle.flow_engine_history.specs.Histories.{IsSoFar}
+use Rattle.flow_engine_history.specs.Laws.{HoldsRun}
+use Rattle.flow_engine_history.specs.Openings.{IsRefusedOpening, RefusesAsEntries, RefusesImage}
+use Rattle.flow_engine_answers.specs.declared.answers.OperatorAnswer.{OperatorAnswer}
+use Rattle.flow_engine_history.specs.declared.error.EngineError.{EngineError}
+use Rattle.flow_engine_history.specs.declared.error.EngineError.TheVariants as refusal
+use Rattle.flow_engine_history.proofs.RefusalLaws.{no_run_where_refused, one_refusal}
 use Rattle.flow_laws.specs.Images.{IsRecords}
 use Rattle.flow_laws.proofs.OneList.{stands_empty}
-use Rattle.flow_steps.specs.Unbroken.{IsJournalSure}
-use Rattle.flow_steps.specs.Worlds.{Cause, disk_failed, not_said, past, run_used, wants_memory}
+use Rattle.flow_world_steps.specs.Unbroken.{IsJournalSure}
+use Rattle.flow_world_steps.specs.Worlds.{Cause, disk_failed, not_said, past, run_used, wants_memory}
 use Rattle.flow_world_parts.specs.Closes.{IsRefusal, refusal_of}
 use Rattle.flow_world_parts.specs.Errors.{opening_refusal}
 use Rattle.flow_world_parts.specs.Openings.{IsFileCause, RefusesJournal, RefusesSecond}

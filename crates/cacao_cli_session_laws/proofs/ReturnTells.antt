@@ -6,8 +6,8 @@ use Rattle.cacao_check.specs.Fits.{FitsKind}
 use Rattle.cacao_site.specs.DiskCalls.{IsDurable}
 use Rattle.cacao_site.specs.View.{SiteView}
 use Rattle.flow_core.specs.Setups.{AreAccepted}
-use Rattle.flow_rules.specs.Accepted.{Accepted}
-use Rattle.flow_rules.specs.Givens.{Given}
+use Rattle.flow_core_rules.specs.Accepted.{Accepted}
+use Rattle.flow_core_rules.specs.Givens.{Given}
 use Rattle.flow_laws.specs.Images.{IsRecords}
 use Rattle.cacao_cli_ends.specs.Comes.{IsOneOf, file_faults}
 use Rattle.cacao_cli_ends.specs.Files.{File}

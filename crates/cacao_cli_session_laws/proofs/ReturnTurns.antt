@@ -5,25 +5,25 @@ use Rattle.cacao_site.specs.View.{SiteView}
 use Rattle.run_records.specs.Ranges.{last_moment}
 use Rattle.flow_core.specs.SetupLaws.{AcceptedIsRunnable}
 use Rattle.flow_core.specs.declared.flow_errors.LimitKind.TheVariants as limit
-use Rattle.flow_rules.specs.Changes.{is_in_time, outcome}
-use Rattle.flow_rules.specs.Givens.{Given}
-use Rattle.flow_rules.specs.Moves.{due, enabled_move, first_move}
-use Rattle.flow_rules.specs.State.{Shown}
-use Rattle.operator_answers.specs.declared.answers.OperatorAnswer.{OperatorAnswer}
+use Rattle.flow_core_rules.specs.Changes.{is_in_time, outcome}
+use Rattle.flow_core_rules.specs.Givens.{Given}
+use Rattle.flow_core_rules.specs.Moves.{due, enabled_move, first_move}
+use Rattle.flow_core_rules.specs.State.{Shown}
+use Rattle.flow_engine_answers.specs.declared.answers.OperatorAnswer.{OperatorAnswer}
 use Rattle.flow_engine.specs.EngineView.{EngineView}
 use Rattle.flow_laws.proofs.OneList.{same_records}
-use Rattle.flow_steps.specs.Causes.{AskedFirst, AskedLast, IsResendNear, IsShort, Shows}
-use Rattle.flow_steps.specs.Steps.{GoesTowards, after_reach}
-use Rattle.flow_steps.specs.Turns.{most_ignored}
-use Rattle.flow_steps.specs.Unbroken.{AreFiltersSure, IsJournalSure}
-use Rattle.flow_steps.specs.Worlds.{IsGoing, Notes, Phase, World, looked, opened, past, refused, rests, waits}
-use Rattle.flow_steps.proofs.Timely.{in_time_bounds, opened_in_time, steps_in_time}
+use Rattle.flow_world_steps.specs.Causes.{AskedFirst, AskedLast, IsResendNear, IsShort, Shows}
+use Rattle.flow_world_steps.specs.Steps.{GoesTowards, after_reach}
+use Rattle.flow_world_steps.specs.Turns.{most_ignored}
+use Rattle.flow_world_steps.specs.Unbroken.{AreFiltersSure, IsJournalSure}
+use Rattle.flow_world_steps.specs.Worlds.{IsGoing, Notes, Phase, World, looked, opened, past, refused, rests, waits}
+use Rattle.flow_world_steps.proofs.Timely.{in_time_bounds, opened_in_time, steps_in_time}
 use Rattle.flow_world_parts.specs.Closes.{IsClose}
 use Rattle.flow_world.specs.Sessions.{Went}
 use Rattle.flow_world_parts.specs.declared.close.Close.TheVariants as close
-use Rattle.session_laws.specs.Ends.{IsInTurn}
-use Rattle.session_laws.specs.Returned.{ReadsAsRun}
-use Rattle.session_laws.proofs.Returning.{reads_as_one_run}
+use Rattle.flow_world_laws.specs.Ends.{IsInTurn}
+use Rattle.flow_world_laws.specs.Returned.{ReadsAsRun}
+use Rattle.flow_world_laws.proofs.Returning.{reads_as_one_run}
 use Rattle.cacao_cli_session_laws.specs.Returning.{AsksSo, CanGoOn, FloodsSo, PassesIdle, PassesInHand, ReadsSo, TurnTells}
 use Rattle.cacao_cli_ends.specs.Work.{Start}
 use Rattle.cacao_cli_session_laws.proofs.FloodLemmas.{flooded-exactly, hand-empty, same-not}

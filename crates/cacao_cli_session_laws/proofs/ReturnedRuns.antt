@@ -14,16 +14,16 @@ use Rattle.run_records.specs.declared.act.Act.{Act}
 use Rattle.run_records.specs.declared.record.Record.{Record}
 use Rattle.run_records.specs.declared.record.Record.TheVariants as entry
 use Rattle.flow_core.specs.declared.flow_errors.LimitKind.{LimitKind}
-use Rattle.flow_rules.specs.Givens.{Given}
-use Rattle.flow_rules.specs.Runs.{begin_of}
-use Rattle.flow_rules.specs.State.{Shown}
-use Rattle.flow_rules.proofs.RunLemmas.{list_heads}
-use Rattle.engine_history.specs.HistoryView.{HoldsRecords}
-use Rattle.engine_history.specs.Histories.{IsShownAfter, IsSoFar}
-use Rattle.engine_history.specs.Laws.{HoldsRun}
-use Rattle.engine_history.specs.Openings.{BeginsWith, RefusesAsEntries}
-use Rattle.operator_answers.specs.declared.answers.OperatorAnswer.{OperatorAnswer}
-use Rattle.engine_history.specs.declared.error.EngineError.TheVariants as refusal
+use Rattle.flow_core_rules.specs.Givens.{Given}
+use Rattle.flow_core_rules.specs.Runs.{begin_of}
+use Rattle.flow_core_rules.specs.State.{Shown}
+use Rattle.flow_core_rules.proofs.RunLemmas.{list_heads}
+use Rattle.flow_engine_history.specs.HistoryView.{HoldsRecords}
+use Rattle.flow_engine_history.specs.Histories.{IsShownAfter, IsSoFar}
+use Rattle.flow_engine_history.specs.Laws.{HoldsRun}
+use Rattle.flow_engine_history.specs.Openings.{BeginsWith, RefusesAsEntries}
+use Rattle.flow_engine_answers.specs.declared.answers.OperatorAnswer.{OperatorAnswer}
+use Rattle.flow_engine_history.specs.declared.error.EngineError.TheVariants as refusal
 use Rattle.flow_engine.specs.EngineView.{EngineView}
 use Rattle.flow_laws.specs.Images.{IsActs, IsAgent, IsRecords}
 use Rattle.flow_laws.proofs.OneList.{acts_of_layout, records_of_layout, same_acts, same_records}
@@ -32,25 +32,24 @@ use Rattle.slpf_actuator.specs.ActuatorView.{ActuatorView, HoldsActs}
 use Rattle.slpf_actuator.specs.Damage.{IsDamaged}
 use Rattle.slpf_actuator.specs.declared.error.ActError.{ActError}
 use Rattle.slpf_actuator.specs.declared.error.ActError.TheVariants as act_error
-use Rattle.flow_steps.specs.Causes.{IsFirstWithRun, Shows}
-use Rattle.flow_steps.specs.Sides.{IsFilter}
-use Rattle.flow_steps.specs.Steps.{HasRun, IsActCause}
-use Rattle.flow_steps.specs.Unbroken.{AreFiltersSure, EndedByFilter, IsJournalSure}
-use Rattle.flow_steps.specs.Unsure.{UnsureByStep}
-use Rattle.flow_steps.specs.Worlds.{Cause, Phase, World, disk_failed, holds, not_said, past, refused, run_used, wants_memory}
+use Rattle.flow_world_steps.specs.Causes.{IsFirstWithRun, Shows}
+use Rattle.flow_world_steps.specs.Sides.{IsFilter}
+use Rattle.flow_world_steps.specs.Steps.{HasRun, IsActCause}
+use Rattle.flow_world_steps.specs.Unbroken.{AreFiltersSure, EndedByFilter, IsJournalSure}
+use Rattle.flow_world_steps.specs.Unsure.{UnsureByStep}
+use Rattle.flow_world_steps.specs.Worlds.{Cause, Phase, World, disk_failed, holds, not_said, past, refused, run_used, wants_memory}
 use Rattle.flow_world_parts.specs.Closes.{IsClose, IsRefusal, refusal_of}
-use Rattle.flow_world_parts.specs.Openings.{RefusesOpening}
 use Rattle.flow_world.specs.Sessions.{Went}
 use Rattle.flow_world_parts.specs.declared.close.Close.{Close}
 use Rattle.flow_world_parts.specs.declared.close.Close.TheVariants as close
 use Rattle.flow_world_parts.specs.declared.error.WorldError.{WorldError}
 use Rattle.flow_world_parts.specs.declared.error.WorldError.TheVariants as error
 use Rattle.flow_world.proofs.CloseLemmas.{closes_are_no_refusals}
-use Rattle.session_laws.specs.Ends.{TurnAt}
-use Rattle.session_laws.specs.Returned.{ReadsAsRun}
-use Rattle.session_laws.proofs.Carried.{steps_keep_disk_on}
-use Rattle.session_laws.proofs.Shown.{steps_in_turn}
-use Rattle.session_laws.proofs.WholeActs.{acts_undamaged}
+use Rattle.flow_world_laws.specs.Ends.{TurnAt}
+use Rattle.flow_world_laws.specs.Returned.{ReadsAsRun}
+use Rattle.flow_world_laws.proofs.Carried.{steps_keep_disk_on}
+use Rattle.flow_world_laws.proofs.Shown.{steps_in_turn}
+use Rattle.flow_world_laws.proofs.WholeActs.{acts_undamaged}
 use Rattle.cacao_cli_ends.specs.Lines.{SaysAtMostALine}
 use Rattle.cacao_cli_session_laws.specs.Returning.{BeginsAnother, GainsRecords, KeepsWithin}
 use Rattle.cacao_cli_ends.specs.Work.{Start}
@@ -139,13 +138,6 @@ opened-none many old mid same g =
     let long : length (g.before ++ g.added) ≡ length g.before = ap (λ (l : List Record). length l) records in
     let as_many : length g.added ≡ many = g.as_many in
     omega (arith, long, as_many, length-append g.before g.added)
-
--- an opening that was refused left the engine's file as it read, unless the disk failed
-pub refused-reads : (why : WorldError) (given : Given) (run : ℕ) (old mid : SiteView) → RefusesOpening why given run old mid → why ≢ error.Disk → mid.disk.reads 0 ≡ old.disk.reads 0
-refused-reads why given run old mid (inl first) other = first.reads other
-refused-reads why given run old mid (inr second) other =
-    let last = second.refuses in
-    (last.refuses.opens.only.others 0 (λ e. omega (arith, e))).reads ∙ (last.before.others 0 (inl refl)).reads ∙ second.journal.reads
 
 module _ (given : Given) (run most : ℕ) (answers : List OperatorAnswer) (old mid : SiteView) (sound : ReadsImages mid) (told : IsTrue mid.disk.told) (went : Went given run most answers old mid) where
   pub sound-there : ReadsImages went.to.site

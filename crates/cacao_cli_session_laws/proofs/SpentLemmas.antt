@@ -3,17 +3,17 @@ use Rattle.std.proofs.Common.{◌≡◌, ◌⊎◌, inl, inr, ◌∙◌, refl, s
 use Rattle.run_records.specs.declared.record.Record.{Record}
 use Rattle.flow_core.specs.declared.flow_errors.LimitKind.{LimitKind}
 use Rattle.flow_engine.specs.EngineView.{EngineView}
-use Rattle.flow_steps.specs.Appends.{Tries}
-use Rattle.flow_steps.specs.Appends.Tries.{done, failed, limited}
-use Rattle.flow_steps.specs.Steps.{Step, Steps}
-use Rattle.flow_steps.specs.Steps.Step.{opens_clock, finds_run_used, asks_clock, finds_late, begins, moves, upgrades, tells, expires, says, fails_to_say, puts_first, resends, takes, finds_none, fails_to_take, drops, replies, ignores_reply, acts_on, repeats_reply, fails_to_act, wants_memory_now}
-use Rattle.flow_steps.specs.Steps.Steps.{nothing, and_then}
-use Rattle.flow_steps.specs.Worlds.{Cause, IsGoing, Notes, Phase, World, disk_failed, holds, looked, not_said, opened, owes, past, refused, rests, run_used, wants_memory}
-use Rattle.flow_steps.proofs.Asked.{step_not_opened}
-use Rattle.flow_steps.proofs.Ended.{going_as, steps_end}
-use Rattle.flow_steps.proofs.Failing.{fails_notes}
-use Rattle.session_laws.specs.Ends.{TurnAt}
-use Rattle.session_laws.proofs.Shown.{steps_in_turn}
+use Rattle.flow_world_steps.specs.Appends.{Tries}
+use Rattle.flow_world_steps.specs.Appends.Tries.{done, failed, limited}
+use Rattle.flow_world_steps.specs.Steps.{Step, Steps}
+use Rattle.flow_world_steps.specs.Steps.Step.{opens_clock, finds_run_used, asks_clock, finds_late, begins, moves, upgrades, tells, expires, says, fails_to_say, puts_first, resends, takes, finds_none, fails_to_take, drops, replies, ignores_reply, acts_on, repeats_reply, fails_to_act, wants_memory_now}
+use Rattle.flow_world_steps.specs.Steps.Steps.{nothing, and_then}
+use Rattle.flow_world_steps.specs.Worlds.{Cause, IsGoing, Notes, Phase, World, disk_failed, holds, looked, not_said, opened, owes, past, refused, rests, run_used, wants_memory}
+use Rattle.flow_world_steps.proofs.Asked.{step_not_opened}
+use Rattle.flow_world_steps.proofs.Ended.{going_as, steps_end}
+use Rattle.flow_world_steps.proofs.Failing.{fails_notes}
+use Rattle.flow_world_laws.specs.Ends.{TurnAt}
+use Rattle.flow_world_laws.proofs.Shown.{steps_in_turn}
 
 abbrev pub CouldMore : World → World → Type 0
 CouldMore a b = (1 ≤ b.notes.left) ⊎ (b.engine.history.records ≡ a.engine.history.records)

@@ -3,14 +3,14 @@ use Rattle.std.proofs.Common.{◌≡◌, ◌∙◌, refl, ap, subst, true}
 use Rattle.cacao_site.specs.Counts.{next_count}
 use Rattle.cacao_site.specs.View.{CountsView, SiteView}
 use Rattle.run_records.specs.declared.record.Record.{Record}
-use Rattle.flow_steps.specs.Appends.{Tries}
-use Rattle.flow_steps.specs.Appends.Tries.{done, failed, limited}
-use Rattle.flow_steps.specs.Steps.{Step, Steps}
-use Rattle.flow_steps.specs.Steps.Step.{opens_clock, finds_run_used, asks_clock, finds_late, begins, moves, upgrades, tells, expires, says, fails_to_say, puts_first, resends, takes, finds_none, fails_to_take, drops, replies, ignores_reply, acts_on, repeats_reply, fails_to_act, wants_memory_now}
-use Rattle.flow_steps.specs.Steps.Steps.{nothing, and_then}
-use Rattle.flow_steps.specs.Worlds.{IsGoing, World, not_said, refused}
-use Rattle.flow_steps.proofs.Adding.{fails_counts}
-use Rattle.flow_steps.proofs.Ended.{step_going}
+use Rattle.flow_world_steps.specs.Appends.{Tries}
+use Rattle.flow_world_steps.specs.Appends.Tries.{done, failed, limited}
+use Rattle.flow_world_steps.specs.Steps.{Step, Steps}
+use Rattle.flow_world_steps.specs.Steps.Step.{opens_clock, finds_run_used, asks_clock, finds_late, begins, moves, upgrades, tells, expires, says, fails_to_say, puts_first, resends, takes, finds_none, fails_to_take, drops, replies, ignores_reply, acts_on, repeats_reply, fails_to_act, wants_memory_now}
+use Rattle.flow_world_steps.specs.Steps.Steps.{nothing, and_then}
+use Rattle.flow_world_steps.specs.Worlds.{IsGoing, World, not_said, refused}
+use Rattle.flow_world_steps.proofs.Adding.{fails_counts}
+use Rattle.flow_world_steps.proofs.Ended.{step_going}
 
 -- the count stays, or one line could not be said, and the session refuses
 pub data Unsaid (old new : World) : Type 0 where

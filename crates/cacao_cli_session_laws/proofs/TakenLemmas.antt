@@ -4,20 +4,20 @@ use Rattle.std.specs.Prelude.{nat_lt}
 use Rattle.cacao_site.specs.View.{SiteView}
 use Rattle.cacao_site.specs.declared.parcel.Parcel.{Parcel}
 use Rattle.run_records.specs.declared.record.Record.{Record}
-use Rattle.engine_history.specs.HistoryView.{HistoryView}
+use Rattle.flow_engine_history.specs.HistoryView.{HistoryView}
 use Rattle.flow_engine.specs.EngineView.{EngineView}
 use Rattle.slpf_actuator.specs.ActuatorView.{ActuatorView}
-use Rattle.flow_steps.specs.Appends.{Tries}
-use Rattle.flow_steps.specs.Appends.Tries.{done, failed, limited}
-use Rattle.flow_steps.specs.Steps.{Drops, Ignores, IgnoresReply, RepeatsReply, Step, Steps}
-use Rattle.flow_steps.specs.Steps.Step.{opens_clock, finds_run_used, asks_clock, finds_late, begins, moves, upgrades, tells, expires, says, fails_to_say, puts_first, resends, takes, finds_none, fails_to_take, drops, replies, ignores_reply, acts_on, repeats_reply, fails_to_act, wants_memory_now}
-use Rattle.flow_steps.specs.Steps.Steps.{nothing, and_then}
-use Rattle.flow_steps.specs.Turns.{BeginsTurn, most_ignored}
-use Rattle.flow_steps.specs.Worlds.{Cause, IsGoing, Notes, Phase, World, holds, looked, opened, owes, refused, rests}
-use Rattle.flow_steps.proofs.Ended.{step_going}
-use Rattle.flow_steps.proofs.Failing.{fails_notes}
-use Rattle.session_laws.specs.Ends.{TurnAt}
-use Rattle.session_laws.proofs.Shown.{steps_in_turn}
+use Rattle.flow_world_steps.specs.Appends.{Tries}
+use Rattle.flow_world_steps.specs.Appends.Tries.{done, failed, limited}
+use Rattle.flow_world_steps.specs.Steps.{Drops, Ignores, IgnoresReply, RepeatsReply, Step, Steps}
+use Rattle.flow_world_steps.specs.Steps.Step.{opens_clock, finds_run_used, asks_clock, finds_late, begins, moves, upgrades, tells, expires, says, fails_to_say, puts_first, resends, takes, finds_none, fails_to_take, drops, replies, ignores_reply, acts_on, repeats_reply, fails_to_act, wants_memory_now}
+use Rattle.flow_world_steps.specs.Steps.Steps.{nothing, and_then}
+use Rattle.flow_world_steps.specs.Turns.{BeginsTurn, most_ignored}
+use Rattle.flow_world_steps.specs.Worlds.{Cause, IsGoing, Notes, Phase, World, holds, looked, opened, owes, refused, rests}
+use Rattle.flow_world_steps.proofs.Ended.{step_going}
+use Rattle.flow_world_steps.proofs.Failing.{fails_notes}
+use Rattle.flow_world_laws.specs.Ends.{TurnAt}
+use Rattle.flow_world_laws.proofs.Shown.{steps_in_turn}
 
 -- ---- one step
 

@@ -5,16 +5,16 @@ use Rattle.cacao_site.specs.declared.parcel.Parcel.{Parcel}
 use Rattle.run_records.specs.declared.act.Act.{Act}
 use Rattle.run_records.specs.declared.record.Record.{Record}
 use Rattle.slpf_actuator.specs.ActuatorView.{ActuatorView}
-use Rattle.flow_steps.specs.Appends.{Tries}
-use Rattle.flow_steps.specs.Appends.Tries.{done, failed, limited}
-use Rattle.flow_steps.specs.Steps.{HasRun, Step, Steps}
-use Rattle.flow_steps.specs.Steps.Step.{opens_clock, finds_run_used, asks_clock, finds_late, begins, moves, upgrades, tells, expires, says, fails_to_say, puts_first, resends, takes, finds_none, fails_to_take, drops, replies, ignores_reply, acts_on, repeats_reply, fails_to_act, wants_memory_now}
-use Rattle.flow_steps.specs.Steps.Steps.{nothing, and_then}
-use Rattle.flow_steps.specs.Worlds.{IsGoing, Phase, World, opened, rests, looked, owes, holds, waits, refused, run_used, wants_memory}
-use Rattle.flow_steps.proofs.Adding.{steps_add, steps_same_given}
-use Rattle.flow_steps.proofs.Ended.{step_going}
-use Rattle.session_laws.specs.Ends.{TurnAt}
-use Rattle.session_laws.proofs.Shown.{steps_in_turn}
+use Rattle.flow_world_steps.specs.Appends.{Tries}
+use Rattle.flow_world_steps.specs.Appends.Tries.{done, failed, limited}
+use Rattle.flow_world_steps.specs.Steps.{HasRun, Step, Steps}
+use Rattle.flow_world_steps.specs.Steps.Step.{opens_clock, finds_run_used, asks_clock, finds_late, begins, moves, upgrades, tells, expires, says, fails_to_say, puts_first, resends, takes, finds_none, fails_to_take, drops, replies, ignores_reply, acts_on, repeats_reply, fails_to_act, wants_memory_now}
+use Rattle.flow_world_steps.specs.Steps.Steps.{nothing, and_then}
+use Rattle.flow_world_steps.specs.Worlds.{IsGoing, Phase, World, opened, rests, looked, owes, holds, waits, refused, run_used, wants_memory}
+use Rattle.flow_world_steps.proofs.Adding.{steps_add, steps_same_given}
+use Rattle.flow_world_steps.proofs.Ended.{step_going}
+use Rattle.flow_world_laws.specs.Ends.{TurnAt}
+use Rattle.flow_world_laws.proofs.Shown.{steps_in_turn}
 
 abbrev pub NotUsed : World → Type 0
 NotUsed w = w.engine.history.records ≡ [] → (agent : ℕ) → 1 ≤ agent → agent ≤ 16 → HasRun w agent → ⊥

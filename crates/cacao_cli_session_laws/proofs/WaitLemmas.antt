@@ -3,20 +3,20 @@ use Rattle.std.proofs.Common.{◌≡◌, ◌≢◌, ◌⊎◌, inl, inr, ◌∙�
 use Rattle.std.specs.Prelude.{slice_get}
 use Rattle.cacao_site.specs.View.{SiteView}
 use Rattle.flow_core.specs.SetupLaws.{AcceptedIsRunnable}
-use Rattle.flow_rules.specs.Changes.{is_in_time, is_waiting}
-use Rattle.flow_rules.specs.Givens.{Given}
-use Rattle.flow_rules.specs.Moves.{due, enabled_move}
-use Rattle.flow_rules.specs.declared.issues.Issue.{Issue}
-use Rattle.operator_answers.specs.declared.answers.OperatorAnswer.{OperatorAnswer}
+use Rattle.flow_core_rules.specs.Changes.{is_in_time, is_waiting}
+use Rattle.flow_core_rules.specs.Givens.{Given}
+use Rattle.flow_core_rules.specs.Moves.{due, enabled_move}
+use Rattle.flow_core_rules.specs.declared.issues.Issue.{Issue}
+use Rattle.flow_engine_answers.specs.declared.answers.OperatorAnswer.{OperatorAnswer}
 use Rattle.flow_engine.specs.EngineView.{EngineView}
-use Rattle.flow_steps.specs.Causes.{AskedLast, IsResendNear}
-use Rattle.flow_steps.specs.Turns.{HasAnswer, IsUntold, answer_for}
-use Rattle.flow_steps.specs.Unbroken.{IsJournalSure}
-use Rattle.flow_steps.specs.Worlds.{IsGoing, Notes, Phase, World, looked, opened}
-use Rattle.flow_steps.proofs.DueLater.{sane_engine}
-use Rattle.flow_steps.proofs.Timely.{opened_in_time, steps_in_time}
+use Rattle.flow_world_steps.specs.Causes.{AskedLast, IsResendNear}
+use Rattle.flow_world_steps.specs.Turns.{HasAnswer, IsUntold, answer_for}
+use Rattle.flow_world_steps.specs.Unbroken.{IsJournalSure}
+use Rattle.flow_world_steps.specs.Worlds.{IsGoing, Notes, Phase, World, looked, opened}
+use Rattle.flow_world_steps.proofs.DueLater.{sane_engine}
+use Rattle.flow_world_steps.proofs.Timely.{opened_in_time, steps_in_time}
 use Rattle.flow_world.specs.Sessions.{Went}
-use Rattle.session_laws.specs.Ends.{IsInTurn}
+use Rattle.flow_world_laws.specs.Ends.{IsInTurn}
 use Rattle.cacao_cli_session_laws.proofs.IdleLemmas.{no-move-before}
 
 pub looked-going : (p : Phase) → p ≡ looked → IsGoing p

@@ -1,4 +1,4 @@
--- What comes of a start where all agrees: a run that nothing disturbs comes to its end, its budget or a question, unless a limit
+-- Promise: What comes of a start where all agrees: a run that nothing disturbs comes to its end, its budget or a question, unless a limit
 -- is passed, too many parcels change nothing, a named file can't be read, or memory is wanted; and where no parcel was lost, what
 -- was sent was answered.
 use Rattle.std.specs.Prelude.{◌≡◌, ◌≢◌, ◌⊎◌, ℕ, List, [], ◌∷◌, ◌++◌, Contains, Option, Some, None, ⊤}
@@ -11,13 +11,13 @@ use Rattle.run_records.specs.declared.act.Act.{Act}
 use Rattle.run_records.specs.declared.record.Record.{Record}
 use Rattle.run_records.specs.declared.record.Record.TheVariants as entry
 use Rattle.flow_core.specs.Setups.{AreAccepted}
-use Rattle.flow_rules.specs.Accepted.{Accepted}
-use Rattle.flow_rules.specs.Givens.{Given}
+use Rattle.flow_core_rules.specs.Accepted.{Accepted}
+use Rattle.flow_core_rules.specs.Givens.{Given}
 use Rattle.flow_laws.specs.Acts.{HasReply, ReadsAs}
 use Rattle.flow_laws.specs.Images.{IsActs, IsAgent, IsRecords}
-use Rattle.flow_steps.specs.Complete.{IsNoExpire}
+use Rattle.flow_world_steps.specs.Complete.{IsNoExpire}
 use Rattle.flow_world.specs.Sessions.{IsStart}
-use Rattle.session_laws.specs.Complete.{IsForThisRun, IsUndisturbed}
+use Rattle.flow_world_laws.specs.Complete.{IsForThisRun, IsUndisturbed}
 use Rattle.cacao_cli_ends.specs.Asked.{Asked, canonises, checks, runs, shows, lists_rules, decides, shadows, rehearses, audits}
 use Rattle.cacao_cli_ends.specs.FileCauses.{HasTexts, HasTrees}
 use Rattle.cacao_cli_ends.specs.Comes.{IfFilesTold, IsOneOf}

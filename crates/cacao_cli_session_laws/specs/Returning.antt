@@ -1,4 +1,4 @@
--- What the status of `run` and what the files read as, the clock and the parcels taken tell of each other on return.
+-- Promise: What the status of `run` and what the files read as, the clock and the parcels taken tell of each other on return.
 use Rattle.std.specs.Prelude.{◌≡◌, ◌≢◌, ◌⊎◌, ℕ, ◌+◌, ◌<◌, ◌≤◌, IsTrue, List, [], ◌∷◌, ◌++◌, length, All, Any, slice_get, Option}
 use Rattle.std.specs.Prelude.{Some, None, IfSome, IsSome, Bool, true, false, nat_lt, if◌then◌else◌, ⊤}
 use Rattle.std.specs.List.{AllByRecursion}
@@ -18,31 +18,31 @@ use Rattle.run_records.specs.declared.record.Record.TheVariants as entry
 use Rattle.flow_core.specs.Setups.{AreAccepted}
 use Rattle.flow_core.specs.Views.{passed, taken}
 use Rattle.flow_core.specs.declared.flow_errors.LimitKind.TheVariants as limit
-use Rattle.flow_rules.specs.Accepted.{Accepted}
-use Rattle.flow_rules.specs.Changes.{is_waiting, moment_of, outcome}
-use Rattle.flow_rules.specs.Edits.{Edit}
-use Rattle.flow_rules.specs.Givens.{Given}
-use Rattle.flow_rules.specs.Moves.{asks, due, enabled_move, record_of}
-use Rattle.flow_rules.specs.State.{Shown}
-use Rattle.flow_rules.specs.declared.issues.Issue.{Issue}
-use Rattle.flow_rules.specs.declared.moves.Move.{Move}
-use Rattle.engine_history.specs.HistoryView.{length_with}
-use Rattle.engine_history.specs.Openings.{RefusesAsEntries, RefusesImage}
-use Rattle.operator_answers.specs.declared.answers.OperatorAnswer.{OperatorAnswer}
-use Rattle.engine_history.specs.declared.error.EngineError.TheVariants as refused
+use Rattle.flow_core_rules.specs.Accepted.{Accepted}
+use Rattle.flow_core_rules.specs.Changes.{is_waiting, moment_of, outcome}
+use Rattle.flow_core_rules.specs.Edits.{Edit}
+use Rattle.flow_core_rules.specs.Givens.{Given}
+use Rattle.flow_core_rules.specs.Moves.{asks, due, enabled_move, record_of}
+use Rattle.flow_core_rules.specs.State.{Shown}
+use Rattle.flow_core_rules.specs.declared.issues.Issue.{Issue}
+use Rattle.flow_core_rules.specs.declared.moves.Move.{Move}
+use Rattle.flow_engine_history.specs.HistoryView.{length_with}
+use Rattle.flow_engine_history.specs.Openings.{RefusesAsEntries, RefusesImage}
+use Rattle.flow_engine_answers.specs.declared.answers.OperatorAnswer.{OperatorAnswer}
+use Rattle.flow_engine_history.specs.declared.error.EngineError.TheVariants as refused
 use Rattle.flow_engine.specs.EngineCalls.{IsWaiting}
 use Rattle.flow_engine.specs.OpenIssues.{resend_after}
 use Rattle.flow_laws.specs.Images.{IsActs, IsAgent, IsRecords}
-use Rattle.flow_steps.specs.Grown.{acts_of}
-use Rattle.flow_steps.specs.Handled.{IsBack, IsCommand, one_reply}
-use Rattle.flow_steps.specs.Sums.{total}
-use Rattle.flow_steps.specs.Turns.{answer_for, most_ignored}
+use Rattle.flow_world_steps.specs.Grown.{acts_of}
+use Rattle.flow_world_steps.specs.Handled.{IsBack, IsCommand, one_reply}
+use Rattle.flow_world_steps.specs.Sums.{total}
+use Rattle.flow_world_steps.specs.Turns.{answer_for, most_ignored}
 use Rattle.slpf_actuator.specs.ActLists.{HasActed, IsNew}
 use Rattle.slpf_actuator.specs.ActLists as act_file
 use Rattle.slpf_actuator.specs.ActuatorView.{act_for}
 use Rattle.slpf_actuator.specs.Damage.{IsDamaged}
-use Rattle.session_laws.specs.Returned.{ReadsAsRun}
-use Rattle.session_laws.specs.Undamaged.{IsDamagedFor}
+use Rattle.flow_world_laws.specs.Returned.{ReadsAsRun}
+use Rattle.flow_world_laws.specs.Undamaged.{IsDamagedFor}
 use Rattle.cacao_cli_ends.specs.Asked.{Asked, canonises, checks, runs, shows, lists_rules, decides, shadows, rehearses, audits}
 use Rattle.cacao_cli_ends.specs.FileCauses.{HasTexts}
 use Rattle.cacao_cli_ends.specs.Comes.{IfFilesTold, IsOneOf, closed_statuses, reached_statuses}

@@ -5,15 +5,15 @@ use Rattle.serde_json.specs.Data.{Data}
 use Rattle.cacao_site.specs.Sound.{IsSound}
 use Rattle.cacao_site.specs.View.{LinkView, SiteView}
 use Rattle.oc2_nets.specs.declared.packets.Packet.{Packet}
-use Rattle.filter_reports.specs.PacketFiles.{packets_of}
+use Rattle.cacao_cli_filters.specs.PacketFiles.{packets_of}
 use Rattle.flow_laws.specs.Held.{plain}
 use Rattle.flow_laws.specs.Since.{AgreedSince}
 use Rattle.flow_laws.proofs.Calls.{since_quiet, since_start}
 use Rattle.flow_world.specs.Sessions.{IsStart, KeepsAgreement}
-use Rattle.slpf_acts.specs.Acts.{table_of}
+use Rattle.slpf_rules_acts.specs.Acts.{table_of}
 use Rattle.cacao_check.specs.declared.breaks.Mode.TheVariants.{Read as Reading}
-use Rattle.run_reports.specs.RunLines.{lines_of}
-use Rattle.cacao_words.specs.Words.{Text}
+use Rattle.flow_engine_reports.specs.RunLines.{lines_of}
+use Rattle.cacao_cli_words.specs.Words.{Text}
 use Rattle.cacao_cli_status_laws.specs.Agreement.{Agrees, MayBegin}
 use Rattle.cacao_cli_ends.specs.Asked.{Asked, canonises, checks, runs, shows, lists_rules, decides, shadows, rehearses, audits}
 use Rattle.cacao_cli_status_laws.specs.Ended.{Performed, Performs}

@@ -3,7 +3,7 @@ use Rattle.std.proofs.Common.{◌≡◌, ◌⊎◌, inl, inr, refl, subst, ℕ, 
 use Rattle.std.specs.Prelude.{IsTrue}
 use Rattle.cacao_site.specs.Sound.{IsSound}
 use Rattle.cacao_site.specs.View.{SiteView}
-use Rattle.cacao_words.specs.Requests.{RunRequest}
+use Rattle.cacao_cli_words.specs.Requests.{RunRequest}
 use Rattle.cacao_cli_ends.specs.Asked.{runs}
 use Rattle.cacao_cli_status_laws.specs.Ended.{Performs}
 use Rattle.cacao_cli_ends.specs.Ends.{End, status_of}

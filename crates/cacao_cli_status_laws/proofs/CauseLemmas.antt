@@ -4,7 +4,7 @@ use Rattle.std.specs.Prelude.{IsSomeAnd, if◌then◌else◌}
 use Rattle.serde_json.specs.Data.{Data}
 use Rattle.cacao_json.specs.Reading.{tree}
 use Rattle.cacao_site.specs.View.{SiteView}
-use Rattle.cacao_words.specs.Words.{Text}
+use Rattle.cacao_cli_words.specs.Words.{Text}
 use Rattle.cacao_cli_ends.specs.Ends.{End, most, no_such_file, past, not_readable}
 use Rattle.cacao_cli_ends.specs.Files.{File, Files, NamedText, whole, too_long, named, text_in, item_then, content_in, reading}
 use Rattle.cacao_cli_ends.specs.Work.{Work, ends, or_end, trees_of}

@@ -5,17 +5,17 @@ use Rattle.cacao_check.specs.Fits.{FitsKind}
 use Rattle.cacao_site.specs.Counts.{DidNotRise, Rose}
 use Rattle.cacao_site.specs.Sound.{IsSound}
 use Rattle.cacao_site.specs.View.{SiteView}
-use Rattle.run_reports.proofs.AcceptLemmas.{accepted-one}
+use Rattle.flow_engine_reports.proofs.AcceptLemmas.{accepted-one}
 use Rattle.flow_core.specs.Setups.{AreAccepted}
-use Rattle.flow_rules.specs.Accepted.{Accepted}
-use Rattle.flow_rules.specs.Givens.{Given}
+use Rattle.flow_core_rules.specs.Accepted.{Accepted}
+use Rattle.flow_core_rules.specs.Givens.{Given}
 use Rattle.flow_world.specs.Sessions.{HasClosed, HasRefused, IsStart, KeepsAgreement}
 use Rattle.flow_world_parts.specs.declared.close.Close.{Close}
 use Rattle.flow_world_parts.specs.declared.close.Close.TheVariants as close
 use Rattle.flow_world_parts.specs.declared.error.WorldError.{WorldError}
-use Rattle.session_laws.specs.Complete.{EndsSo, IsForThisRun, IsUndisturbed, NoneFindsAnother, StopsSo, UndisturbedCompletes}
-use Rattle.session_laws.specs.Undamaged.{ComesOfTexts}
-use Rattle.cacao_words.specs.Requests.{RunRequest}
+use Rattle.flow_world_laws.specs.Complete.{EndsSo, IsForThisRun, IsUndisturbed, NoneFindsAnother, StopsSo, UndisturbedCompletes}
+use Rattle.flow_world_laws.specs.Undamaged.{ComesOfTexts}
+use Rattle.cacao_cli_words.specs.Requests.{RunRequest}
 use Rattle.cacao_cli_ends.specs.Asked.{Asked, canonises, checks, runs, shows, lists_rules, decides, shadows, rehearses, audits}
 use Rattle.cacao_cli_ends.specs.FileCauses.{HasTexts, HasTrees, LacksTree}
 use Rattle.cacao_cli_session_laws.specs.Completing.{AddsNoExpire, Completes, CompletesSo, EachSendIsDone, FileHasNoRecord, HasOwnFile}

@@ -7,8 +7,8 @@ use Rattle.cacao_site.specs.Counts.{Rose, next_count}
 use Rattle.cacao_site.specs.View.{SiteView}
 use Rattle.cacao_check.specs.declared.breaks.Mode.TheVariants.{Read as Reading}
 use Rattle.oc2_nets.specs.declared.packets.Packet.{Packet}
-use Rattle.filter_reports.specs.PacketFiles.{packets_of}
-use Rattle.cacao_words.specs.Words.{Text}
+use Rattle.cacao_cli_filters.specs.PacketFiles.{packets_of}
+use Rattle.cacao_cli_words.specs.Words.{Text}
 use Rattle.cacao_cli_ends.specs.Asked.{Asked, canonises, checks, shows, lists_rules, decides, shadows, rehearses, audits, runs}
 use Rattle.cacao_cli_ends.specs.Ends.{End, status_of, text_of, is_fault, done, accepted, refused, past, shelf_failed, no_such_file, unsaid, no_memory}
 use Rattle.cacao_cli_ends.specs.Files.{File, Files, Content, ShelfCall, NamedText, Reads, all_read, wants_memory, stops, goes_on, text_in, item_then, named, whole, missing, too_long, failed, no_room, faults_behind, files_of, named_by, has_too_many}

@@ -4,8 +4,8 @@ use Rattle.std.specs.Prelude.{IsSomeAnd}
 use Rattle.cacao_site.specs.View.{SiteView}
 use Rattle.oc2_nets.specs.declared.packets.Packet.{Packet}
 use Rattle.slpf_actuator.proofs.Damages.{no_acts_where_damaged}
-use Rattle.filter_reports.specs.PacketFiles.{packets_of}
-use Rattle.cacao_words.specs.Words.{Text}
+use Rattle.cacao_cli_filters.specs.PacketFiles.{packets_of}
+use Rattle.cacao_cli_words.specs.Words.{Text}
 use Rattle.cacao_cli_ends.specs.Ends.{no_such_file, past, not_readable}
 use Rattle.cacao_cli_ends.specs.Files.{File, Files, NamedText, packet_file, reading}
 use Rattle.cacao_cli_ends.specs.Work.{Work, ends, opens_filter, at_decisions, or_end, packets_in, packets_or_end}

@@ -4,25 +4,25 @@ use Rattle.std.specs.Prelude.{nat_eq}
 use Rattle.std.specs.List.{list_any}
 use Rattle.std.proofs.lemmas.Bool.{true≢false}
 use Rattle.cacao_site.specs.Counts.{Rose, next_count}
-use Rattle.memory_site.specs.MemorySite.{view_of}
+use Rattle.cacao_site_memory.specs.MemorySite.{view_of}
 use Rattle.cacao_site.specs.View.{SiteView}
-use Rattle.memory_site.specs.declared.site.MemorySite.{MemorySite}
-use Rattle.flow_setup.specs.declared.setup_errors.SetupError.TheVariants as setup_error
-use Rattle.flow_rules.specs.Givens.{Given}
+use Rattle.cacao_site_memory.specs.declared.site.MemorySite.{MemorySite}
+use Rattle.flow_core_setup.specs.declared.setup_errors.SetupError.TheVariants as setup_error
+use Rattle.flow_core_rules.specs.Givens.{Given}
 use Rattle.flow_world_parts.specs.declared.close.Close.{Close}
 use Rattle.flow_world_parts.specs.declared.close.Close.TheVariants as close
 use Rattle.flow_world_parts.specs.declared.error.WorldError.{WorldError}
 use Rattle.flow_world_parts.specs.declared.error.WorldError.TheVariants as refusal
-use Rattle.rehearsal.specs.Books.{rehearsal_text}
-use Rattle.rehearsal.specs.NewSites.{EndsByPlan, MayClose, MayComeOfNew, TellsOfBefore}
-use Rattle.rehearsal.specs.Plans.{GoesByPlan}
-use Rattle.rehearsal.specs.Rehearsals.{FailsToRehearse, Refuses, Rehearsed, is_well, most_records, run_number}
-use Rattle.rehearsal.specs.Settings.{IsAccepted, IsNewSite}
-use Rattle.rehearsal.specs.declared.error.RehearsalError.{RehearsalError}
-use Rattle.rehearsal.specs.declared.error.RehearsalError.TheVariants as rehearsal_error
-use Rattle.rehearsal.specs.declared.summary.Summary.{Summary}
-use Rattle.rehearsal.proofs.Lengths.{text_short}
-use Rattle.run_reports.proofs.AcceptLemmas.{not-accepted}
+use Rattle.cacao_cli_rehearsal.specs.Books.{rehearsal_text}
+use Rattle.cacao_cli_rehearsal.specs.NewSites.{EndsByPlan, MayClose, MayComeOfNew, TellsOfBefore}
+use Rattle.cacao_cli_rehearsal.specs.Plans.{GoesByPlan}
+use Rattle.cacao_cli_rehearsal.specs.Rehearsals.{FailsToRehearse, Refuses, Rehearsed, is_well, most_records, run_number}
+use Rattle.cacao_cli_rehearsal.specs.Settings.{IsAccepted, IsNewSite}
+use Rattle.cacao_cli_rehearsal.specs.declared.error.RehearsalError.{RehearsalError}
+use Rattle.cacao_cli_rehearsal.specs.declared.error.RehearsalError.TheVariants as rehearsal_error
+use Rattle.cacao_cli_rehearsal.specs.declared.summary.Summary.{Summary}
+use Rattle.cacao_cli_rehearsal.proofs.Lengths.{text_short}
+use Rattle.flow_engine_reports.proofs.AcceptLemmas.{not-accepted}
 use Rattle.cacao_cli_ends.specs.Ends.{End, accepted, agrees, asked_for, bind_refused, damaged, disagrees, disk_failed, done, ended_failed, ended_ok, flooded, no_memory, no_such_file, not_readable, not_understood, other_book, other_run, past, paused, refused, rehearsed, run_used, shelf_failed, status_of, text_of, unsaid, waiting}
 use Rattle.cacao_cli_status_laws.specs.Exact.{HasRehearsed, IsRehearsed}
 use Rattle.cacao_cli_ends.specs.Comes.{IsOneOf, run_rehearsal_statuses}

@@ -3,7 +3,7 @@ use Rattle.std.proofs.Common.{◌≡◌, ◌⊎◌, inl, inr, ◌∙◌, refl, a
 use Rattle.std.specs.Prelude.{IfSome, IsTrue}
 use Rattle.cacao_site.specs.Sound.{IsSound}
 use Rattle.cacao_site.specs.View.{SiteView}
-use Rattle.cacao_words.specs.Requests.{RunRequest}
+use Rattle.cacao_cli_words.specs.Requests.{RunRequest}
 use Rattle.cacao_cli_ends.specs.Asked.{Asked, canonises, checks, runs, shows, lists_rules, decides, shadows, rehearses, audits}
 use Rattle.cacao_cli_ends.specs.FileCauses.{HasTexts}
 use Rattle.cacao_cli_status_laws.specs.Ended.{Performed, Performs}

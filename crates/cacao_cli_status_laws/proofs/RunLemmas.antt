@@ -3,8 +3,8 @@ use Rattle.std.proofs.Common.{◌≡◌, ◌⊎◌, inl, inr, sym, subst, arith,
 use Rattle.std.specs.Prelude.{IsTrue}
 use Rattle.cacao_site.specs.Counts.{Rose, next_count}
 use Rattle.cacao_site.specs.View.{SiteView}
-use Rattle.run_reports.specs.RunFiles as run
-use Rattle.run_reports.specs.RunLines.{lines_of}
+use Rattle.flow_engine_reports.specs.RunFiles as run
+use Rattle.flow_engine_reports.specs.RunLines.{lines_of}
 use Rattle.cacao_cli_ends.specs.Ends.{End, text_of, damaged, disk_failed, done, no_memory, past}
 use Rattle.cacao_cli_status_laws.specs.Ended.{Performs}
 use Rattle.cacao_cli_ends.specs.Stays.{WritesNothing}

@@ -3,16 +3,16 @@ use Rattle.std.proofs.Common.{◌≡◌, ◌⊎◌, inl, inr, ◌∙◌, refl, s
 use Rattle.std.specs.Prelude.{if◌then◌else◌}
 use Rattle.serde_json.specs.Data.{Data}
 use Rattle.cacao_site.specs.View.{SiteView}
-use Rattle.flow_rules.specs.Givens.{Given}
-use Rattle.operator_answers.specs.declared.answers.OperatorAnswer.{OperatorAnswer}
-use Rattle.flow_steps.specs.Causes.{IsShort, Shows}
-use Rattle.flow_steps.specs.Worlds.{Phase}
+use Rattle.flow_core_rules.specs.Givens.{Given}
+use Rattle.flow_engine_answers.specs.declared.answers.OperatorAnswer.{OperatorAnswer}
+use Rattle.flow_world_steps.specs.Causes.{IsShort, Shows}
+use Rattle.flow_world_steps.specs.Worlds.{Phase}
 use Rattle.flow_world.specs.Sessions.{HasClosed}
 use Rattle.flow_world_parts.specs.declared.close.Close.{Close}
 use Rattle.flow_world_parts.specs.declared.close.Close.TheVariants as close
 use Rattle.flow_world_parts.specs.declared.error.WorldError.{WorldError}
 use Rattle.flow_world_parts.specs.declared.error.WorldError.TheVariants as error
-use Rattle.cacao_words.specs.Requests.{RunRequest}
+use Rattle.cacao_cli_words.specs.Requests.{RunRequest}
 use Rattle.cacao_cli_ends.specs.Asked.{Asked, canonises, checks, runs, shows, lists_rules, decides, shadows, rehearses, audits}
 use Rattle.cacao_cli_status_laws.specs.Ended.{Ended}
 use Rattle.cacao_cli_ends.specs.Ends.{End, status_of, past}

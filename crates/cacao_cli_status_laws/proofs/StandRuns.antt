@@ -21,7 +21,7 @@ use Rattle.cacao_cli_session.specs.Holding.{CameTo, ClosesSo, RefusesSo, close_e
 use Rattle.cacao_cli_ends.specs.Lines.{SaysAtMostALine}
 use Rattle.cacao_cli_ends.specs.declared.limit.Limit.{Limit}
 use Rattle.cacao_cli_ends.specs.declared.limit.Limit.TheVariants.{BookCount}
-use Rattle.cacao_words.specs.Requests.{RunRequest}
+use Rattle.cacao_cli_words.specs.Requests.{RunRequest}
 use Rattle.cacao_cli_status_laws.proofs.CauseLemmas.{missing-long}
 use Rattle.cacao_cli_ends.proofs.EndCases.{eight-is, session-end, session_only}
 use Rattle.cacao_cli_session_laws.proofs.HoldLemmas.{holds-failed}

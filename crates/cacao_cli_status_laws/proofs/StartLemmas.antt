@@ -8,7 +8,7 @@ use Rattle.flow_world.specs.Sessions.{IsStart, KeepsAgreement}
 use Rattle.cacao_cli_ends.specs.Ends.{End, status_of, text_of, unsaid}
 use Rattle.cacao_cli_status_laws.specs.Ended.{Performs}
 use Rattle.cacao_cli_status_laws.specs.Exact.{HasStatus}
-use Rattle.cacao_words.specs.Words.{Text}
+use Rattle.cacao_cli_words.specs.Words.{Text}
 use Rattle.cacao_cli_ends.specs.Lines.{SaysAtMostALine, Tells, TellsText}
 use Rattle.cacao_cli_ends.specs.Work.{Start, starts}
 use Rattle.cacao_cli_ends.proofs.EndCases.{eight-is, nine-or-not}

@@ -3,12 +3,12 @@ use Rattle.std.proofs.Common.{◌≡◌, ◌⊎◌, ◌∙◌, inl, inr, refl, s
 use Rattle.std.specs.Prelude.{IfSome, if◌then◌else◌, is_some, nat_eq}
 use Rattle.std.specs.List.{list_any}
 use Rattle.oc2_nets.specs.declared.packets.Packet.{Packet}
-use Rattle.filter_reports.specs.PacketFiles.{packets_of}
+use Rattle.cacao_cli_filters.specs.PacketFiles.{packets_of}
 use Rattle.std.proofs.lemmas.Bool.{true≢false}
 use Rattle.serde_json.specs.Data.{Data}
 use Rattle.cacao_check.specs.declared.breaks.Mode.TheVariants.{Read as Reading}
 use Rattle.cacao_site.specs.View.{SiteView}
-use Rattle.cacao_words.specs.Words.{Text}
+use Rattle.cacao_cli_words.specs.Words.{Text}
 use Rattle.cacao_cli_ends.specs.Asked.{Asked, canonises, checks, shows, lists_rules, decides, shadows, rehearses, audits, runs}
 use Rattle.cacao_cli_ends.specs.Ends.{End, done, accepted, no_such_file, past, asked_for, ended_failed, flooded, other_book, other_run, paused, run_used, waiting}
 use Rattle.cacao_cli_ends.specs.Files.{File, Files, NamedText, ShelfCall, files_of, packet_file, has_too_many, reading}
@@ -22,7 +22,7 @@ use Rattle.cacao_cli_ends.specs.declared.limit.Limit.TheVariants.{BookCount}
 use Rattle.cacao_cli_looks.proofs.BudgetLemmas.{HasBudget}
 use Rattle.cacao_cli_status_laws.proofs.CauseLemmas.{missing-long, ReadingCase, all_within, one_missing, one_long, reading_case, comes, comes-in}
 use Rattle.cacao_cli_ends.proofs.TreeCases.{TreesCase, all_trees, one_treeless, trees_case}
-use Rattle.cacao_words.specs.Requests.{RunRequest}
+use Rattle.cacao_cli_words.specs.Requests.{RunRequest}
 use Rattle.cacao_cli_status_laws.proofs.CountLemmas.{understood-ended, not_understood-ended}
 use Rattle.cacao_cli_status_laws.proofs.ExactLemmas.{Comes, status-seen, status-told, if-told, if-asked}
 use Rattle.cacao_cli_looks.proofs.RunLemmas.{damaged-run, done-run, large-run, run-damaged, run-done, run-large, shown-other}

@@ -7,7 +7,7 @@ use Rattle.serde_json.specs.Data.{Data}
 use Rattle.cacao_check.specs.FirstBreak.{IsAccepted}
 use Rattle.cacao_check.specs.declared.breaks.Mode.TheVariants.{Read as Reading}
 use Rattle.cacao_site.specs.View.{SiteView}
-use Rattle.cacao_words.specs.Words.{Text}
+use Rattle.cacao_cli_words.specs.Words.{Text}
 use Rattle.cacao_cli_ends.specs.Asked.{Asked, canonises, checks, decides, rehearses, audits}
 use Rattle.cacao_cli_ends.specs.Ends.{End, done, accepted, most, no_such_file, not_readable, past, rehearsed}
 use Rattle.cacao_cli_ends.specs.Files.{File, Files, NamedText, files_of, book_file, packet_file, has_too_many, reading}

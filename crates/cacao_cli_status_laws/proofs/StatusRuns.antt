@@ -4,7 +4,7 @@ use Rattle.std.specs.Prelude.{if◌then◌else◌}
 use Rattle.std.proofs.lemmas.Bool.{true≢false}
 use Rattle.serde_json.specs.Data.{Data}
 use Rattle.cacao_site.specs.View.{SiteView}
-use Rattle.cacao_words.specs.Words.{Text}
+use Rattle.cacao_cli_words.specs.Words.{Text}
 use Rattle.cacao_cli_ends.specs.Asked.{runs}
 use Rattle.cacao_cli_ends.specs.Ends.{End, no_such_file, not_readable, past}
 use Rattle.cacao_cli_ends.specs.Files.{File, Files, NamedText, files_of, book_file, has_too_many, reading, run_names}
@@ -18,7 +18,7 @@ use Rattle.cacao_cli_ends.proofs.TreeCases.{Roots, Treeless, TreesCase, all_tree
 use Rattle.cacao_cli_session.specs.Holding.{HasBadAnswer, IsAcceptedStart, IsRefusedStart}
 use Rattle.cacao_cli_ends.specs.declared.limit.Limit.{Limit}
 use Rattle.cacao_cli_ends.specs.declared.reason.Reason.{Reason}
-use Rattle.cacao_words.specs.Requests.{RunRequest}
+use Rattle.cacao_cli_words.specs.Requests.{RunRequest}
 use Rattle.cacao_cli_status_laws.proofs.ExactLemmas.{Comes}
 use Rattle.cacao_cli_status_laws.proofs.JudgedLemmas.{bad-start, lacks-tree, refused-start, roots-lack, start-bad, start-other, start-refused}
 use Rattle.cacao_cli_session_laws.proofs.JudgedLemmas.{came-accepted}
@@ -96,9 +96,6 @@ texts-all-within files wanted texts h = subst (λ (b : Bool). AllWithin files (R
     go (all_within xs t e) = texts-within files (map book_file (run_names wanted)) xs t
 
 module _ (wanted : RunRequest) (files : Files) (old new : SiteView) (n : ℕ) where
-  abbrev pub RunStatus : Work → Type 0
-  RunStatus w = Comes w old new n
-
   pub missing-texts : (texts : List NamedText) → HasTexts files wanted texts → IsMissing files (files_of (Some (runs wanted))) → ⊥
   missing-texts texts h m = first-missing files (files_of (Some (runs wanted))) m (texts-all-within files wanted texts h)
 

@@ -4,8 +4,8 @@ use Rattle.std.specs.Prelude.{nat_eq}
 use Rattle.std.specs.List.{list_any}
 use Rattle.oc2_nets.specs.declared.packets.Packet.{Packet}
 use Rattle.cacao_site.specs.View.{SiteView}
-use Rattle.filter_reports.specs.PacketFiles.{packets_of}
-use Rattle.cacao_words.specs.Words.{Text}
+use Rattle.cacao_cli_filters.specs.PacketFiles.{packets_of}
+use Rattle.cacao_cli_words.specs.Words.{Text}
 use Rattle.cacao_cli_ends.specs.Asked.{Asked, canonises, checks, runs, shows, lists_rules, decides, shadows, rehearses, audits}
 use Rattle.cacao_cli_status_laws.specs.Ended.{Ended, Performs}
 use Rattle.cacao_cli_ends.specs.Ends.{End}

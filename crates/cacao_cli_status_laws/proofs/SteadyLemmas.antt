@@ -2,10 +2,10 @@
 use Rattle.std.proofs.Common.{◌≡◌, ◌⊎◌, inl, inr, ◌∙◌, ap, subst, ℕ, List, Option}
 use Rattle.std.proofs.lemmas.Bool.{true≢false}
 use Rattle.cacao_site.specs.View.{SiteView}
-use Rattle.operator_answers.specs.declared.answers.OperatorAnswer.{OperatorAnswer}
-use Rattle.flow_rules.specs.Givens.{Given}
+use Rattle.flow_engine_answers.specs.declared.answers.OperatorAnswer.{OperatorAnswer}
+use Rattle.flow_core_rules.specs.Givens.{Given}
 use Rattle.flow_world.proofs.Steady.{closes_steady, refusals_steady}
-use Rattle.run_reports.specs.RunLines.{lines_of}
+use Rattle.flow_engine_reports.specs.RunLines.{lines_of}
 use Rattle.cacao_cli_ends.specs.Asked.{Asked}
 use Rattle.cacao_cli_status_laws.specs.Ended.{Ended, Performs}
 use Rattle.cacao_cli_ends.specs.Ends.{End, disk_failed, done, status_of, text_of}

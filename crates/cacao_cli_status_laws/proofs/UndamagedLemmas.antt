@@ -8,17 +8,17 @@ use Rattle.cacao_site.specs.DiskCalls.{IsLeft}
 use Rattle.cacao_site.specs.Sound.{IsSound}
 use Rattle.cacao_site.specs.View.{SiteView}
 use Rattle.oc2_nets.specs.declared.packets.Packet.{Packet}
-use Rattle.filter_reports.specs.PacketFiles.{packets_of}
-use Rattle.run_reports.specs.RunLines.{lines_of}
-use Rattle.flow_rules.specs.Givens.{Given}
-use Rattle.operator_answers.specs.declared.answers.OperatorAnswer.{OperatorAnswer}
+use Rattle.cacao_cli_filters.specs.PacketFiles.{packets_of}
+use Rattle.flow_engine_reports.specs.RunLines.{lines_of}
+use Rattle.flow_core_rules.specs.Givens.{Given}
+use Rattle.flow_engine_answers.specs.declared.answers.OperatorAnswer.{OperatorAnswer}
 use Rattle.flow_laws.specs.Good.{IsGood}
 use Rattle.flow_world.specs.Sessions.{HasRefused}
 use Rattle.flow_world_parts.specs.declared.close.Close.{Close}
 use Rattle.flow_world_parts.specs.declared.close.Close.TheVariants as close
 use Rattle.flow_world_parts.specs.declared.error.WorldError.{WorldError}
 use Rattle.flow_world_parts.specs.declared.error.WorldError.TheVariants as error
-use Rattle.session_laws.specs.Undamaged.{ComesOfTexts, GoodIsUndamaged, IsUndamaged, NoneFindsDamage}
+use Rattle.flow_world_laws.specs.Undamaged.{ComesOfTexts, GoodIsUndamaged, IsUndamaged, NoneFindsDamage}
 use Rattle.cacao_cli_ends.specs.Asked.{Asked, canonises, checks, runs, shows, lists_rules, decides, shadows, rehearses, audits}
 use Rattle.cacao_cli_status_laws.specs.Ended.{Ended, Performs}
 use Rattle.cacao_cli_ends.specs.Ends.{End, status_of, accepted, disk_failed, done, no_memory, past}

@@ -9,20 +9,20 @@ use Rattle.cacao_site.specs.View.{CountsView, DiskView, LinkView, SiteView, devi
 use Rattle.run_records.specs.Layout.{act_layout, layout}
 use Rattle.run_records.specs.declared.act.Act.{Act}
 use Rattle.run_records.specs.declared.record.Record.{Record}
-use Rattle.operator_answers.specs.declared.answers.OperatorAnswer.{OperatorAnswer}
-use Rattle.flow_rules.specs.Givens.{Given}
-use Rattle.flow_steps.specs.Sums.{total}
-use Rattle.flow_steps.specs.Steps.{Steps}
-use Rattle.flow_steps.specs.Worlds.{Notes, Phase, World, disk_failed, holds, refused}
-use Rattle.flow_steps.specs.Written.{act_bytes, record_bytes}
-use Rattle.flow_steps.proofs.Failing.{fails_notes}
-use Rattle.flow_steps.proofs.Unsure.{steps_unsure}
+use Rattle.flow_engine_answers.specs.declared.answers.OperatorAnswer.{OperatorAnswer}
+use Rattle.flow_core_rules.specs.Givens.{Given}
+use Rattle.flow_world_steps.specs.Sums.{total}
+use Rattle.flow_world_steps.specs.Steps.{Steps}
+use Rattle.flow_world_steps.specs.Worlds.{Notes, Phase, World, disk_failed, holds, refused}
+use Rattle.flow_world_steps.specs.Written.{act_bytes, record_bytes}
+use Rattle.flow_world_steps.proofs.Failing.{fails_notes}
+use Rattle.flow_world_steps.proofs.Unsure.{steps_unsure}
 use Rattle.cacao_site.specs.declared.parcel.Parcel.{Parcel}
 use Rattle.flow_world_parts.specs.Openings.{RefusesOpening, blocks_to}
 use Rattle.flow_world.specs.Sessions.{HasRefused, Went}
 use Rattle.flow_world_parts.specs.declared.error.WorldError.{WorldError}
-use Rattle.cacao_words.specs.Requests.{RunRequest}
-use Rattle.cacao_words.specs.Words.{Text}
+use Rattle.cacao_cli_words.specs.Requests.{RunRequest}
+use Rattle.cacao_cli_words.specs.Words.{Text}
 use Rattle.cacao_cli_ends.specs.Asked.{Asked, canonises, checks, runs, shows, lists_rules, decides, shadows, rehearses, audits}
 use Rattle.cacao_cli_status_laws.specs.Ended.{Ended, Performs}
 use Rattle.cacao_cli_ends.specs.Ends.{End, done, not_understood, past}

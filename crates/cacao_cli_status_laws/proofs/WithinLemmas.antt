@@ -7,18 +7,18 @@ use Rattle.cacao_site.specs.Counts.{DidNotRise, Rose}
 use Rattle.cacao_site.specs.Sound.{IsSound}
 use Rattle.cacao_site.specs.View.{SiteView}
 use Rattle.run_records.specs.declared.record.Record.{Record}
-use Rattle.flow_rules.specs.Givens.{Given}
-use Rattle.operator_answers.specs.declared.answers.OperatorAnswer.{OperatorAnswer}
+use Rattle.flow_core_rules.specs.Givens.{Given}
+use Rattle.flow_engine_answers.specs.declared.answers.OperatorAnswer.{OperatorAnswer}
 use Rattle.flow_laws.specs.Images.{IsRecords}
 use Rattle.flow_laws.proofs.OneList.{same_records}
-use Rattle.flow_steps.specs.Causes.{Shows}
-use Rattle.flow_steps.specs.Unbroken.{IsJournalSure}
-use Rattle.flow_steps.specs.Unsure.{UnsureByStep}
-use Rattle.flow_steps.specs.Worlds.{Phase}
+use Rattle.flow_world_steps.specs.Causes.{Shows}
+use Rattle.flow_world_steps.specs.Unbroken.{IsJournalSure}
+use Rattle.flow_world_steps.specs.Unsure.{UnsureByStep}
+use Rattle.flow_world_steps.specs.Worlds.{Phase}
 use Rattle.flow_world_parts.specs.Openings.{RefusesOpening}
 use Rattle.flow_world.specs.Sessions.{HasRefused, Went}
 use Rattle.flow_world_parts.specs.declared.error.WorldError.{WorldError}
-use Rattle.cacao_words.specs.Requests.{RunRequest}
+use Rattle.cacao_cli_words.specs.Requests.{RunRequest}
 use Rattle.cacao_cli_ends.specs.Asked.{runs}
 use Rattle.cacao_cli_status_laws.specs.Ended.{Performs}
 use Rattle.cacao_cli_ends.specs.Ends.{End, past}

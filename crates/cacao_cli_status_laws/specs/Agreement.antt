@@ -1,4 +1,4 @@
--- Where a call may begin, so that all agrees at each of its beats.
+-- Promise: Where a call may begin, so that all agrees at each of its beats.
 use Rattle.std.specs.Prelude.{IsTrue, Option, Some, None}
 use Rattle.cacao_site.specs.View.{SiteView}
 use Rattle.flow_laws.specs.Held.{plain}

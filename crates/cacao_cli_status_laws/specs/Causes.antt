@@ -1,4 +1,4 @@
--- The causes of the statuses, in words of their own.
+-- Promise: The causes of the statuses, in words of their own.
 use Rattle.std.specs.Prelude.{◌≡◌, ◌⊎◌, ℕ, List, [], ◌∷◌, true, false, Option, Some, None}
 use Rattle.serde_json.specs.Data.{Data}
 use Rattle.cacao_check.specs.FirstBreak.{IsAccepted}
@@ -9,7 +9,7 @@ use Rattle.cacao_cli_ends.specs.Asked.{Asked, canonises, checks, shows, lists_ru
 use Rattle.cacao_cli_looks.specs.Audited.{FilesAgree, Disagree, PassTasks}
 use Rattle.cacao_cli_ends.specs.Ends.{End, asked_for, damaged, ended_ok, other_book, other_run, past, rehearsed, run_used}
 use Rattle.cacao_cli_ends.specs.Ends.{waiting}
-use Rattle.cacao_words.specs.Requests.{RunRequest}
+use Rattle.cacao_cli_words.specs.Requests.{RunRequest}
 use Rattle.cacao_cli_status_laws.specs.Exact.{IsBroken}
 use Rattle.cacao_cli_session.specs.Holding.{CameTo, HasBadAnswer, IsRefusedStart}
 use Rattle.cacao_cli_ends.specs.declared.limit.Limit.{Limit}

@@ -1,4 +1,4 @@
--- How a call of the program goes: what it reads, what it does, the lines that it says, and its status.
+-- Promise: How a call of the program goes: what it reads, what it does, the lines that it says, and its status.
 use Rattle.std.specs.Prelude.{◌⊎◌, ℕ, List, Option, Result}
 use Rattle.cacao_check.specs.FirstBreak.{IsAccepted}
 use Rattle.cacao_site.specs.View.{SiteView}

@@ -1,4 +1,4 @@
--- Which status comes, where the outside tells what it holds.
+-- Promise: Which status comes, where the outside tells what it holds.
 use Rattle.std.specs.Prelude.{◌≡◌, ◌⊎◌, ℕ, List, Option}
 use Rattle.serde_json.specs.Data.{Data}
 use Rattle.cacao_check.specs.FirstBreak.{Demand, IsAccepted, Keeps}

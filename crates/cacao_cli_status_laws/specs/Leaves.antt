@@ -1,4 +1,4 @@
--- What each command leaves as it was, and what it counts.
+-- Promise: What each command leaves as it was, and what it counts.
 use Rattle.std.specs.Prelude.{◌≡◌, ◌⊎◌, ℕ, [], ◌∷◌, Option, Some, None}
 use Rattle.cacao_site.specs.Counts.{Rose}
 use Rattle.cacao_site.specs.View.{SiteView}
@@ -8,7 +8,7 @@ use Rattle.cacao_cli_ends.specs.Comes.{IsOneOf}
 use Rattle.cacao_cli_session.specs.Holding.{CameTo}
 use Rattle.cacao_cli_status_laws.specs.OwnSites.{CountsOwn}
 use Rattle.cacao_cli_ends.specs.Work.{Start}
-use Rattle.cacao_words.specs.Requests.{RunRequest}
+use Rattle.cacao_cli_words.specs.Requests.{RunRequest}
 use Rattle.cacao_cli_ends.specs.Stays.{SaysAtMostOnce, WritesNothing}
 
 -- what a `run` leaves that came to its session: what the session did, and one line said at most

@@ -1,10 +1,10 @@
--- The site of its own on which a rehearsal runs: which of its counts rose. And whose clock stands where a command waits, and
+-- Promise: The site of its own on which a rehearsal runs: which of its counts rose. And whose clock stands where a command waits, and
 -- where it does not.
 use Rattle.std.specs.Prelude.{ℕ, ◌<◌, ◌≤◌, Option, Some, None, ⊤}
 use Rattle.cacao_site.specs.Counts.{Rose}
-use Rattle.memory_site.specs.MemorySite.{view_of}
+use Rattle.cacao_site_memory.specs.MemorySite.{view_of}
 use Rattle.cacao_site.specs.View.{SiteView}
-use Rattle.rehearsal.specs.Plans.{IsWithinPlan}
+use Rattle.cacao_cli_rehearsal.specs.Plans.{IsWithinPlan}
 use Rattle.cacao_cli_ends.specs.Asked.{Asked, canonises, checks, runs, shows, lists_rules, decides, shadows, rehearses, audits}
 use Rattle.cacao_cli_ends.specs.Ends.{End}
 use Rattle.cacao_cli_status_laws.specs.Rehearsing.{RehearsalTo}

@@ -1,20 +1,20 @@
--- What is told of a rehearsal.
+-- Promise: What is told of a rehearsal.
 use Rattle.std.specs.Prelude.{◌≡◌, ◌⊎◌, ◌≤◌, ℕ, [], ◌∷◌, length, ⊤}
-use Rattle.memory_site.specs.MemorySite.{view_of}
+use Rattle.cacao_site_memory.specs.MemorySite.{view_of}
 use Rattle.cacao_site.specs.View.{SiteView}
-use Rattle.memory_site.specs.declared.site.MemorySite.{MemorySite}
+use Rattle.cacao_site_memory.specs.declared.site.MemorySite.{MemorySite}
 use Rattle.cacao_check.specs.declared.breaks.Break.{Break}
 use Rattle.flow_core.specs.SetupReading.{BreaksRule}
-use Rattle.flow_rules.specs.Givens.{Given}
+use Rattle.flow_core_rules.specs.Givens.{Given}
 use Rattle.flow_world_parts.specs.declared.close.Close.{Close}
 use Rattle.flow_world_parts.specs.declared.error.WorldError.{WorldError}
-use Rattle.rehearsal.specs.Books.{rehearsal_text}
-use Rattle.rehearsal.specs.Plans.{GoesByPlan}
-use Rattle.rehearsal.specs.Rehearsals.{ClosesOtherwise, FailsToCount, Refuses, RunsWell}
-use Rattle.rehearsal.specs.Settings.{IsAccepted, IsNewSite}
-use Rattle.rehearsal.specs.declared.error.RehearsalError.{RehearsalError}
-use Rattle.rehearsal.specs.declared.error.RehearsalError.TheVariants as rehearsal_error
-use Rattle.rehearsal.specs.declared.summary.Summary.{Summary}
+use Rattle.cacao_cli_rehearsal.specs.Books.{rehearsal_text}
+use Rattle.cacao_cli_rehearsal.specs.Plans.{GoesByPlan}
+use Rattle.cacao_cli_rehearsal.specs.Rehearsals.{ClosesOtherwise, FailsToCount, Refuses, RunsWell}
+use Rattle.cacao_cli_rehearsal.specs.Settings.{IsAccepted, IsNewSite}
+use Rattle.cacao_cli_rehearsal.specs.declared.error.RehearsalError.{RehearsalError}
+use Rattle.cacao_cli_rehearsal.specs.declared.error.RehearsalError.TheVariants as rehearsal_error
+use Rattle.cacao_cli_rehearsal.specs.declared.summary.Summary.{Summary}
 use Rattle.cacao_cli_ends.specs.Ends.{End, asked_for, damaged, disk_failed, no_memory, other_book, other_run, past, paused}
 use Rattle.cacao_cli_ends.specs.Ends.{refused, rehearsed, run_used, waiting}
 use Rattle.cacao_cli_session.specs.Holding.{close_end, error_end}

@@ -1,4 +1,4 @@
--- Which command may answer which status.
+-- Promise: Which command may answer which status.
 use Rattle.std.specs.Prelude.{ℕ, List, [], ◌∷◌, Option, Some, None}
 use Rattle.cacao_cli_ends.specs.Asked.{Asked, canonises, checks, runs, shows, lists_rules, decides, shadows, rehearses, audits}
 use Rattle.cacao_cli_ends.specs.Comes.{IsOneOf}

@@ -1,13 +1,13 @@
--- How many device calls a call of the program makes, and how many bytes it hands to the disk.
+-- Promise: How many device calls a call of the program makes, and how many bytes it hands to the disk.
 use Rattle.std.proofs.Common.{inl, inr}
 use Rattle.std.specs.Prelude.{ℕ, zero, suc, ◌+◌, ◌*◌, ◌/◌, ◌≤◌, ◌⊎◌, IsTrue, List, [], ◌∷◌, ◌++◌, length, map, Option, Some, None}
 use Rattle.std.specs.Prelude.{IfSome, option_map, option_to_list}
 use Rattle.cacao_site.specs.View.{DiskView, SiteView, device_calls}
 use Rattle.run_records.specs.Layout.{act_layout, layout}
 use Rattle.run_records.specs.declared.act.Act.{Act}
-use Rattle.operator_answers.specs.declared.answers.OperatorAnswer.{OperatorAnswer}
-use Rattle.flow_rules.specs.Givens.{Given}
-use Rattle.flow_steps.specs.Sums.{total}
+use Rattle.flow_engine_answers.specs.declared.answers.OperatorAnswer.{OperatorAnswer}
+use Rattle.flow_core_rules.specs.Givens.{Given}
+use Rattle.flow_world_steps.specs.Sums.{total}
 use Rattle.flow_world_parts.specs.Openings.{RefusesOpening}
 use Rattle.flow_world.specs.Sessions.{HasRefused, Went}
 use Rattle.flow_world_parts.specs.declared.error.WorldError.{WorldError}

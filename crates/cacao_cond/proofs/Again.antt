@@ -29,7 +29,7 @@ use Rattle.cacao_cond.specs.Trees.PrimeTree.{group, compared, among}
 use Rattle.cacao_cond.specs.Grammar.{IsSpaces, IsGap, SpellsOp, SpellsConstant, SpellsConstants, SpellsAny, SpellsAll, SpellsPrime, Spells, escaped}
 use Rattle.cacao_cond.specs.Reading.{◌>>=◌, skipped, begins, behind, behind_joint, reference_at, op_at, digit_run, behind_digits, is_digit, whole_at, quoted, constant_at, constants_at, opening_at, comparison_at, any_at, all_at, prime_at, condition_at, Gives}
 use Rattle.cacao_cond.proofs.NumberLemmas.{number_of-decimal}
-use Rattle.decimals.proofs.Decimals.{own}
+use Rattle.base_decimals.proofs.Decimals.{own}
 use Rattle.cacao_cond.proofs.Steps.{both}
 use Rattle.cacao_cond.proofs.Sound.{escaped-yes, escaped-no}
 

@@ -1,7 +1,7 @@
 -- A text that is a number in decimal.
 use Rattle.std.proofs.Common.{◌≡◌, ◌<◌, ◌^◌, ℕ, Some, List, refl, arith}
 use Rattle.std.specs.Fmt.{decimal}
-use Rattle.decimals.proofs.Decimals.{number_some, number_sound}
+use Rattle.base_decimals.proofs.Decimals.{number_some, number_sound}
 use Rattle.cacao_cond.specs.Reading.{number_of}
 
 -- the number of a decimal text is that number

@@ -10,8 +10,8 @@ use Rattle.cacao_cond.specs.declared.errors.CondError.{CondError}
 use Rattle.cacao_cond.specs.declared.errors.CondError.TheVariants.{Grammar, Memory}
 use Rattle.cacao_cond.specs.declared.trees.Constant.{Constant}
 use Rattle.cacao_cond.specs.declared.trees.Constant.TheVariants.{Text}
-use Rattle.cacao_cond.specs.Trees.{AllTree, PrimeTree}
-use Rattle.cacao_cond.specs.Reading.{Fails, begins, text_of, named_at, behind, behind_joint, skipped, constant_at, constants_at, any_at, all_at, prime_at}
+use Rattle.cacao_cond.specs.Trees.{PrimeTree}
+use Rattle.cacao_cond.specs.Reading.{Fails, begins, text_of, named_at, behind, behind_joint, skipped, constant_at, constants_at, all_at, prime_at}
 use Rattle.cacao_cond.proofs.Steps.{both}
 
 -- an error is passed on
@@ -45,15 +45,6 @@ constants_none (suc n) text left more first h a b e =
     let less : suc n - 1 ≡ n = omega arith in
     let inner : constants_at n (skipped more) ≡ None = ap (λ k. constants_at k (skipped more)) (sym less) ∙ e in
     rw a (rw (← b) (rw inner refl))
-
-pub any_none : (n : ℕ) (text left more : List ℕ) (first : AllTree) → (n ≡ 0 → ⊥) → all_at (n - 1) text ≡ Some (first, left)
-    → Some more ≡ behind_joint (codes "OR") left → any_at (n - 1) more ≡ None → any_at n text ≡ None
-any_none zero text left more first h a b e = absurd (h refl)
-any_none (suc n) text left more first h a b e =
-    let less : suc n - 1 ≡ n = omega arith in
-    let front : all_at n text ≡ Some (first, left) = ap (λ k. all_at k text) (sym less) ∙ a in
-    let inner : any_at n more ≡ None = ap (λ k. any_at k more) (sym less) ∙ e in
-    rw front (rw (← b) (rw inner refl))
 
 pub all_none : (n : ℕ) (text left more : List ℕ) (first : PrimeTree) → (n ≡ 0 → ⊥) → prime_at (n - 1) text ≡ Some (first, left)
     → Some more ≡ behind_joint (codes "AND") left → all_at (n - 1) more ≡ None → all_at n text ≡ None

@@ -1,4 +1,4 @@
--- The grammar of conditions, as a relation between a tree and a text.
+-- Promise: The grammar of conditions, as a relation between a tree and a text.
 use Rattle.std.specs.Prelude.{◌≡◌, ◌⊎◌, ℕ, ◌<◌, ◌==◌, ◌||◌, true, false, IsTrue, List, [], ◌∷◌, ◌++◌, length, codes, FitsSigned, if◌then◌else◌}
 use Rattle.std.specs.Fmt.{signed_decimal}
 use Rattle.std.specs.Int.{w64}

@@ -1,4 +1,4 @@
--- Conditions as lists of their parts.
+-- Promise: Conditions as lists of their parts.
 use Rattle.std.specs.Prelude.{◌≡◌, ◌≢◌, ℕ, List, [], ◌∷◌}
 use Rattle.std.specs.List.{flat_map, list_all, list_any}
 use Rattle.cacao_cond.specs.declared.trees.Constant.{Constant}

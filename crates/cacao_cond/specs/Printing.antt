@@ -1,4 +1,4 @@
--- The one text that a condition is printed as.
+-- Promise: The one text that a condition is printed as.
 use Rattle.std.specs.Prelude.{ℕ, true, false, List, [], ◌∷◌, ◌++◌, codes, FitsSigned}
 use Rattle.std.specs.Fmt.{signed_decimal}
 use Rattle.std.specs.Int.{w64}

@@ -1,10 +1,10 @@
--- How the reader goes through a text from the left: each step answers what it read and what is left, or nothing.
+-- Promise: How the reader goes through a text from the left: each step answers what it read and what is left, or nothing.
 -- The grammar is in `Grammar`; these steps tell nothing else.
 use Rattle.std.specs.Prelude.{◌≡◌, ℕ, ℤ, zero, suc, ◌-◌, ◌&&◌, ◌==◌, ◌||◌, nat_le, nat_lt, nat_eq, ◌^◌, negsuc, Bool, true, false, List, [], ◌∷◌, ◌++◌, length, drop, codes, pos, Option, Some, None, option_map, Result, Ok, Err, if◌then◌else◌}
 use Rattle.std.specs.List.{starts_with}
 use Rattle.std.specs.Option.{option_map_or}
 use Rattle.std.specs.Str.{is_utf8}
-use Rattle.decimals.specs.Numbers.{number}
+use Rattle.base_decimals.specs.Numbers.{number}
 use Rattle.cacao_vars.specs.References.{begins_with_reference, name_run, behind_run}
 use Rattle.cacao_cond.specs.declared.errors.CondError.{CondError}
 use Rattle.cacao_cond.specs.declared.errors.CondError.TheVariants.{Grammar, Memory}

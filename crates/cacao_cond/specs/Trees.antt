@@ -1,4 +1,4 @@
--- Conditions as plain trees: what a program's condition says, without where it lies in memory.
+-- Promise: Conditions as plain trees: what a program's condition says, without where it lies in memory.
 use Rattle.std.specs.Prelude.{ℕ, List}
 use Rattle.cacao_cond.specs.declared.trees.Op.{Op}
 use Rattle.cacao_cond.specs.declared.trees.Constant.{Constant}

@@ -1,4 +1,4 @@
--- The truth of a condition where its variables have values.
+-- Promise: The truth of a condition where its variables have values.
 use Rattle.std.specs.Prelude.{ℕ, ◌&&◌, ◌||◌, Bool, true, false, not, List, codes, find, unwrap_or, option_map, Option, Some, None}
 use Rattle.std.specs.Bool.{beq}
 use Rattle.std.specs.Fmt.{signed_decimal}

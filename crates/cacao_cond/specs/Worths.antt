@@ -1,7 +1,7 @@
--- The values of variables.
+-- Promise: The values of variables.
 use Rattle.std.specs.Prelude.{ℕ, ℤ, Bool, true, false, List, codes, Option, Some, None, if◌then◌else◌}
 use Rattle.std.specs.Str.{bytes_eq}
-use Rattle.decimals.specs.Numbers.{integer}
+use Rattle.base_decimals.specs.Numbers.{integer}
 use Rattle.cacao_vars.specs.declared.kinds.Kind.{Kind}
 use Rattle.cacao_vars.specs.declared.kinds.Kind.TheVariants as kind
 use Rattle.cacao_cond.specs.declared.deciding.Atom.{Atom}

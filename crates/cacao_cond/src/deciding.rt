@@ -2,8 +2,8 @@
 ghost use Rattle.std.specs.Prelude.{◌≡◌, option_map};
 ghost use Rattle.cacao_cond.specs.Worths.{worth_of, whole_worth, flag_worth, value_of};
 
+use base_decimals::read_integer;
 use cacao_vars::{Kind, Name};
-use decimals::read_integer;
 
 /// The value of a variable: unset, a whole number, a flag, or a text.
 #[derive(Clone, Copy, PartialEq, Eq)]

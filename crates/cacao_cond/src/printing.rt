@@ -1,5 +1,5 @@
 // Conditions as texts.
-ghost use Rattle.std.specs.Prelude.{◌≡◌, ◌++◌, [], ◌∷◌, IfOk, OnOk, codes};
+ghost use Rattle.std.specs.Prelude.{◌≡◌, ◌++◌, IfOk, OnOk, codes};
 ghost use Rattle.cacao_vars.specs.Names.{IsName};
 ghost use Rattle.cacao_cond.specs.Grammar.{Spells, escaped};
 ghost use Rattle.cacao_cond.specs.Trees.{constants_of, tree_of, all_of_tree, prime_tree};

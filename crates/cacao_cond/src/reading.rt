@@ -1,5 +1,5 @@
 // The reader of conditions.
-ghost use Rattle.std.specs.Prelude.{◌≡◌, false, ◌*◌, ◌≤◌, ◌<◌, ◌↔◌, Some, None, IfOk, IsErrOf, length};
+ghost use Rattle.std.specs.Prelude.{◌≡◌, false, ◌*◌, ◌≤◌, ◌<◌, Some, None, IfOk, IsErrOf, length};
 ghost use Rattle.cacao_cond.specs.Trees.{AnyTree, constants_of, tree_of, all_of_tree, prime_tree};
 ghost use Rattle.cacao_cond.specs.Grammar.{Spells};
 ghost use Rattle.cacao_cond.specs.Reading.{Gives, quoted, text_of, constant_at, constants_at, compared_at, among_at, comparison_at, or_behind, and_behind, group_behind, named_at, any_at, all_at, prime_at, condition_at};

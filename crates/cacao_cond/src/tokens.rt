@@ -1,12 +1,11 @@
 // The parts of a condition that take no memory, read from the left.
-ghost use Rattle.std.specs.Prelude.{◌≡◌, ◌+◌, ◌≤◌, ◌^◌, ◌<◌, ◌≢◌, ◌↔◌, ℕ, Some, None, IfSome, IsTrue, MatchOption, OnSome, length, take, drop, option_map};
-ghost use Rattle.std.specs.Option.{option_copied};
+ghost use Rattle.std.specs.Prelude.{◌≡◌, ◌+◌, ◌≤◌, ◌<◌, Some, None, IfSome, length, take, drop, option_map};
 ghost use Rattle.cacao_vars.specs.Names.{IsName};
-ghost use Rattle.cacao_cond.specs.Reading.{skipped, begins, behind, behind_joint, op_at, digit_run, behind_digits, is_digit, negative_of, positive_of, whole_at, reference_at, opening_at};
+ghost use Rattle.cacao_cond.specs.Reading.{skipped, begins, behind, behind_joint, op_at, digit_run, behind_digits, negative_of, positive_of, whole_at, reference_at, opening_at};
 
 use crate::trees::Op;
+use base_decimals::read_number;
 use cacao_vars::leading_reference;
-use decimals::read_number;
 
 // The text without the spaces before it.
 pub fn skip(text: &[u8]) -> &[u8]

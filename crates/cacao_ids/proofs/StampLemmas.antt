@@ -27,24 +27,11 @@ time_size time t = ap length t.spelled
 regroup : (date time fraction last : List ℕ) → date ++ 84 ∷ time ++ fraction ++ last ≡ date ++ (84 ∷ (time ++ (fraction ++ last)))
 regroup date time fraction last = simp append_assoc
 
-regroup_time : (date time fraction last : List ℕ) → date ++ 84 ∷ time ++ fraction ++ last ≡ (date ++ 84 ∷ []) ++ (time ++ (fraction ++ last))
-regroup_time date time fraction last = simp append_assoc
-
 take_of : (text front rest : List ℕ) (n : ℕ) → text ≡ front ++ rest → length front ≡ n → take n text ≡ front
 take_of text front rest n e h = ap (take n) e ∙ take_at front rest n h
 
 drop_of : (text front rest : List ℕ) (n : ℕ) → text ≡ front ++ rest → length front ≡ n → drop n text ≡ rest
 drop_of text front rest n e h = ap (drop n) e ∙ drop_at front rest n h
-
-pub stamp_date : (text : List ℕ) → IsStamp text → IsDateText (take 10 text)
-stamp_date text s =
-    subst IsDateText (sym (take_of text s.date (84 ∷ (s.time ++ (s.fraction ++ 90 ∷ []))) 10 (s.joined ∙ regroup s.date s.time s.fraction (90 ∷ [])) (date_size s.date s.date_fits))) s.date_fits
-
-pub stamp_time : (text : List ℕ) → IsStamp text → IsTimeText (take 8 (drop 11 text))
-stamp_time text s =
-    let front : length (s.date ++ 84 ∷ []) ≡ 11 = length-append s.date (84 ∷ []) ∙ ap (λ n. n + 1) (date_size s.date s.date_fits) in
-    let rest = drop_of text (s.date ++ 84 ∷ []) (s.time ++ (s.fraction ++ 90 ∷ [])) 11 (s.joined ∙ regroup_time s.date s.time s.fraction (90 ∷ [])) front in
-    subst IsTimeText (sym (take_of (drop 11 text) s.time (s.fraction ++ 90 ∷ []) 8 rest (time_size s.time s.time_fits))) s.time_fits
 
 -- a fraction and the last character follow 19 others
 stamp_rest : (text : List ℕ) (s : IsStamp text) → (drop 19 text ≡ s.fraction ++ 90 ∷ []) × (length text ≡ 20 + length s.fraction)

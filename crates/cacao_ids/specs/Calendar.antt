@@ -1,4 +1,4 @@
--- The Gregorian calendar, for the years 0000 to 9999.
+-- Promise: The Gregorian calendar, for the years 0000 to 9999.
 use Rattle.std.specs.Prelude.{ℕ, ◌≤◌, ◌%◌, ◌==◌, ◌&&◌, ◌||◌, Bool, not, if◌then◌else◌}
 
 -- every fourth year, but of the hundreds every fourth alone

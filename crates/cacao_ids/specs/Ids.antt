@@ -1,4 +1,4 @@
--- The grammar of identifiers.
+-- Promise: The grammar of identifiers.
 use Rattle.std.specs.Prelude.{◌≡◌, ℕ, ◌≤◌, ◌<◌, ◌&&◌, ◌||◌, nat_le, Bool, IsTrue, List, ◌∷◌, ◌++◌, length}
 use Rattle.std.specs.List.{list_all, AllByRecursion, join_with_byte}
 use Rattle.cacao_ids.specs.Uuids.{IsUuid}

@@ -1,4 +1,4 @@
--- The grammar of stamps: RFC 3339 in UTC, with `Z` alone as the offset.
+-- Promise: The grammar of stamps: RFC 3339 in UTC, with `Z` alone as the offset.
 use Rattle.std.specs.Prelude.{◌≡◌, ℕ, ◌≤◌, ◌+◌, ◌/◌, ◌%◌, ◌&&◌, nat_le, Bool, IsTrue, List, [], ◌∷◌, ◌++◌, length}
 use Rattle.std.specs.List.{list_all}
 use Rattle.cacao_ids.specs.Calendar.{IsDate}

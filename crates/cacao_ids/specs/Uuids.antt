@@ -1,4 +1,4 @@
--- The text form of a UUID, as identifiers use it: RFC 9562, in lower case.
+-- Promise: The text form of a UUID, as identifiers use it: RFC 9562, in lower case.
 use Rattle.std.specs.Prelude.{◌≡◌, ℕ, ◌<◌, ◌==◌, ◌&&◌, ◌||◌, nat_le, Bool, IsTrue, List, length, slice_index, if◌then◌else◌}
 
 -- a decimal digit, or a letter from `a` to `f`

@@ -1,5 +1,5 @@
 // The second part of an identifier.
-ghost use Rattle.std.specs.Prelude.{◌≡◌, ◌↔◌, ◌⊎◌, ◌<◌, IsTrue, EachIndex, slice_index};
+ghost use Rattle.std.specs.Prelude.{◌↔◌, ◌⊎◌, ◌<◌, IsTrue, EachIndex, slice_index};
 ghost use Rattle.cacao_ids.specs.Uuids.{IsUuid};
 
 use uuid::Uuid;

@@ -1,4 +1,4 @@
--- How the logic stores the items and the members of data.
+-- Promise: How the logic stores the items and the members of data.
 use Rattle.std.specs.Prelude.{◌≡◌, ℕ, ◌==◌, ℤ, pos, List, [], ◌∷◌, true, false, refl, if◌then◌else◌}
 use Rattle.std.proofs.Common.{ap, ◌∙◌}
 use Rattle.std.specs.Coded.{Coded, code_by, coded×, coded_ℕ, coded_ℤ, coded_list}

@@ -1,4 +1,4 @@
--- What is counted of a text and of its data: colons outside strings, members, numbers.
+-- Promise: What is counted of a text and of its data: colons outside strings, members, numbers.
 use Rattle.std.specs.Prelude.{◌≡◌, ◌-◌, length, Result, Ok, Err, ℕ, suc, Option, Some, None, option_map, ◌+◌, ◌==◌, List, [], ◌∷◌, ◌++◌, Bool, false, nat_le, negsuc, pos, if◌then◌else◌}
 use Rattle.serde_json.specs.Data.{Num, unsigned, negative, float, Data, null, boolean, number, string, array, object, Items, no_items, item, Members, no_members, member}
 

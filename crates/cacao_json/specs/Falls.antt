@@ -1,4 +1,4 @@
--- The parts of items and of members are smaller than they: what their models owe.
+-- Promise: The parts of items and of members are smaller than they: what their models owe.
 use Rattle.std.specs.Prelude.{◌≤◌, List, [], ◌∷◌, map, max}
 use Rattle.std.proofs.Common.{arith}
 use denote.Param.Weighed.{most}

@@ -1,4 +1,4 @@
--- What keeps the profile.
+-- Promise: What keeps the profile.
 use Rattle.std.specs.Prelude.{◌≡◌, ◌<◌, ◌↔◌, ℕ, List, Some, None}
 use Rattle.std.specs.Str.{IsUtf8}
 use Rattle.serde_json.specs.Data.{Data, array, object, Items, Members, put, depth}

@@ -1,4 +1,4 @@
--- The trees that texts have: names distinct and in byte order, texts in UTF-8, whole numbers in range, at most 127 levels.
+-- Promise: The trees that texts have: names distinct and in byte order, texts in UTF-8, whole numbers in range, at most 127 levels.
 use Rattle.std.specs.Prelude.{◌≡◌, ◌≤◌, ℕ, List, true, ⊤}
 use Rattle.std.specs.declared.cmp.Ordering.TheVariants.{Less}
 use Rattle.std.specs.Ordering.{nat_cmp}

@@ -1,4 +1,4 @@
--- What bytes are as JSON text.
+-- Promise: What bytes are as JSON text.
 use Rattle.std.specs.Prelude.{◌==◌, ◌&&◌, ℕ, List, Option, Some, None, option_and_then, is_none, if◌then◌else◌}
 use Rattle.std.specs.Str.{is_utf8}
 use Rattle.serde_json.specs.Data.{Data}

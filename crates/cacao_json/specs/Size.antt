@@ -1,4 +1,4 @@
--- How large data are: a number by which a recursion through their parts falls.
+-- Promise: How large data are: a number by which a recursion through their parts falls.
 use Rattle.std.specs.Prelude.{ℕ, ◌+◌}
 use Rattle.serde_json.specs.Data.{Data, null, boolean, number, string, array, object, Items, no_items, item, Members, no_members, member}
 

@@ -1,4 +1,4 @@
--- What reading tokens straight into a tree takes and gives, for private clauses.
+-- Promise: What reading tokens straight into a tree takes and gives, for private clauses.
 use Rattle.std.specs.Prelude.{◌≡◌, ℕ, ℤ, ◌+◌, List, [], ◌∷◌, Some, Bool, true, map}
 use Rattle.json.specs.Token.{Token}
 use Rattle.fast_float.specs.Text.{Parts}

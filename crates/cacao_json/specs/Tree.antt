@@ -1,4 +1,4 @@
--- The data that a tree stands for.
+-- Promise: The data that a tree stands for.
 use Rattle.std.specs.Prelude.{List, [], ◌∷◌, ℕ, map, if◌then◌else◌}
 use Rattle.std.specs.Str.{bytes_eq}
 use Rattle.serde_json.specs.Data.{Data, null, boolean, number, string, array, object, Items, no_items, item, Members, no_members, member}

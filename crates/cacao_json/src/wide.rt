@@ -2,7 +2,7 @@
 ghost use Rattle.std.specs.Prelude.{◌≡◌, ◌+◌, IfOk, OnOk};
 ghost use Rattle.serde_json.specs.Data.{put};
 ghost use Rattle.cacao_json.specs.Counts.{members, members_of_pairs};
-ghost use Rattle.cacao_json.specs.Profile.{IsFormed, AreFormedMembers};
+ghost use Rattle.cacao_json.specs.Profile.{AreFormedMembers};
 ghost use Rattle.cacao_json.specs.Straight.{entries_data};
 ghost use Rattle.cacao_json.specs.Tree.{data_of};
 

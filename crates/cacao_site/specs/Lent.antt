@@ -1,4 +1,4 @@
--- What calls on a site are, where it is lent.
+-- Promise: What calls on a site are, where it is lent.
 use Rattle.std.proofs.Common.{ℕ, List, ◌∷◌, ap}
 use Rattle.cacao_site.specs.View.{DiskView, SiteView, lent_disk, lent_site}
 use Rattle.cacao_site.specs.DiskCalls.{CallsOn, GoesOn, KeepsDisk, StaysAt}

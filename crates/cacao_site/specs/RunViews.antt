@@ -1,4 +1,4 @@
--- What the run at a place sees of a rack.
+-- Promise: What the run at a place sees of a rack.
 use Rattle.std.specs.Prelude.{ℕ, ◌+◌, ◌==◌, ◌∷◌, if◌then◌else◌}
 use Rattle.cacao_site.specs.View.{DiskView, SiteView}
 

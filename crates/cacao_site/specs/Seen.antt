@@ -1,4 +1,4 @@
--- What calls on a rack are, as the run at a place sees them.
+-- Promise: What calls on a rack are, as the run at a place sees them.
 use Rattle.std.proofs.Common.{◌≡◌, ◌==◌, ℕ, Bool, true, false, List, ◌∷◌, refl, sym, ◌∙◌, subst, ap, if◌then◌else◌}
 use Rattle.std.proofs.lemmas.Bool.{eqb-true, eq-eqb}
 use Rattle.cacao_site.specs.View.{DiskView, SiteView}

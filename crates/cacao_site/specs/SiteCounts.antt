@@ -1,4 +1,4 @@
--- What contracts see of a `SiteCounts`.
+-- Promise: What contracts see of a `SiteCounts`.
 use Rattle.cacao_site.specs.View.{CountsView}
 use Rattle.cacao_site.specs.declared.site_counts.SiteCounts.{SiteCounts}
 

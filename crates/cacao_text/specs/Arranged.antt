@@ -1,4 +1,4 @@
--- How members are arranged, for private clauses.
+-- Promise: How members are arranged, for private clauses.
 use Rattle.std.specs.Prelude.{◌≡◌, ◌+◌, ◌&&◌, ℕ, List, [], ◌∷◌, ◌++◌, Bool, false, not, map, flat_map, option_map, unwrap_or, slice_get, codes, if◌then◌else◌}
 use Rattle.std.specs.Str.{bytes_eq}
 use Rattle.json.specs.Token.{Token, key}

@@ -1,4 +1,4 @@
--- The canonical text of a tree (RFC 8785), as bytes in UTF-8.
+-- Promise: The canonical text of a tree (RFC 8785), as bytes in UTF-8.
 use Rattle.std.specs.Prelude.{ℕ, suc, ◌+◌, ◌/◌, ◌%◌, ◌==◌, nat_lt, pos, negsuc, List, [], ◌∷◌, ◌++◌, Bool, true, false, map, fold, flat_map, decimal, codes, if◌then◌else◌}
 use Rattle.std.specs.Ordering.{nat_cmp, is_lt}
 use Rattle.std.specs.Cmp.Lexicographic.{slice_cmp}

@@ -1,4 +1,4 @@
--- The keys of the map that sorts.
+-- Scaffold: The keys of the map that sorts.
 use Rattle.std.specs.Prelude.{ℕ, List, map}
 use Rattle.std.specs.Ordering.{nat_cmp, ordering_then}
 use Rattle.std.specs.Cmp.Lexicographic.{slice_cmp}

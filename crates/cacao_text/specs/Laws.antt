@@ -1,4 +1,4 @@
--- The laws of canonical text.
+-- Promise: The laws of canonical text.
 use Rattle.std.specs.Prelude.{◌≡◌, ◌≤◌, ◌↔◌, ℕ, List, length, Some, option_map}
 use Rattle.serde_json.specs.Data.{Data}
 use Rattle.cacao_json.specs.Reading.{tree}

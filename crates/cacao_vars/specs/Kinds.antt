@@ -1,4 +1,4 @@
--- The kinds of variables by the names of their types.
+-- Promise: The kinds of variables by the names of their types.
 use Rattle.std.specs.Prelude.{ℕ, List, codes, if◌then◌else◌}
 use Rattle.std.specs.Str.{bytes_eq}
 use Rattle.cacao_vars.specs.declared.kinds.Kind.{Kind}

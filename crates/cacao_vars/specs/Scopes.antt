@@ -1,4 +1,4 @@
--- Scopes, what was written in them, and the value of a name.
+-- Promise: Scopes, what was written in them, and the value of a name.
 use Rattle.std.specs.Prelude.{◌≡◌, ℕ, zero, suc, ◌<◌, ◌==◌, ◌&&◌, IsTrue, List, [], ◌∷◌, ◌++◌, reverse, length, find, Option, Some, None, is_some, IfSome, IsSomeAnd, slice_get, option_and_then}
 use Rattle.std.specs.Option.{option_map_or}
 use Rattle.std.specs.Str.{bytes_eq}

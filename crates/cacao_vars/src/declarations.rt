@@ -1,5 +1,5 @@
 // Declarations of variables.
-ghost use Rattle.std.specs.Prelude.{◌≡◌, ◌↔◌, [], IsTrue, IsSome, Ok, false, is_some, IfOk, OnOk, OnErr, None, insert, ◌≤◌, length};
+ghost use Rattle.std.specs.Prelude.{◌≡◌, ◌↔◌, [], IsTrue, IsSome, Ok, false, is_some, IfOk, OnOk, OnErr, None, insert};
 ghost use Rattle.std.specs.Option.{option_copied};
 
 use crate::kinds::Kind;

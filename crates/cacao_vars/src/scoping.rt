@@ -1,5 +1,5 @@
 // Scopes.
-ghost use Rattle.std.specs.Prelude.{◌≡◌, ◌↔◌, ◌<◌, [], ◌∷◌, ◌++◌, IsTrue, IsSome, IsNone, IfSome, IfOk, OnOk, OnErr, IsErrOf, IsSomeAnd, MatchOption, None, Some, length};
+ghost use Rattle.std.specs.Prelude.{◌≡◌, ◌↔◌, ◌<◌, [], IfOk, OnOk, OnErr, IsErrOf, IsSomeAnd, None, Some, length};
 ghost use Rattle.std.specs.Option.{option_copied, ForSome};
 ghost use Rattle.cacao_vars.specs.declared.scoping.ScopeError.TheVariants as scope_error;
 

@@ -1,4 +1,4 @@
--- Which status comes, and why.
+-- Promise: Which status comes, and why.
 use Rattle.std.specs.Prelude.{◌≡◌, ◌⊎◌, ℕ, List, [], ◌∷◌}
 use Rattle.cacao_view_words.specs.Requests.{Request, helps, helps_with, tells_version, explains, lacks}
 

@@ -1,4 +1,4 @@
--- How a call of the program ends: its exit status, and its last line if it has one.
+-- Promise: How a call of the program ends: its exit status, and its last line if it has one.
 use Rattle.std.specs.Prelude.{ℕ, Option, Some, None}
 use Rattle.cacao_view_words.specs.Texts.{Text}
 use Rattle.cacao_view_words.specs.Wants.{wanted_line}

@@ -1,4 +1,4 @@
--- An end of the code as that of the definitions.
+-- Scaffold: An end of the code as that of the definitions.
 use Rattle.cacao_view.specs.Ends as as_said
 use Rattle.cacao_view.specs.declared.end.End.{End}
 use Rattle.cacao_view.specs.declared.end.End.TheVariants as how

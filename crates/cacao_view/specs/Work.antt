@@ -1,4 +1,4 @@
--- What is done for each request: one case a word.
+-- Promise: What is done for each request: one case a word.
 use Rattle.std.specs.Prelude.{List, []}
 use Rattle.cacao_view_words.specs.Requests.{Request, helps, helps_with, tells_version, explains, lacks}
 use Rattle.cacao_view_words.specs.Rules.{rule_lines}

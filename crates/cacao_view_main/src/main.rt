@@ -1,8 +1,8 @@
 //! The program `cacao-view`: it hands the words of the command line and the outside of the system to the one call that only looks.
 #![tactic(auto)]
 
+use cacao_site_files::{FileShelf, FileSite};
 use cacao_view::view;
-use file_site::{FileShelf, FileSite};
 use std::alloc::{AllocError, Global};
 use std::process::ExitCode;
 use std::{env, fs, io};

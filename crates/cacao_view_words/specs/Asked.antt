@@ -1,4 +1,4 @@
--- The values of the code as those of the definitions.
+-- Scaffold: The values of the code as those of the definitions.
 use Rattle.cacao_view_words.specs.Requests as asked
 use Rattle.cacao_view_words.specs.Rules.{rule_of}
 use Rattle.cacao_view_words.specs.declared.words.Request.{Request}

@@ -1,4 +1,4 @@
--- What the words ask for: one case and one row a word.
+-- Promise: What the words ask for: one case and one row a word.
 use Rattle.std.specs.Prelude.{List, [], ◌∷◌, Option, Some, None, codes}
 use Rattle.cacao_view_words.specs.Rules.{NamedRule, rule_in}
 use Rattle.cacao_view_words.specs.Texts.{Text}

@@ -1,6 +1,6 @@
--- The rules that are explained, and what is said of each.
+-- Promise: The rules that are explained, and what is said of each.
 use Rattle.std.specs.Prelude.{ℕ, ◌+◌, nat_le, ◌==◌, List, [], ◌∷◌, Option, Some, None, map, option_map, option_and_then, if◌then◌else◌}
-use Rattle.decimals.specs.Numbers.{number}
+use Rattle.base_decimals.specs.Numbers.{number}
 use Rattle.cacao_view_words.specs.Texts.{Text}
 use Rattle.cacao_view_words.specs.declared.rule_texts.TheConstants.{K1, K2, K3, K4, K5, K6, K7, K8, K9, K10, K11, K12, K13}
 use Rattle.cacao_view_words.specs.declared.rule_texts.TheConstants.{K14, K15, K16, K17, K18, K19, K20, K21, K22, K23, K24, K25, B1, B2, B3}

@@ -1,4 +1,4 @@
--- Texts as lists of bytes.
+-- Promise: Texts as lists of bytes.
 use Rattle.std.specs.Prelude.{ℕ, ◌==◌, Bool, false, not, ◌&&◌, IsTrue, List, [], ◌∷◌, map}
 use Rattle.std.specs.List.{list_all}
 use Rattle.std.specs.Borrow.{Bor}

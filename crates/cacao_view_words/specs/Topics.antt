@@ -1,4 +1,4 @@
--- The words of the two programs, and what is said of each.
+-- Promise: The words of the two programs, and what is said of each.
 use Rattle.std.specs.Prelude.{List, map, [], ◌∷◌, Option, Some, None, codes, if◌then◌else◌}
 use Rattle.std.specs.Str.{bytes_eq}
 use Rattle.cacao_view_words.specs.Texts.{Text}

@@ -1,4 +1,4 @@
--- What is said where the words have no reading.
+-- Promise: What is said where the words have no reading.
 use Rattle.cacao_view_words.specs.Texts.{Text}
 use Rattle.cacao_view_words.specs.declared.wanted.TheConstants.{WANTED_FIRST, WANTED_TOPIC, WANTED_NO_MORE, WANTED_RULE}
 use Rattle.cacao_view_words.specs.declared.wanted.Wanted.{Wanted}

@@ -1,14 +1,14 @@
 // The rules that are explained.
 ghost use Rattle.std.specs.Prelude.{◌≡◌, ◌≤◌, option_map};
 ghost use Rattle.cacao_view_words.specs.Texts.{AreLines, lines_in};
-ghost use Rattle.decimals.specs.Numbers.{number};
-ghost use Rattle.cacao_view_words.specs.Rules.{bind_rule, bind_lines, book_rule, book_lines, numbered, rule_in, rule_of, rule_lines};
+ghost use Rattle.base_decimals.specs.Numbers.{number};
+ghost use Rattle.cacao_view_words.specs.Rules.{bind_lines, book_lines, numbered, rule_in, rule_of, rule_lines};
 
 use crate::rule_texts::{
     B1, B2, B3, K1, K2, K3, K4, K5, K6, K7, K8, K9, K10, K11, K12, K13, K14, K15, K16, K17, K18,
     K19, K20, K21, K22, K23, K24, K25,
 };
-use decimals::read_number;
+use base_decimals::read_number;
 
 /// The rules of playbooks.
 const BOOK_RULES: u64 = 25;

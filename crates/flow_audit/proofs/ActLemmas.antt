@@ -15,8 +15,8 @@ use Rattle.run_records.specs.declared.record.Record.{Record}
 use Rattle.run_records.specs.declared.act.Act.{Act}
 use Rattle.slpf_rules.specs.declared.rules.Rule.{Rule}
 use Rattle.slpf_rules.specs.Replies.{reply}
-use Rattle.slpf_acts.specs.Acts.{AreActs, IsOther, table_of}
-use Rattle.slpf_acts.proofs.Acts.{acts_more, none_are_acts}
+use Rattle.slpf_rules_acts.specs.Acts.{AreActs, IsOther, table_of}
+use Rattle.slpf_rules_acts.proofs.Acts.{acts_more, none_are_acts}
 use Rattle.flow_audit.specs.Breaks.{ActsFit, FitsAct}
 use Rattle.flow_audit.specs.Index.{ArePlacesOf, Places, Tells, key_cmp, place_in}
 use Rattle.flow_audit.proofs.ListLemmas.{get_front, get_last, get_none, get_push, get_there, got, take_next}

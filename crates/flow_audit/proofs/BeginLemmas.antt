@@ -12,14 +12,14 @@ use Rattle.cacao_check.specs.Fits.{FitsKind}
 use Rattle.run_records.specs.Ranges.{last_moment}
 use Rattle.run_records.specs.declared.record.Record.{Record}
 use Rattle.run_records.specs.declared.record.Record.TheVariants as entry
-use Rattle.flow_rules.specs.Accepted.{Accepted, given_of}
-use Rattle.flow_rules.specs.Changes.{change, moment_of}
-use Rattle.flow_rules.specs.Edits.{Edit}
-use Rattle.flow_rules.specs.Givens.{Given}
-use Rattle.flow_rules.specs.Runs.{after, begin_of, begun, blank, first_edits, shown_after}
-use Rattle.flow_rules.specs.State.{Shown, State, shown}
-use Rattle.flow_rules.proofs.PlacedLemmas.{first_shown}
-use Rattle.flow_rules.proofs.RunLemmas.{list_heads}
+use Rattle.flow_core_rules.specs.Accepted.{Accepted, given_of}
+use Rattle.flow_core_rules.specs.Changes.{change, moment_of}
+use Rattle.flow_core_rules.specs.Edits.{Edit}
+use Rattle.flow_core_rules.specs.Givens.{Given}
+use Rattle.flow_core_rules.specs.Runs.{after, begin_of, begun, blank, first_edits, shown_after}
+use Rattle.flow_core_rules.specs.State.{Shown, State, shown}
+use Rattle.flow_core_rules.proofs.PlacedLemmas.{first_shown}
+use Rattle.flow_core_rules.proofs.RunLemmas.{list_heads}
 use Rattle.flow_core.specs.Setups.{IsSetup}
 use Rattle.flow_core.specs.Views.{View, begins, blank_shown, stepped, taken}
 use Rattle.flow_core.proofs.FlowLemmas.{begins_first}
@@ -121,10 +121,6 @@ first_of r run =
     let both_are = list_heads r (begin_of run.given run.run l.now) [] l.others l.records_are in
     let edits = has_edits run.given run.run l.now l.first l.begins in
     record { given = run.given; run = run.run; now = l.now; is = both_are.0; in_time = l.in_time; edits = edits.0; begins_are = edits.1; accepted = run.accepted }
-
-is_begin : Record → Bool
-is_begin (entry.Begin run moment books bind) = true
-is_begin other = false
 
 -- a record that is no Begin is no run
 pub no_begin : (r : Record) → ((run moment : ℕ) (books : List (List ℕ)) (bind : List ℕ) → r ≡ entry.Begin run moment books bind → ⊥) → ¬ IsJournalRun (r ∷ [])

@@ -3,16 +3,16 @@ use Rattle.std.proofs.Common.{◌≡◌, ℕ, List, [], ◌∷◌, ◌++◌, Som
 use Rattle.serde_json.specs.Data.{Data}
 use Rattle.run_records.specs.declared.record.Record.{Record}
 use Rattle.cacao_vars.specs.declared.kinds.Kind.{Kind}
-use Rattle.flow_rules.specs.Accepted.{Accepted, IsRunOf}
-use Rattle.flow_rules.specs.Changes.{change, moment_of}
-use Rattle.flow_rules.specs.Edits.{Edit}
-use Rattle.flow_rules.specs.Givens.{Given}
-use Rattle.flow_rules.specs.Laws.{HasPlacedWrites}
-use Rattle.flow_rules.specs.Runs.{GoesOn, Leads, Next, after, begin_of, shown_after}
-use Rattle.flow_rules.specs.State.{State, shown}
-use Rattle.flow_rules.proofs.OneRunLemmas.{one_run}
-use Rattle.flow_rules.proofs.PlacedLemmas.{first_shown, records_shown}
-use Rattle.flow_rules.proofs.RunLemmas.{list_heads, some_inner}
+use Rattle.flow_core_rules.specs.Accepted.{Accepted, IsRunOf}
+use Rattle.flow_core_rules.specs.Changes.{change, moment_of}
+use Rattle.flow_core_rules.specs.Edits.{Edit}
+use Rattle.flow_core_rules.specs.Givens.{Given}
+use Rattle.flow_core_rules.specs.Laws.{HasPlacedWrites}
+use Rattle.flow_core_rules.specs.Runs.{GoesOn, Leads, Next, after, begin_of, shown_after}
+use Rattle.flow_core_rules.specs.State.{State, shown}
+use Rattle.flow_core_rules.proofs.OneRunLemmas.{one_run}
+use Rattle.flow_core_rules.proofs.PlacedLemmas.{first_shown, records_shown}
+use Rattle.flow_core_rules.proofs.RunLemmas.{list_heads, some_inner}
 
 -- records in two parts
 record Halves (s : State) (xs ys : List Record) (new : State) : Type 0 where
@@ -94,8 +94,3 @@ module _ (AreAccepted : List Data → Type 0) (Fits : Kind → List ℕ → Type
       let theirs : IsRunOf AreAccepted Fits (x ∷ xs) = record { given = longer.given; run = longer.run; state = front.state; accepted = longer.accepted; leads = front.leads } in
       let same = one_run AreAccepted Fits (x ∷ xs) theirs mine in
       (front.goes_on.0, subst (λ (s : State). Next s r front.goes_on.0) same.state_is front.goes_on.1)
-
-  pub front_run : (x : Record) (xs ys : List Record) → IsRunOf AreAccepted Fits (x ∷ xs ++ ys) → IsRunOf AreAccepted Fits (x ∷ xs)
-  front_run x xs ys longer =
-      let front = front_leads longer.given longer.run x xs ys longer.state longer.leads in
-      record { given = longer.given; run = longer.run; state = front.state; accepted = longer.accepted; leads = front.leads }

@@ -5,17 +5,17 @@ use Rattle.std.proofs.lemmas.Bool.{eqb-true}
 use Rattle.std.proofs.lemmas.List.Elements.{Contains-push_cases, All-contains}
 use Rattle.run_records.specs.declared.record.Record.{Record}
 use Rattle.run_records.specs.declared.record.Record.TheVariants as entry
-use Rattle.flow_rules.specs.declared.issues.Issue.{Issue}
-use Rattle.flow_rules.specs.declared.issues.IssuePhase.{IssuePhase}
-use Rattle.flow_rules.specs.declared.issues.IssuePhase.TheVariants as issue_phase
-use Rattle.flow_rules.specs.Givens.{Given}
-use Rattle.flow_rules.specs.Laws.{HasRecords, KeepsIssues, end_by, ended_by, issued_by, record_of_issue}
-use Rattle.flow_rules.specs.Runnable.{IsRunnable}
-use Rattle.flow_rules.specs.Runs.{GoesOn, Leads, Next, begin_of}
-use Rattle.flow_rules.specs.State.{State}
-use Rattle.flow_rules.proofs.IssueLemmas.{issues_are_new, issues_have_records}
-use Rattle.flow_rules.proofs.KeepLemmas.{records_keep_issues}
-use Rattle.flow_rules.proofs.RunLemmas.{some_inner}
+use Rattle.flow_core_rules.specs.declared.issues.Issue.{Issue}
+use Rattle.flow_core_rules.specs.declared.issues.IssuePhase.{IssuePhase}
+use Rattle.flow_core_rules.specs.declared.issues.IssuePhase.TheVariants as issue_phase
+use Rattle.flow_core_rules.specs.Givens.{Given}
+use Rattle.flow_core_rules.specs.Laws.{HasRecords, KeepsIssues, end_by, ended_by, issued_by, record_of_issue}
+use Rattle.flow_core_rules.specs.Runnable.{IsRunnable}
+use Rattle.flow_core_rules.specs.Runs.{GoesOn, Leads, Next, begin_of}
+use Rattle.flow_core_rules.specs.State.{State}
+use Rattle.flow_core_rules.proofs.IssueLemmas.{issues_are_new, issues_have_records}
+use Rattle.flow_core_rules.proofs.KeepLemmas.{records_keep_issues}
+use Rattle.flow_core_rules.proofs.RunLemmas.{some_inner}
 use Rattle.flow_audit.proofs.FrontLemmas.{leads_more}
 
 -- the state has the issue that the record made

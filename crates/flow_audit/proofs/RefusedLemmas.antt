@@ -13,13 +13,13 @@ use Rattle.cacao_json.proofs.Readings.{HasTree-from_tree}
 use Rattle.cacao_check.specs.FirstBreak.{IsAccepted}
 use Rattle.cacao_check.specs.Fits.{FitsKind}
 use Rattle.cacao_check.specs.declared.breaks.Mode.TheVariants.{Run}
-use Rattle.flow_rules.specs.Accepted.{Accepted, first_variables}
-use Rattle.flow_rules.specs.Bindings.{KeepsBind, bindings_of}
-use Rattle.flow_rules.specs.Givens.{Given}
-use Rattle.flow_rules.proofs.RunLemmas.{list_heads}
+use Rattle.flow_core_rules.specs.Accepted.{Accepted, first_variables}
+use Rattle.flow_core_rules.specs.Bindings.{KeepsBind, bindings_of}
+use Rattle.flow_core_rules.specs.Givens.{Given}
+use Rattle.flow_core_rules.proofs.RunLemmas.{list_heads}
 use Rattle.flow_core.specs.SetupReading.{AreTreesOf, RefusesTexts, texts_read}
-use Rattle.flow_setup.specs.declared.setup_errors.SetupError.{SetupError}
-use Rattle.flow_setup.specs.declared.setup_errors.SetupError.TheVariants as setup_error
+use Rattle.flow_core_setup.specs.declared.setup_errors.SetupError.{SetupError}
+use Rattle.flow_core_setup.specs.declared.setup_errors.SetupError.TheVariants as setup_error
 use Rattle.flow_laws.specs.Journals.{AreAccepted}
 use Rattle.flow_audit.proofs.ListLemmas.{get_push}
 

@@ -8,9 +8,9 @@ use Rattle.run_records.specs.Ranges.{ActInRange}
 use Rattle.run_records.specs.declared.record.Record.{Record}
 use Rattle.run_records.specs.declared.record.Record.TheVariants as entry
 use Rattle.run_records.specs.declared.act.Act.{Act}
-use Rattle.slpf_acts.specs.Acts.{AreActs, IsOther}
-use Rattle.flow_rules.specs.declared.issues.Issue.{Issue}
-use Rattle.flow_rules.specs.State.{Shown}
+use Rattle.slpf_rules_acts.specs.Acts.{AreActs, IsOther}
+use Rattle.flow_core_rules.specs.declared.issues.Issue.{Issue}
+use Rattle.flow_core_rules.specs.State.{Shown}
 use Rattle.flow_core.specs.SetupLaws.{AcceptedIsRunnable}
 use Rattle.flow_core.specs.Views.{View}
 use Rattle.flow_laws.specs.Acts.{HasReply, ReadsAs}
@@ -138,9 +138,6 @@ none_lacks records acts (entry.Ask task issue moment bytes) none = tt
 none_lacks records acts (entry.Told issue moment status text) none = tt
 
 -- ---- a loop over records
-
-pub have_none : (records : List Record) (acts : ℕ → List Act) → RepliesHaveActs records acts []
-have_none records acts k r is = absurd (none-some r is)
 
 pub have_more : (records : List Record) (acts : ℕ → List Act) (some : List Record) (r : Record) → RepliesHaveActs records acts some → HasItsAct records acts r → RepliesHaveActs records acts (some ++ r ∷ [])
 have_more records acts some r have has k q is = elim (get_push some r k q is) [

@@ -6,14 +6,14 @@ use Rattle.std.proofs.lemmas.Bool.{cases_lt}
 use Rattle.std.proofs.lemmas.List.{take_all}
 use Rattle.cacao_check.specs.Fits.{FitsKind}
 use Rattle.run_records.specs.declared.record.Record.{Record}
-use Rattle.flow_rules.specs.Accepted.{IsRunOf}
-use Rattle.flow_rules.specs.Changes.{change, moment_of}
-use Rattle.flow_rules.specs.Edits.{Edit}
-use Rattle.flow_rules.specs.Givens.{Given}
-use Rattle.flow_rules.specs.Runs.{GoesOn, Leads, Next, after, begin_of, shown_after}
-use Rattle.flow_rules.specs.State.{Shown, State, shown}
-use Rattle.flow_rules.proofs.OneRunLemmas.{one_run}
-use Rattle.flow_rules.proofs.PlacedLemmas.{records_shown}
+use Rattle.flow_core_rules.specs.Accepted.{IsRunOf}
+use Rattle.flow_core_rules.specs.Changes.{change, moment_of}
+use Rattle.flow_core_rules.specs.Edits.{Edit}
+use Rattle.flow_core_rules.specs.Givens.{Given}
+use Rattle.flow_core_rules.specs.Runs.{GoesOn, Leads, Next, after, begin_of, shown_after}
+use Rattle.flow_core_rules.specs.State.{Shown, State, shown}
+use Rattle.flow_core_rules.proofs.OneRunLemmas.{one_run}
+use Rattle.flow_core_rules.proofs.PlacedLemmas.{records_shown}
 use Rattle.flow_core.specs.Views.{View, begins, is_makes, stepped, taken}
 use Rattle.flow_core.proofs.FlowLemmas.{tasks_grow}
 use Rattle.flow_laws.specs.Journals.{AreAccepted, IsJournalRun}

@@ -4,11 +4,11 @@ use Rattle.std.specs.Prelude.{Contains, slice_get}
 use Rattle.std.proofs.lemmas.Bool.Decides.{nat_tests}
 use Rattle.run_records.specs.declared.record.Record.{Record}
 use Rattle.run_records.specs.declared.record.Record.TheVariants as entry
-use Rattle.flow_rules.specs.declared.issues.Issue.{Issue}
-use Rattle.flow_rules.specs.Laws.{HasRecords, record_of_issue}
-use Rattle.flow_rules.specs.Runnable.{IsRunnable}
-use Rattle.flow_rules.specs.State.{Shown}
-use Rattle.flow_rules.proofs.IssueLemmas.{issues_have_records}
+use Rattle.flow_core_rules.specs.declared.issues.Issue.{Issue}
+use Rattle.flow_core_rules.specs.Laws.{HasRecords, record_of_issue}
+use Rattle.flow_core_rules.specs.Runnable.{IsRunnable}
+use Rattle.flow_core_rules.specs.State.{Shown}
+use Rattle.flow_core_rules.proofs.IssueLemmas.{issues_have_records}
 use Rattle.flow_core.specs.SetupLaws.{AcceptedIsRunnable}
 use Rattle.flow_core.specs.Views.{View}
 use Rattle.flow_laws.specs.Images.{IsAgent}

@@ -5,10 +5,10 @@ use Rattle.std.specs.List.{list_any}
 use Rattle.std.proofs.lemmas.Bool.{ltb-true}
 use Rattle.std.proofs.lemmas.Option.{none-some}
 use Rattle.run_records.specs.declared.record.Record.{Record}
-use Rattle.flow_rules.specs.Changes.{change, moment_of}
-use Rattle.flow_rules.specs.Edits.{Edit}
-use Rattle.flow_rules.specs.Runs.{shown_after}
-use Rattle.flow_rules.specs.State.{Shown}
+use Rattle.flow_core_rules.specs.Changes.{change, moment_of}
+use Rattle.flow_core_rules.specs.Edits.{Edit}
+use Rattle.flow_core_rules.specs.Runs.{shown_after}
+use Rattle.flow_core_rules.specs.State.{Shown}
 use Rattle.flow_core.specs.Views.{IsReadyFor, Takes, View, begins, is_long_command, is_makes, passed, stepped, taken}
 use Rattle.flow_core.specs.declared.flow_errors.LimitKind.TheVariants as limit
 use Rattle.flow_audit.specs.Breaks.{most_tasks}

@@ -12,9 +12,9 @@ use Rattle.run_records.specs.Reading.{act_of, record_of}
 use Rattle.run_records.specs.declared.record.Record.{Record}
 use Rattle.run_records.specs.declared.record.Record.TheVariants as entry
 use Rattle.run_records.specs.declared.act.Act.{Act}
-use Rattle.slpf_acts.specs.Acts.{IsOther}
-use Rattle.flow_rules.specs.Accepted.{IsRunOf}
-use Rattle.flow_rules.specs.State.{State}
+use Rattle.slpf_rules_acts.specs.Acts.{IsOther}
+use Rattle.flow_core_rules.specs.Accepted.{IsRunOf}
+use Rattle.flow_core_rules.specs.State.{State}
 use Rattle.flow_laws.specs.Agree.{Agree}
 use Rattle.flow_laws.specs.Images.{IsAgent}
 use Rattle.flow_laws.specs.Journals.{AreAccepted, IsJournalRun}

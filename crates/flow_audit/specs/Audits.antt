@@ -1,4 +1,4 @@
--- Verdicts: whether the files agree, and where they first do not.
+-- Promise: Verdicts: whether the files agree, and where they first do not.
 use Rattle.std.specs.Prelude.{◌≡◌, ◌⊎◌, ℕ, ◌<◌, List, [], length, sum_by}
 use Rattle.run_records.specs.declared.record.Record.{Record}
 use Rattle.run_records.specs.declared.act.Act.{Act}

@@ -1,11 +1,11 @@
--- Where records and acts break their agreement.
+-- Promise: Where records and acts break their agreement.
 use Rattle.std.specs.Prelude.{◌≡◌, ℕ, suc, ◌<◌, ◌≤◌, List, length, take, Some, slice_get, All, ⊤}
 use Rattle.cacao_check.specs.Fits.{FitsKind}
 use Rattle.run_records.specs.declared.record.Record.{Record}
 use Rattle.run_records.specs.declared.record.Record.TheVariants as entry
 use Rattle.run_records.specs.declared.act.Act.{Act}
-use Rattle.slpf_acts.specs.Acts.{IsOther, IsReplied}
-use Rattle.flow_rules.specs.Accepted.{IsRunOf}
+use Rattle.slpf_rules_acts.specs.Acts.{IsOther, IsReplied}
+use Rattle.flow_core_rules.specs.Accepted.{IsRunOf}
 use Rattle.flow_laws.specs.Acts.{ReadsAs}
 use Rattle.flow_laws.specs.Agree.{IsActedOn}
 use Rattle.flow_laws.specs.Journals.{AreAccepted, IsJournalRun, IsSent, run_of}

@@ -1,4 +1,4 @@
--- What the bytes of the files stand for. File 0 is that of the run, files 1 to 16 are those of the filters with these numbers.
+-- Promise: What the bytes of the files stand for. File 0 is that of the run, files 1 to 16 are those of the filters with these numbers.
 use Rattle.std.specs.Prelude.{◌≡◌, ◌⊎◌, ℕ, zero, suc, ◌<◌, ◌≤◌, List, [], length, take, Option, Some, None, IsSome, slice_get, slice_index_or}
 use Rattle.run_journal.specs.Layout.{IsDamagedAt, Stands, front}
 use Rattle.run_records.specs.declared.record.Record.{Record}

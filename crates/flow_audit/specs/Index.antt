@@ -1,4 +1,4 @@
--- Where the act of a run and an issue stands.
+-- Scaffold: Where the act of a run and an issue stands.
 use Rattle.std.specs.Prelude.{◌≡◌, ℕ, List, Option, Some, None, All, slice_get}
 use Rattle.std.specs.Map.{lookup}
 use Rattle.std.specs.BTreeMap.{is_at}

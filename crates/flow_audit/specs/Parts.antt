@@ -1,4 +1,4 @@
--- What the parts of an audit find.
+-- Scaffold: What the parts of an audit find.
 use Rattle.std.specs.Prelude.{◌≡◌, ℕ, suc, ◌+◌, ◌<◌, ◌≤◌, List, [], length, take, Option, Some, None, map, slice_get, count_by, All, Contains, ⊤}
 use Rattle.std.specs.List.{AllByRecursion}
 use Rattle.cacao_check.specs.Fits.{FitsKind}
@@ -10,14 +10,14 @@ use Rattle.run_records.specs.declared.act.Act.{Act}
 use Rattle.run_records.specs.Lists.{all_read}
 use Rattle.run_records.specs.Ranges.{ActInRange}
 use Rattle.run_records.specs.Reading.{act_of}
-use Rattle.flow_rules.specs.Accepted.{Accepted}
-use Rattle.flow_rules.specs.Runs.{Leads}
-use Rattle.flow_rules.specs.State.{Shown, State, shown}
-use Rattle.flow_rules.specs.declared.issues.Issue.{Issue}
-use Rattle.flow_rules.specs.Changes.{moment_of}
-use Rattle.flow_rules.specs.Edits.{Edit}
+use Rattle.flow_core_rules.specs.Accepted.{Accepted}
+use Rattle.flow_core_rules.specs.Runs.{Leads}
+use Rattle.flow_core_rules.specs.State.{Shown, State, shown}
+use Rattle.flow_core_rules.specs.declared.issues.Issue.{Issue}
+use Rattle.flow_core_rules.specs.Changes.{moment_of}
+use Rattle.flow_core_rules.specs.Edits.{Edit}
 use Rattle.flow_core.specs.Views.{View, is_makes, stepped, taken}
-use Rattle.slpf_acts.specs.Acts.{AreActs}
+use Rattle.slpf_rules_acts.specs.Acts.{AreActs}
 use Rattle.flow_laws.specs.Acts.{HasReply}
 use Rattle.flow_laws.specs.Images.{IsAgent}
 use Rattle.flow_laws.specs.Journals.{AreAccepted}

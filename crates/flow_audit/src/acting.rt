@@ -1,10 +1,10 @@
 // The acts of the filters.
-ghost use Rattle.std.specs.Prelude.{◌≡◌, ◌+◌, ◌<◌, ◌≤◌, ◌↔◌, [], ℕ, List, length, take, true, false, Ok, Some, IsTrue, IfOk, IfErr, slice_get};
+ghost use Rattle.std.specs.Prelude.{◌≡◌, ◌+◌, ◌<◌, ◌↔◌, length, take, true, false, Ok, Some, IsTrue, IfOk, IfErr, slice_get};
 ghost use Rattle.std.specs.List.{AllByRecursion};
-ghost use Rattle.run_journal.specs.Image.{ArePlaced, bytes_of};
+ghost use Rattle.run_journal.specs.Image.{bytes_of};
 ghost use Rattle.run_records.specs.declared.act.Act.{Act};
 ghost use Rattle.run_records.specs.Ranges.{ActInRange};
-ghost use Rattle.slpf_acts.specs.Acts.{table_of};
+ghost use Rattle.slpf_rules_acts.specs.Acts.{table_of};
 ghost use Rattle.flow_laws.specs.Images.{IsAgent};
 ghost use Rattle.flow_laws.specs.Journals.{IsSent, run_of};
 ghost use Rattle.flow_audit.specs.Breaks.{ActsFit, FitsAct};

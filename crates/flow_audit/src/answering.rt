@@ -1,8 +1,6 @@
 // The replies of the run, each of which is that of an act.
 ghost use Rattle.std.specs.Prelude.{◌≡◌, ◌<◌, ◌≤◌, ◌↔◌, length, true, false, Ok, Some, IsTrue, IfOk, IfErr, IfSome, IfNone, OnOk, slice_get};
-ghost use Rattle.std.specs.List.{AllByRecursion};
 ghost use Rattle.run_journal.specs.Image.{ArePlaced, bytes_of};
-ghost use Rattle.run_records.specs.Ranges.{ActInRange};
 ghost use Rattle.flow_laws.specs.Acts.{ReadsAs};
 ghost use Rattle.flow_audit.specs.Breaks.{HasItsAct, RepliesHaveActs};
 ghost use Rattle.flow_audit.specs.Files.{acts_of};

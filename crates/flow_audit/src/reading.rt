@@ -1,5 +1,5 @@
 // The records and acts of the files.
-ghost use Rattle.std.specs.Prelude.{◌≡◌, ◌<◌, ◌≤◌, length, IfOk, IfErr};
+ghost use Rattle.std.specs.Prelude.{◌≡◌, ◌<◌, length, IfOk, IfErr};
 ghost use Rattle.run_journal.specs.Image.{ArePlaced, bytes_of};
 ghost use Rattle.run_journal.specs.Layout.{Stands};
 ghost use Rattle.run_records.specs.Reading.{act_of, record_of};

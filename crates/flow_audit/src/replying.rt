@@ -1,6 +1,6 @@
 // What the rules of a filter reply.
 ghost use Rattle.std.specs.Prelude.{◌≡◌, ◌≤◌, length, IfOk, OnOk};
-ghost use Rattle.slpf_acts.specs.Acts.{reply_text};
+ghost use Rattle.slpf_rules_acts.specs.Acts.{reply_text};
 ghost use Rattle.slpf_rules.specs.Replies.{reply};
 
 use cacao_site::Bytes;

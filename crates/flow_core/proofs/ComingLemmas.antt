@@ -1,17 +1,17 @@
 -- What the record of a move changes.
-use Rattle.std.proofs.Common.{◌≡◌, ℕ, zero, suc, ◌==◌, ◌&&◌, Bool, true, false, cond, not, List, length, Option, Some, None, arith, refl, ap, sym, ◌∙◌}
+use Rattle.std.proofs.Common.{◌≡◌, ℕ, zero, suc, ◌==◌, ◌&&◌, Bool, true, cond, not, List, length, Option, Some, None, arith, refl, ap, sym, ◌∙◌}
 use Rattle.std.specs.Prelude.{option_and_then, option_map}
 use Rattle.std.specs.Str.{bytes_eq}
 use Rattle.run_records.specs.declared.record.Record.{Record}
 use Rattle.run_records.specs.declared.record.Record.TheVariants as entry
-use Rattle.flow_rules.specs.declared.moves.Move.{Move}
-use Rattle.flow_rules.specs.declared.moves.Move.TheVariants as move
-use Rattle.flow_rules.specs.Changes.{Issuing, ask, change, edits_of, is_in_time, next_command, next_question, send}
-use Rattle.flow_rules.specs.Edits.{Edit}
-use Rattle.flow_rules.specs.Moves.{record_of}
-use Rattle.flow_rules.specs.State.{Shown}
-use Rattle.flow_rules.proofs.MoveLemmas.{same_bytes, same_number, three}
-use Rattle.flow_core.specs.Views.{View, begins, taken, taken_by}
+use Rattle.flow_core_rules.specs.declared.moves.Move.{Move}
+use Rattle.flow_core_rules.specs.declared.moves.Move.TheVariants as move
+use Rattle.flow_core_rules.specs.Changes.{Issuing, ask, change, is_in_time, next_command, next_question, send}
+use Rattle.flow_core_rules.specs.Edits.{Edit}
+use Rattle.flow_core_rules.specs.Moves.{record_of}
+use Rattle.flow_core_rules.specs.State.{Shown}
+use Rattle.flow_core_rules.proofs.MoveLemmas.{same_bytes, same_number, three}
+use Rattle.flow_core.specs.Views.{View, taken, taken_by}
 
 -- ---- what a run that has begun issues next
 
@@ -46,45 +46,11 @@ module _ (s : Shown) (now t : ℕ) where
   pub not_asked : next_question s now t ≡ None → option_and_then (change s) (record_of s now (move.Ask t)) ≡ None
   not_asked is = ap (λ (o : Option Issuing). option_and_then (change s) (option_map asked_as o)) is
 
-  -- there is no Ask before the Upgrade
-  pub not_upgraded : s.lists.is_upgraded ≡ false → option_and_then (change s) (record_of s now (move.Ask t)) ≡ None
-  not_upgraded earlier = by (next_question s now t)
-    where
-      none : (bytes : List ℕ) (o : Option Issuing) → option_and_then (λ (m : Issuing). cond (s.lists.is_upgraded && (length s.lists.issues == length s.lists.issues) && bytes_eq bytes (m.0).bytes) (Some m.1) None) o ≡ None
-      none bytes None = refl
-      none bytes (Some m) = ap (λ (b : Bool). cond (b && (length s.lists.issues == length s.lists.issues) && bytes_eq bytes (m.0).bytes) (Some m.1) None) earlier
-
-      timely : (bytes : List ℕ) (b : Bool) → cond b (ask s now t (length s.lists.issues) bytes) None ≡ None
-      timely bytes true = none bytes (next_question s now t)
-      timely bytes false = refl
-
-      by : (o : Option Issuing) → option_and_then (change s) (option_map asked_as o) ≡ None
-      by None = refl
-      by (Some m) = timely (m.0).bytes (is_in_time s now)
-
-  -- nor any record out of time
-  pub not_in_time : (m : Move) → is_in_time s now ≡ false → option_and_then (change s) (record_of s now m) ≡ None
-  not_in_time (move.Walk u) late = ap (λ (b : Bool). cond b (edits_of s (entry.Walk u now)) None) late
-  not_in_time (move.Send u) late = by (next_command s now u)
-    where
-      by : (o : Option Issuing) → option_and_then (change s) (option_map (λ (made : Issuing). entry.Send u (length s.lists.issues) (made.0).agent now (made.0).bytes) o) ≡ None
-      by None = refl
-      by (Some m) = ap (λ (b : Bool). cond b (send s now u (length s.lists.issues) (m.0).agent (m.0).bytes) None) late
-  not_in_time (move.Ask u) late = by (next_question s now u)
-    where
-      by : (o : Option Issuing) → option_and_then (change s) (option_map (λ (made : Issuing). entry.Ask u (length s.lists.issues) now (made.0).bytes) o) ≡ None
-      by None = refl
-      by (Some m) = ap (λ (b : Bool). cond b (ask s now u (length s.lists.issues) (m.0).bytes) None) late
-  not_in_time move.Upgrade late = ap (λ (b : Bool). cond b (edits_of s (entry.Upgrade 2 now)) None) late
-
 -- ---- what a flow takes
 
 begun : (n : ℕ) → (n ≡ 0 → ⊥) → not (n == 0) ≡ true
 begun zero apart = absurd (apart refl)
 begun (suc n) apart = grind arith
-
-pub taken_begun : (v : View) (now : ℕ) (m : Move) → (v.count ≡ 0 → ⊥) → taken_by v now m ≡ option_and_then (change v.seen) (record_of v.seen now m)
-taken_begun v now m apart = ap (λ (b : Bool). option_and_then (λ (r : Record). cond b (change v.seen r) (begins v.seen r)) (record_of v.seen now m)) (begun v.count apart)
 
 -- what the record of a move changes is what it changes as a record
 pub taken_made : (v : View) (now : ℕ) (m : Move) (r : Record) (edits : List Edit) → record_of v.seen now m ≡ Some r → taken_by v now m ≡ Some edits → taken v r ≡ Some edits

@@ -3,17 +3,17 @@ use Rattle.std.proofs.Common.{◌≡◌, ℕ, zero, suc, ◌+◌, ◌<◌, ◌�
 use Rattle.std.specs.Prelude.{map, min, slice_get, option_and_then, option_map}
 use Rattle.std.specs.Option.{option_map_or, option_or}
 use Rattle.std.specs.List.{flat_map}
-use Rattle.flow_dues.specs.Pairs.{Due, at, rising, with_due, comes_first, pairs_from, is_by, IsFirstBy, IsQueue}
-use Rattle.flow_dues.specs.Least.{sooner}
-use Rattle.flow_dues.proofs.ListedLemmas.{rising_is}
-use Rattle.flow_rules.specs.declared.tasks.Task.{Task}
-use Rattle.flow_rules.specs.declared.issues.Issue.{Issue}
-use Rattle.flow_rules.specs.declared.phases.Phase.{Phase}
-use Rattle.flow_rules.specs.declared.phases.Phase.TheVariants as phase
-use Rattle.flow_rules.specs.declared.moves.Move.{Move}
-use Rattle.flow_rules.specs.State.{Shown}
-use Rattle.flow_rules.specs.Moves.{move_at, first_move, ready_at, ready_from, ready_set, delay_of, delay_until, delays, deadline_of, has_deadline, deadlines, deadlines_from, least, due, is_question, first_question}
-use Rattle.flow_plans.specs.TableFacts.{delay_in}
+use Rattle.base_dues.specs.Pairs.{Due, at, rising, with_due, comes_first, pairs_from, is_by, IsFirstBy, IsQueue}
+use Rattle.base_dues.specs.Least.{sooner}
+use Rattle.base_dues.proofs.ListedLemmas.{rising_is}
+use Rattle.flow_core_rules.specs.declared.tasks.Task.{Task}
+use Rattle.flow_core_rules.specs.declared.issues.Issue.{Issue}
+use Rattle.flow_core_rules.specs.declared.phases.Phase.{Phase}
+use Rattle.flow_core_rules.specs.declared.phases.Phase.TheVariants as phase
+use Rattle.flow_core_rules.specs.declared.moves.Move.{Move}
+use Rattle.flow_core_rules.specs.State.{Shown}
+use Rattle.flow_core_rules.specs.Moves.{move_at, first_move, ready_at, ready_from, ready_set, delay_of, delay_until, delays, deadline_of, has_deadline, deadlines, deadlines_from, least, due, is_question, first_question}
+use Rattle.flow_core_plans.specs.TableFacts.{delay_in}
 
 -- ---- the least moment of pairs
 

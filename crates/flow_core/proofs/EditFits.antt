@@ -3,21 +3,21 @@ use Rattle.std.proofs.Common.{◌≡◌, ◌⊎◌, ℕ, zero, suc, ◌<◌, ◌
 use Rattle.std.specs.Prelude.{IfSome, slice_get, map}
 use Rattle.std.specs.List.{list_all}
 use Rattle.run_records.specs.Ranges.{last_moment}
-use Rattle.flow_rules.specs.declared.tasks.Task.{Task}
-use Rattle.flow_rules.specs.declared.issues.Issue.{Issue}
-use Rattle.flow_rules.specs.declared.issues.IssuePhase.{IssuePhase}
-use Rattle.flow_rules.specs.declared.phases.Phase.{Phase}
-use Rattle.flow_rules.specs.declared.phases.Phase.TheVariants as phase
-use Rattle.flow_rules.specs.State.{Lists, Texts}
-use Rattle.flow_rules.specs.Edits.{Edit, shown_edited, changed_at, closed, with_text}
-use Rattle.flow_rules.specs.Edits.Edit.{opens, writes, makes, moves, issues, closes, upgrades}
-use Rattle.flow_rules.specs.Changes.{has_ended, is_waiting}
-use Rattle.flow_rules.specs.Sane.{JoinsFrom}
-use Rattle.flow_rules.proofs.PlacedLemmas.{Placed}
-use Rattle.flow_rules.proofs.QuietLemmas.{IsQuiet}
-use Rattle.flow_rules.proofs.WaitLemmas.{is_calm, IsCalm, is_free_of}
-use Rattle.flow_rules.proofs.TaskLemmas.{HasParent, IsOrderly, MayMake, MayMove, AreFine, fine-orderly, get_within, set_length}
-use Rattle.flow_plans.specs.Fits.{IsInTime, JoinsFor, IsNewTask, NoneWaits, IsMove, AllFit}
+use Rattle.flow_core_rules.specs.declared.tasks.Task.{Task}
+use Rattle.flow_core_rules.specs.declared.issues.Issue.{Issue}
+use Rattle.flow_core_rules.specs.declared.issues.IssuePhase.{IssuePhase}
+use Rattle.flow_core_rules.specs.declared.phases.Phase.{Phase}
+use Rattle.flow_core_rules.specs.declared.phases.Phase.TheVariants as phase
+use Rattle.flow_core_rules.specs.State.{Lists, Texts}
+use Rattle.flow_core_rules.specs.Edits.{Edit, shown_edited, changed_at, closed, with_text}
+use Rattle.flow_core_rules.specs.Edits.Edit.{opens, writes, makes, moves, issues, closes, upgrades}
+use Rattle.flow_core_rules.specs.Changes.{has_ended, is_waiting}
+use Rattle.flow_core_rules.specs.Sane.{JoinsFrom}
+use Rattle.flow_core_rules.proofs.PlacedLemmas.{Placed}
+use Rattle.flow_core_rules.proofs.QuietLemmas.{IsQuiet}
+use Rattle.flow_core_rules.proofs.WaitLemmas.{is_calm, IsCalm, is_free_of}
+use Rattle.flow_core_rules.proofs.TaskLemmas.{HasParent, IsOrderly, MayMake, MayMove, AreFine, fine-orderly, get_within, set_length}
+use Rattle.flow_core_plans.specs.Fits.{IsInTime, JoinsFor, IsNewTask, NoneWaits, IsMove, AllFit}
 use Rattle.flow_core.proofs.TimelyLemmas.{IsAtTime, IsStart, Timely}
 
 clash : (b : Bool) → b ≡ true → b ≡ false → ⊥
@@ -40,10 +40,6 @@ in_time n (phase.Sending place) h = tt
 in_time n (phase.Awaiting place issue) h = tt
 in_time n (phase.Joining from) h = tt
 in_time n (phase.Ended well) h = tt
-
-from_of : Phase → ℕ
-from_of (phase.Joining from) = from
-from_of other = 0
 
 joins_next : (n from : ℕ) (at : Phase) → IsAtTime n at → at ≡ phase.Joining from → from ≡ n
 joins_next n from at h e = let g : IsAtTime n (phase.Joining from) = subst (IsAtTime n) e h in g

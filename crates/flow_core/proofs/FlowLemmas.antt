@@ -8,23 +8,23 @@ use Rattle.run_records.specs.Ranges.{last_moment}
 use Rattle.run_records.specs.declared.record.Record.{Record}
 use Rattle.run_records.specs.declared.record.Record.TheVariants as entry
 use Rattle.cacao_book.specs.declared.books.Book.{Book}
-use Rattle.flow_rules.specs.declared.tasks.Task.{Task}
-use Rattle.flow_rules.specs.Givens.{Given}
-use Rattle.flow_rules.specs.State.{Shown, Lists, shown}
-use Rattle.flow_rules.specs.Edits.{Edit, shown_edited, all_shown_edited, changed_at, closed}
-use Rattle.flow_rules.specs.Edits.Edit.{opens, writes, makes, moves, issues, closes, upgrades}
-use Rattle.flow_rules.specs.Runnable.{IsRunnable}
-use Rattle.flow_rules.specs.Sane.{IsSane}
-use Rattle.flow_rules.specs.Changes.{change, moment_of}
-use Rattle.flow_rules.specs.Runs.{first_task, first_edits, shown_after}
-use Rattle.flow_rules.proofs.TaskLemmas.{AreFine, set_length}
+use Rattle.flow_core_rules.specs.declared.tasks.Task.{Task}
+use Rattle.flow_core_rules.specs.Givens.{Given}
+use Rattle.flow_core_rules.specs.State.{Shown, Lists, shown}
+use Rattle.flow_core_rules.specs.Edits.{Edit, shown_edited, all_shown_edited, changed_at, closed}
+use Rattle.flow_core_rules.specs.Edits.Edit.{opens, writes, makes, moves, issues, closes, upgrades}
+use Rattle.flow_core_rules.specs.Runnable.{IsRunnable}
+use Rattle.flow_core_rules.specs.Sane.{IsSane}
+use Rattle.flow_core_rules.specs.Changes.{change, moment_of}
+use Rattle.flow_core_rules.specs.Runs.{first_task, first_edits, shown_after}
+use Rattle.flow_core_rules.proofs.TaskLemmas.{AreFine, set_length}
 use Rattle.std.proofs.lemmas.List.Recursion.{is_count_by}
-use Rattle.flow_rules.proofs.QuietLemmas.{IsQuiet}
-use Rattle.flow_rules.proofs.OrderLemmas.{change_fine}
-use Rattle.flow_rules.proofs.PlacedLemmas.{Placed, change-placed}
-use Rattle.flow_rules.proofs.SaneRuns.{Sound, runs_are_sound}
-use Rattle.flow_plans.specs.Fits.{AllFit, IsNewTask}
-use Rattle.flow_plans.specs.TableFacts.{blank_lists}
+use Rattle.flow_core_rules.proofs.QuietLemmas.{IsQuiet}
+use Rattle.flow_core_rules.proofs.OrderLemmas.{change_fine}
+use Rattle.flow_core_rules.proofs.PlacedLemmas.{Placed, change-placed}
+use Rattle.flow_core_rules.proofs.SaneRuns.{Sound, runs_are_sound}
+use Rattle.flow_core_plans.specs.Fits.{AllFit, IsNewTask}
+use Rattle.flow_core_plans.specs.TableFacts.{blank_lists}
 use Rattle.flow_core.specs.Views.{View, begins, taken, is_makes}
 use Rattle.flow_core.specs.Flows.{IsStateOf, IsReached}
 use Rattle.flow_core.proofs.EditFits.{Shaped, with_end, fits_shaped}

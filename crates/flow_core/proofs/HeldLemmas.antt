@@ -4,23 +4,23 @@ use Rattle.std.specs.Prelude.{option_map, count_by, nat_lt, Result, Ok, Err, OnO
 use Rattle.std.specs.List.{list_any}
 use Rattle.run_records.specs.Ranges.{last_moment}
 use Rattle.run_records.specs.declared.record.Record.{Record}
-use Rattle.flow_rules.specs.State.{Shown, Lists}
-use Rattle.flow_rules.specs.Edits.{Edit, all_shown_edited}
-use Rattle.flow_rules.specs.Runnable.{IsRunnable}
-use Rattle.flow_rules.specs.Sane.{IsNotStuck}
-use Rattle.flow_rules.proofs.NotStuck.{not_stuck}
-use Rattle.flow_rules.specs.Changes.{moment_of}
-use Rattle.flow_rules.specs.Runs.{shown_after}
+use Rattle.flow_core_rules.specs.State.{Shown, Lists}
+use Rattle.flow_core_rules.specs.Edits.{Edit, all_shown_edited}
+use Rattle.flow_core_rules.specs.Runnable.{IsRunnable}
+use Rattle.flow_core_rules.specs.Sane.{IsNotStuck}
+use Rattle.flow_core_rules.proofs.NotStuck.{not_stuck}
+use Rattle.flow_core_rules.specs.Changes.{moment_of}
+use Rattle.flow_core_rules.specs.Runs.{shown_after}
 use Rattle.flow_core.specs.declared.flow.Flow.TheInside.{Inside}
 use Rattle.flow_core.specs.declared.flow.Plan.{Plan}
-use Rattle.flow_plans.specs.RunTypes.{Run}
-use Rattle.flow_plans.specs.TableTypes.{Planned, Tables}
+use Rattle.flow_core_plans.specs.RunTypes.{Run}
+use Rattle.flow_core_plans.specs.TableTypes.{Planned, Tables}
 use Rattle.flow_core.specs.declared.flow_errors.LimitKind.TheVariants as limit
-use Rattle.flow_plans.specs.Planned.{edit_of, edits_of, AreDeclared}
-use Rattle.flow_plans.specs.Fits.{AllFit}
-use Rattle.flow_plans.specs.TableFacts.{blank_lists, lists_of, seen_with, HasTables, HasRoom, IsSmall}
-use Rattle.flow_plans.specs.RunFacts.{shown_of, IsWell}
-use Rattle.flow_core.specs.Views.{View, has_begun, taken, passed, most_tasks, is_makes, is_long_command, IsReadyFor, Takes, stepped}
+use Rattle.flow_core_plans.specs.Planned.{edit_of, edits_of, AreDeclared}
+use Rattle.flow_core_plans.specs.Fits.{AllFit}
+use Rattle.flow_core_plans.specs.TableFacts.{blank_lists, lists_of, seen_with, HasTables, HasRoom}
+use Rattle.flow_core_plans.specs.RunFacts.{shown_of, IsWell}
+use Rattle.flow_core.specs.Views.{View, has_begun, taken, passed, most_tasks, is_makes, is_long_command, IsReadyFor}
 use Rattle.flow_core.specs.Flows.{plan_of, view_of, IsStateOf, IsReached, HasSizes, IsHeld, PlanIsHeld, IsSound}
 use Rattle.flow_core.proofs.FlowLemmas.{sane_now, taken_fits, taken_reaches, issues_grow, tasks_grow, count_mapped, any_mapped}
 
@@ -42,12 +42,6 @@ is_well f s apart runnable scopes =
       sane = sane_now f.count (shown_of f.run) apart runnable s.reached;
       tables = s.tables;
     }
-
-pub is_small : (f : Inside) → IsSound f → length f.run.tables.scopes.items ≤ 200_000_001 → IsSmall (lists_of f.run.tables)
-is_small f s scopes =
-    let few = s.few in
-    let issues = s.sizes.issues in
-    record { tasks = s.sizes.tasks; scopes = scopes; issues = omega arith }
 
 -- the plan that a flow is ready with
 held_edits : (f : Inside) (v : View) (r : Record) (plan : Plan) → view_of f ≡ v → f.plan ≡ Some plan → (h : IsReadyFor v r) → (edits_of plan.edits.items ≡ h.edits) × (plan.moment ≡ moment_of r)
@@ -99,21 +93,6 @@ applied_sound f r plan new s runnable is e moment count none shown tables =
       tables = tables;
       plan = subst (λ p. PlanIsHeld p new.count new.run.tables) (sym none) tt;
     }
-
--- the view behind the plan
-pub applied_takes : (f : Inside) (v : View) (r : Record) (plan : Plan) (new : Inside) (w : View) → view_of f ≡ v → view_of new ≡ w → f.plan ≡ Some plan → IsReadyFor v r → new.count ≡ suc f.count → new.plan ≡ None
-    → shown_of new.run ≡ shown_after plan.moment (edits_of plan.edits.items) (shown_of f.run) → Takes v r w
-applied_takes f v r plan new w view after is h count none shown edits e =
-    let t : taken (view_of f) r ≡ Some (edits_of plan.edits.items) = held_taken f v r plan view is h in
-    let same : edits ≡ edits_of plan.edits.items = inner edits (edits_of plan.edits.items) (sym e ∙ ap (λ (x : View). taken x r) (sym view) ∙ t) in
-    let moment : plan.moment ≡ moment_of r = held_moment f v r plan view is h in
-    sym after
-    ∙ ap (λ n. record { count = n; seen = shown_of new.run; plan = option_map plan_of new.plan }) count
-    ∙ ap (λ (x : Shown). record { count = suc f.count; seen = x; plan = option_map plan_of new.plan }) shown
-    ∙ ap (λ (p : Option Plan). record { count = suc f.count; seen = shown_after plan.moment (edits_of plan.edits.items) (shown_of f.run); plan = option_map plan_of p }) none
-    ∙ ap (λ (es : List Edit). stepped (plan.moment, es) (view_of f)) (sym same)
-    ∙ ap (λ m. stepped (m, edits) (view_of f)) moment
-    ∙ ap (stepped (moment_of r, edits)) view
 
 -- ---- before the Begin
 

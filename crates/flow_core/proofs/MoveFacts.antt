@@ -4,24 +4,23 @@ use Rattle.std.specs.Prelude.{slice_get, option_and_then, option_map, nat_le, no
 use Rattle.std.specs.Option.{option_map_or}
 use Rattle.std.specs.List.{list_all, list_any}
 use Rattle.cacao_book.specs.declared.steps.Step.{Step}
-use Rattle.flow_dues.specs.Pairs.{is_by}
-use Rattle.flow_rules.specs.declared.tasks.Task.{Task}
-use Rattle.flow_rules.specs.declared.issues.Issue.{Issue}
-use Rattle.flow_rules.specs.declared.phases.Phase.{Phase}
-use Rattle.flow_rules.specs.declared.phases.Phase.TheVariants as phase
-use Rattle.flow_rules.specs.declared.moves.Move.{Move}
-use Rattle.flow_rules.specs.declared.moves.Move.TheVariants as move
-use Rattle.flow_rules.specs.Givens.{step_at}
-use Rattle.flow_rules.specs.State.{Shown}
-use Rattle.flow_rules.specs.Places.{Place, to_filter, to_operator, places}
-use Rattle.flow_rules.specs.Tasks.{Here, here_at}
-use Rattle.flow_rules.specs.Changes as changes
-use Rattle.flow_rules.specs.Changes.{Issuing, walk, next_command, next_question, upgrade, has_ended, children, outcome}
-use Rattle.flow_rules.specs.Moves.{move_at, ready_at, delay_of}
-use Rattle.flow_rules.specs.Sane.{IsSane, IsSaneTask, IsSaneAt, IsAllOver}
-use Rattle.flow_rules.proofs.HereLemmas.{here_of}
-use Rattle.flow_rules.proofs.CanEndLemmas.{ended_is_all_over}
-use Rattle.flow_core.specs.MoveKinds.{is_operators, move_kind}
+use Rattle.base_dues.specs.Pairs.{is_by}
+use Rattle.flow_core_rules.specs.declared.tasks.Task.{Task}
+use Rattle.flow_core_rules.specs.declared.issues.Issue.{Issue}
+use Rattle.flow_core_rules.specs.declared.phases.Phase.{Phase}
+use Rattle.flow_core_rules.specs.declared.phases.Phase.TheVariants as phase
+use Rattle.flow_core_rules.specs.declared.moves.Move.{Move}
+use Rattle.flow_core_rules.specs.declared.moves.Move.TheVariants as move
+use Rattle.flow_core_rules.specs.Givens.{step_at}
+use Rattle.flow_core_rules.specs.State.{Shown}
+use Rattle.flow_core_rules.specs.Places.{Place}
+use Rattle.flow_core_rules.specs.Tasks.{Here, here_at}
+use Rattle.flow_core_rules.specs.Changes as changes
+use Rattle.flow_core_rules.specs.Changes.{Issuing, walk, next_command, next_question, upgrade, has_ended, children, outcome}
+use Rattle.flow_core_rules.specs.Moves.{move_at, ready_at, delay_of}
+use Rattle.flow_core_rules.specs.Sane.{IsSane, IsSaneTask, IsSaneAt, IsAllOver}
+use Rattle.flow_core_rules.proofs.HereLemmas.{here_of}
+use Rattle.flow_core_rules.proofs.CanEndLemmas.{ended_is_all_over}
 
 clash : (b : Bool) → b ≡ true → b ≡ false → ⊥
 clash true x y = cc
@@ -170,56 +169,7 @@ module _ (s : Shown) (now t : ℕ) (task : Task) (step : Step) (e : slice_get s.
       by false g = sym (unplaced false none (ap is_some (walk_is s now t task step e f) ∙ ap (λ p. is_some (changes.walked h p)) is ∙ waits task.step_scope g))
   at_phase sane (phase.Ended well) is can =
       sym (unplaced false (ap (changes.place_at h) is) (ap is_some (walk_is s now t task step e f) ∙ ap (λ p. is_some (changes.walked h p)) is))
-
   -- ---- which move it is
-
-  kind_unplaced : changes.place_at h task.phase ≡ None → is_some (move_at s now t) ≡ true → move_at s now t ≡ Some (move.Walk t)
-  kind_unplaced none some =
-      let c : is_some (next_command s now t) ≡ false = ap is_some (command_is s now t task step e f) ∙ (no_place h task.phase none).0 in
-      let q : is_some (next_question s now t) ≡ false = ap is_some (question_is s now t task step e f) ∙ (no_place h task.phase none).1 in
-      by (is_some (walk s now t)) refl c q
-    where
-      by : (b : Bool) → is_some (walk s now t) ≡ b → is_some (next_command s now t) ≡ false → is_some (next_question s now t) ≡ false → move_at s now t ≡ Some (move.Walk t)
-      by true w c q = move_is s now t true false false w c q
-      by false w c q = absurd (clash (is_some (move_at s now t)) some (ap is_some (move_is s now t false false false w c q)))
-
-  kind_sending : (place : ℕ) → task.phase ≡ phase.Sending place → is_some (move_at s now t) ≡ true → move_at s now t ≡ Some (move_kind s t step (phase.Sending place))
-  kind_sending place at some = by (slice_get (places step.kind) place) refl
-    where
-      walks : is_some (walk s now t) ≡ false
-      walks = ap is_some (walk_is s now t task step e f) ∙ ap (λ p. is_some (changes.walked h p)) at
-
-      command : (o : Option Place) → slice_get (places step.kind) place ≡ o → next_command s now t ≡ command_from h o
-      command o g = command_is s now t task step e f ∙ ap (λ p. command_from h (changes.place_at h p)) at ∙ ap (command_from h) g
-
-      question : (o : Option Place) → slice_get (places step.kind) place ≡ o → next_question s now t ≡ question_from h o
-      question o g = question_is s now t task step e f ∙ ap (λ p. question_from h (changes.place_at h p)) at ∙ ap (question_from h) g
-
-      filter : (sends : Bool) → is_some (next_command s now t) ≡ sends → is_some (next_question s now t) ≡ false → move_at s now t ≡ Some (move.Send t)
-      filter true c q = move_is s now t false true false walks c q
-      filter false c q = absurd (clash (is_some (move_at s now t)) some (ap is_some (move_is s now t false false false walks c q)))
-
-      operator : (asks upgraded rising : Bool) → is_some (next_command s now t) ≡ false → is_some (next_question s now t) ≡ asks → s.lists.is_upgraded ≡ upgraded → is_some (upgrade s.lists 2) ≡ rising
-          → move_at s now t ≡ Some (cond upgraded (move.Ask t) move.Upgrade)
-      operator asks upgraded rising c q u r = last asks upgraded rising (move_is s now t false false asks walks c q ∙ ap (λ b. choice t false false asks b (is_some (upgrade s.lists 2))) u ∙ ap (λ b. choice t false false asks upgraded b) r)
-        where
-          last : (asks upgraded rising : Bool) → move_at s now t ≡ choice t false false asks upgraded rising → move_at s now t ≡ Some (cond upgraded (move.Ask t) move.Upgrade)
-          last true true rising m = m
-          last true false true m = m
-          last true false false m = absurd (clash (is_some (move_at s now t)) some (ap is_some m))
-          last false upgraded rising m = absurd (clash (is_some (move_at s now t)) some (ap is_some m))
-
-      by : (o : Option Place) → slice_get (places step.kind) place ≡ o → move_at s now t ≡ Some (cond (is_operators o) (cond s.lists.is_upgraded (move.Ask t) move.Upgrade) (move.Send t))
-      by None g = filter (is_some (next_command s now t)) refl (ap is_some (question None g))
-      by (Some (to_filter content to)) g = filter (is_some (next_command s now t)) refl (ap is_some (question (Some (to_filter content to)) g))
-      by (Some (to_operator content)) g = operator (is_some (next_question s now t)) s.lists.is_upgraded (is_some (upgrade s.lists 2)) (ap is_some (command (Some (to_operator content)) g)) refl refl refl
-
-  kind_is : (at : Phase) → task.phase ≡ at → is_some (move_at s now t) ≡ true → move_at s now t ≡ Some (move_kind s t step at)
-  kind_is (phase.At since) is some = kind_unplaced (ap (changes.place_at h) is) some
-  kind_is (phase.Sending place) is some = kind_sending place is some
-  kind_is (phase.Awaiting place issue) is some = kind_unplaced (ap (changes.place_at h) is) some
-  kind_is (phase.Joining from) is some = kind_unplaced (ap (changes.place_at h) is) some
-  kind_is (phase.Ended well) is some = kind_unplaced (ap (changes.place_at h) is) some
 
 -- a task of a sane state is ready by a moment exactly where it has a move then
 pub ready_moves : (s : Shown) (now t : ℕ) (task : Task) → IsSane s → slice_get s.lists.tasks t ≡ Some task → is_by now (ready_at s t task task.phase) ≡ is_some (move_at s now t)
@@ -227,8 +177,3 @@ ready_moves s now t task sane e =
     let k : IsSaneTask s t task = sane.tasks t task e in
     let step = some_known (step_at s.given task.book task.step) k.step in
     at_phase s now t task step.0 e step.1 sane task.phase refl k.phase
-
--- and that move is told by its phase and its place
-pub moves_as : (s : Shown) (now t : ℕ) (task : Task) (step : Step) → slice_get s.lists.tasks t ≡ Some task → step_at s.given task.book task.step ≡ Some step → is_some (move_at s now t) ≡ true
-    → move_at s now t ≡ Some (move_kind s t step task.phase)
-moves_as s now t task step e f some = kind_is s now t task step e f task.phase refl some

@@ -3,16 +3,16 @@ use Rattle.std.proofs.Common.{◌≡◌, ℕ, suc, ◌≤◌, List, [], ◌∷�
 use Rattle.std.specs.Prelude.{option_map}
 use Rattle.run_records.specs.Ranges.{last_moment}
 use Rattle.run_records.specs.declared.record.Record.{Record}
-use Rattle.flow_rules.specs.Givens.{Given}
-use Rattle.flow_rules.specs.State.{State, Shown, shown}
-use Rattle.flow_rules.specs.Edits.{Edit}
-use Rattle.flow_rules.specs.Runnable.{IsRunnable}
-use Rattle.flow_rules.specs.Sane.{IsSane}
-use Rattle.flow_rules.specs.Changes.{change, moment_of}
-use Rattle.flow_rules.specs.Runs.{Next, GoesOn, begin_of, begun, first_edits, blank, after, shown_after}
-use Rattle.flow_rules.specs.Laws.{IsShownAlone, IsShownAtFirst}
-use Rattle.flow_rules.proofs.PlacedLemmas.{records_shown, first_shown}
-use Rattle.flow_rules.proofs.SaneRuns.{runs_are_sane}
+use Rattle.flow_core_rules.specs.Givens.{Given}
+use Rattle.flow_core_rules.specs.State.{State, Shown, shown}
+use Rattle.flow_core_rules.specs.Edits.{Edit}
+use Rattle.flow_core_rules.specs.Runnable.{IsRunnable}
+use Rattle.flow_core_rules.specs.Sane.{IsSane}
+use Rattle.flow_core_rules.specs.Changes.{change, moment_of}
+use Rattle.flow_core_rules.specs.Runs.{Next, GoesOn, begin_of, begun, first_edits, blank, after, shown_after}
+use Rattle.flow_core_rules.specs.Laws.{IsShownAlone, IsShownAtFirst}
+use Rattle.flow_core_rules.proofs.PlacedLemmas.{records_shown, first_shown}
+use Rattle.flow_core_rules.proofs.SaneRuns.{runs_are_sane}
 use Rattle.flow_core.specs.Views.{blank_shown}
 use Rattle.flow_core.specs.Flows.{IsStateOf}
 

@@ -1,10 +1,8 @@
 -- Lines that are written one after another.
 use Rattle.std.proofs.Common.{◌≡◌, ℕ, zero, suc, ◌+◌, ◌≤◌, List, [], ◌∷◌, ◌++◌, length, drop, codes, Some, None, arith, refl, ap, sym, subst, ◌∙◌, append_assoc, append-nil}
 use Rattle.std.specs.Prelude.{slice_get, decimal}
-use Rattle.flow_rules.specs.declared.tasks.Task.{Task}
-use Rattle.flow_rules.specs.declared.issues.Issue.{Issue}
-use Rattle.flow_rules.specs.State.{Shown}
-use Rattle.flow_rules.specs.Lines.{line_from, maybe_number, phase_words, issue_words, agent_word, task_lines, issue_lines}
+use Rattle.flow_core_rules.specs.declared.issues.Issue.{Issue}
+use Rattle.flow_core_rules.specs.Lines.{line_from, issue_words, agent_word, issue_lines}
 
 pub drop_at : {A : Type 0} (xs : List A) (n : ℕ) (x : A) → slice_get xs n ≡ Some x → drop n xs ≡ x ∷ drop (suc n) xs
 drop_at [] n x e = absurd (none_some e)
@@ -34,15 +32,3 @@ issue_more xs n x out next whole is step h =
 
 pub issues_end : (xs : List Issue) (n : ℕ) (out whole : List ℕ) → length xs ≤ n → out ++ issue_lines n (drop n xs) ≡ whole → out ≡ whole
 issues_end xs n out whole e h = sym (append-nil out) ∙ ap (λ ys. out ++ issue_lines n ys) (sym (drop_past xs n e)) ∙ h
-
-pub task_more : (s : Shown) (xs : List Task) (n : ℕ) (x : Task) (out next whole : List ℕ) → slice_get xs n ≡ Some x
-    → next ≡ out ++ line_from (codes "task") (decimal n ∷ maybe_number x.parent ∷ phase_words s n x.phase) → out ++ task_lines s n (drop n xs) ≡ whole → next ++ task_lines s (n + 1) (drop (n + 1) xs) ≡ whole
-task_more s xs n x out next whole is step h =
-    let line : List ℕ = line_from (codes "task") (decimal n ∷ maybe_number x.parent ∷ phase_words s n x.phase) in
-    let rest : List ℕ = task_lines s (suc n) (drop (suc n) xs) in
-    let one : suc n ≡ n + 1 = omega arith in
-    subst (λ m. next ++ task_lines s m (drop m xs) ≡ whole) one
-    (ap (λ zs. zs ++ rest) step ∙ append_assoc out line rest ∙ ap (λ ys. out ++ task_lines s n ys) (sym (drop_at xs n x is)) ∙ h)
-
-pub tasks_end : (s : Shown) (xs : List Task) (n : ℕ) (out whole : List ℕ) → length xs ≤ n → out ++ task_lines s n (drop n xs) ≡ whole → out ≡ whole
-tasks_end s xs n out whole e h = sym (append-nil out) ∙ ap (λ ys. out ++ task_lines s n ys) (sym (drop_past xs n e)) ∙ h

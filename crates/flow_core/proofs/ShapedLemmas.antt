@@ -7,28 +7,28 @@ use Rattle.run_records.specs.Ranges.{last_moment}
 use Rattle.run_records.specs.declared.record.Record.{Record}
 use Rattle.run_records.specs.declared.record.Record.TheVariants as entry
 use Rattle.cacao_book.specs.declared.steps.Step.{Step}
-use Rattle.flow_rules.specs.declared.tasks.Task.{Task}
-use Rattle.flow_rules.specs.declared.issues.Issue.{Issue}
-use Rattle.flow_rules.specs.declared.issues.IssuePhase.{IssuePhase}
-use Rattle.flow_rules.specs.declared.issues.IssuePhase.TheVariants as issue_phase
-use Rattle.flow_rules.specs.declared.phases.Phase.{Phase}
-use Rattle.flow_rules.specs.declared.phases.Phase.TheVariants as phase
-use Rattle.flow_rules.specs.Places.{Place, to_filter, to_operator, places, filter_of}
-use Rattle.flow_rules.specs.Filled.{fill, replaced}
-use Rattle.flow_rules.specs.State.{Lists, Shown}
-use Rattle.flow_rules.specs.Edits.{Edit, closed}
-use Rattle.flow_rules.specs.Edits.Edit.{moves, closes, upgrades}
-use Rattle.flow_rules.specs.Tasks.{Here, here_at, in_phase, finish}
-use Rattle.flow_rules.specs.Changes as changes
-use Rattle.flow_rules.specs.Changes.{is_waiting, Waiting, Issuing}
-use Rattle.flow_rules.proofs.PlacedLemmas.{some_if, some_from, map_from}
-use Rattle.flow_rules.proofs.HereLemmas.{here_of, some_at, some_option, IsWaitingAt, waiting_known}
-use Rattle.flow_rules.proofs.ShapeLemmas.{filter_known}
-use Rattle.flow_rules.proofs.QuietLemmas.{IsQuiet, quiet_walked, quiet_written}
-use Rattle.flow_rules.proofs.TaskLemmas.{get_within}
-use Rattle.flow_rules.proofs.IssueLemmas.{WasAt, get_changed}
-use Rattle.flow_rules.proofs.WaitLemmas.{Agree, AwaitedBy, IsFreeOf, is_free_of, not_awaiting, IsCalm, calm_walked, calm_written, finish_free}
-use Rattle.flow_plans.specs.Fits.{NoneWaits}
+use Rattle.flow_core_rules.specs.declared.tasks.Task.{Task}
+use Rattle.flow_core_rules.specs.declared.issues.Issue.{Issue}
+use Rattle.flow_core_rules.specs.declared.issues.IssuePhase.{IssuePhase}
+use Rattle.flow_core_rules.specs.declared.issues.IssuePhase.TheVariants as issue_phase
+use Rattle.flow_core_rules.specs.declared.phases.Phase.{Phase}
+use Rattle.flow_core_rules.specs.declared.phases.Phase.TheVariants as phase
+use Rattle.flow_core_rules.specs.Places.{Place, to_filter, to_operator, places, filter_of}
+use Rattle.flow_core_rules.specs.Filled.{fill, replaced}
+use Rattle.flow_core_rules.specs.State.{Lists, Shown}
+use Rattle.flow_core_rules.specs.Edits.{Edit, closed}
+use Rattle.flow_core_rules.specs.Edits.Edit.{moves, closes, upgrades}
+use Rattle.flow_core_rules.specs.Tasks.{Here, here_at, in_phase, finish}
+use Rattle.flow_core_rules.specs.Changes as changes
+use Rattle.flow_core_rules.specs.Changes.{is_waiting, Waiting, Issuing}
+use Rattle.flow_core_rules.proofs.PlacedLemmas.{some_if, some_from, map_from}
+use Rattle.flow_core_rules.proofs.HereLemmas.{here_of, some_at, some_option, IsWaitingAt, waiting_known}
+use Rattle.flow_core_rules.proofs.ShapeLemmas.{filter_known}
+use Rattle.flow_core_rules.proofs.QuietLemmas.{IsQuiet, quiet_walked, quiet_written}
+use Rattle.flow_core_rules.proofs.TaskLemmas.{get_within}
+use Rattle.flow_core_rules.proofs.IssueLemmas.{WasAt, get_changed}
+use Rattle.flow_core_rules.proofs.WaitLemmas.{Agree, AwaitedBy, IsFreeOf, is_free_of, not_awaiting, IsCalm, calm_walked, calm_written, finish_free}
+use Rattle.flow_core_plans.specs.Fits.{NoneWaits}
 use Rattle.flow_core.proofs.TimelyLemmas.{Timely, timely_walked, timely_written, finish_timely, after_timely}
 use Rattle.flow_core.proofs.EditFits.{Shaped, with_end}
 

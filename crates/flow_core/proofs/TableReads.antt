@@ -1,18 +1,18 @@
 -- What the tables of a run tell of what it shows.
 use Rattle.std.proofs.Common.{◌≡◌, ℕ, zero, suc, ◌+◌, ◌<◌, ◌≤◌, Bool, true, false, cond, List, [], ◌∷◌, length, Option, Some, None, is_some, arith, refl, ap, sym, ◌∙◌}
 use Rattle.std.specs.Prelude.{slice_get, option_and_then, option_map}
-use Rattle.flow_dues.specs.Pairs.{at, rising, is_by, IsFirstBy, IsQueue}
-use Rattle.flow_dues.specs.Least.{sooner}
-use Rattle.flow_rules.specs.declared.tasks.Task.{Task}
-use Rattle.flow_rules.specs.declared.issues.Issue.{Issue}
-use Rattle.flow_rules.specs.declared.phases.Phase.{Phase}
-use Rattle.flow_rules.specs.declared.phases.Phase.TheVariants as phase
-use Rattle.flow_rules.specs.State.{Shown}
-use Rattle.flow_rules.specs.Changes.{is_in_time}
-use Rattle.flow_rules.specs.Sane.{IsSane}
-use Rattle.flow_rules.specs.Moves.{move_at, first_move, enabled_move, ready_at, ready_set, deadlines, deadline_of, has_deadline, due, is_question, asks}
-use Rattle.flow_plans.specs.TableTypes.{Tables}
-use Rattle.flow_plans.specs.TableFacts.{seen_with, HasTables, delay_in}
+use Rattle.base_dues.specs.Pairs.{at, rising, is_by, IsFirstBy, IsQueue}
+use Rattle.base_dues.specs.Least.{sooner}
+use Rattle.flow_core_rules.specs.declared.tasks.Task.{Task}
+use Rattle.flow_core_rules.specs.declared.issues.Issue.{Issue}
+use Rattle.flow_core_rules.specs.declared.phases.Phase.{Phase}
+use Rattle.flow_core_rules.specs.declared.phases.Phase.TheVariants as phase
+use Rattle.flow_core_rules.specs.State.{Shown}
+use Rattle.flow_core_rules.specs.Changes.{is_in_time}
+use Rattle.flow_core_rules.specs.Sane.{IsSane}
+use Rattle.flow_core_rules.specs.Moves.{move_at, first_move, enabled_move, ready_at, ready_set, deadlines, deadline_of, has_deadline, due, is_question, asks}
+use Rattle.flow_core_plans.specs.TableTypes.{Tables}
+use Rattle.flow_core_plans.specs.TableFacts.{seen_with, HasTables, delay_in}
 use Rattle.flow_core.proofs.DueFacts.{due_is, ready_rises, deadlines_rise, first_question_is, first_move_is}
 use Rattle.flow_core.proofs.MoveFacts.{ready_moves}
 

@@ -9,19 +9,19 @@ use Rattle.run_records.specs.Ranges.{last_moment}
 use Rattle.cacao_vars.specs.Scopes.{home}
 use Rattle.cacao_book.specs.declared.step_kinds.StepKind.{StepKind}
 use Rattle.cacao_book.specs.declared.step_kinds.StepKind.TheVariants as does
-use Rattle.flow_rules.specs.declared.tasks.Task.{Task}
-use Rattle.flow_rules.specs.declared.phases.Phase.{Phase}
-use Rattle.flow_rules.specs.declared.phases.Phase.TheVariants as phase
-use Rattle.flow_rules.specs.Givens.{book_with}
-use Rattle.flow_rules.specs.State.{Lists}
-use Rattle.flow_rules.specs.Edits.{Edit}
-use Rattle.flow_rules.specs.Edits.Edit.{opens, writes, makes, moves, issues, closes, upgrades}
-use Rattle.flow_rules.specs.Conditions.{heads, is_true}
-use Rattle.flow_rules.specs.Tasks.{Here, go, finish, child, next_key, exception_of, in_phase}
-use Rattle.flow_rules.specs.Places.{places}
-use Rattle.flow_rules.specs.Changes as changes
-use Rattle.flow_rules.specs.Changes.{is_waiting, Waiting}
-use Rattle.flow_rules.proofs.PlacedLemmas.{some_then, some_if, some_map, two_ways}
+use Rattle.flow_core_rules.specs.declared.tasks.Task.{Task}
+use Rattle.flow_core_rules.specs.declared.phases.Phase.{Phase}
+use Rattle.flow_core_rules.specs.declared.phases.Phase.TheVariants as phase
+use Rattle.flow_core_rules.specs.Givens.{book_with}
+use Rattle.flow_core_rules.specs.State.{Lists}
+use Rattle.flow_core_rules.specs.Edits.{Edit}
+use Rattle.flow_core_rules.specs.Edits.Edit.{opens, writes, makes, moves, issues, closes, upgrades}
+use Rattle.flow_core_rules.specs.Conditions.{heads, is_true}
+use Rattle.flow_core_rules.specs.Tasks.{Here, go, finish, child, next_key, exception_of, in_phase}
+use Rattle.flow_core_rules.specs.Places.{places}
+use Rattle.flow_core_rules.specs.Changes as changes
+use Rattle.flow_core_rules.specs.Changes.{is_waiting, Waiting}
+use Rattle.flow_core_rules.proofs.PlacedLemmas.{some_then, some_if, some_map, two_ways}
 
 abbrev pub IsAtTime : ℕ → Phase → Type 0
 IsAtTime n (phase.At since) = since ≤ last_moment

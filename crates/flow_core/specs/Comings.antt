@@ -1,9 +1,9 @@
--- The record of a move, with the edits that are planned for it.
+-- Scaffold: The record of a move, with the edits that are planned for it.
 use Rattle.std.specs.Prelude.{◌≡◌, ℕ, Some}
-use Rattle.flow_rules.specs.declared.moves.Move.{Move}
-use Rattle.flow_rules.specs.Moves.{record_of}
-use Rattle.flow_rules.specs.State.{Shown}
-use Rattle.flow_plans.specs.Planned.{AreDeclared}
+use Rattle.flow_core_rules.specs.declared.moves.Move.{Move}
+use Rattle.flow_core_rules.specs.Moves.{record_of}
+use Rattle.flow_core_rules.specs.State.{Shown}
+use Rattle.flow_core_plans.specs.Planned.{AreDeclared}
 use Rattle.flow_core.specs.declared.coming.Coming.{Coming}
 use Rattle.flow_core.specs.Views.{AsksText}
 

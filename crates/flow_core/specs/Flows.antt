@@ -1,17 +1,17 @@
--- What a flow keeps, and what contracts see of it.
+-- Promise: What a flow keeps, and what contracts see of it.
 use Rattle.std.specs.Prelude.{◌≡◌, ℕ, zero, suc, ◌+◌, ◌<◌, ◌≤◌, List, length, count_by, Option, Some, None, option_map, ⊤}
 use Rattle.run_records.specs.declared.record.Record.{Record}
 use Rattle.run_records.specs.Ranges.{last_moment}
-use Rattle.flow_rules.specs.State.{State, Shown, shown}
-use Rattle.flow_rules.specs.Edits.{Edit}
-use Rattle.flow_rules.specs.Runs.{Leads}
-use Rattle.flow_rules.specs.Laws.{HasPlacedWrites}
+use Rattle.flow_core_rules.specs.State.{State, Shown, shown}
+use Rattle.flow_core_rules.specs.Edits.{Edit}
+use Rattle.flow_core_rules.specs.Runs.{Leads}
+use Rattle.flow_core_rules.specs.Laws.{HasPlacedWrites}
 use Rattle.flow_core.specs.declared.flow.Flow.TheInside.{Inside}
 use Rattle.flow_core.specs.declared.flow.Plan.{Plan}
-use Rattle.flow_plans.specs.TableTypes.{Tables}
-use Rattle.flow_plans.specs.Planned.{edits_of, AreDeclared}
-use Rattle.flow_plans.specs.TableFacts.{lists_of, seen_with, HasTables, HasRoom}
-use Rattle.flow_plans.specs.RunFacts.{shown_of}
+use Rattle.flow_core_plans.specs.TableTypes.{Tables}
+use Rattle.flow_core_plans.specs.Planned.{edits_of, AreDeclared}
+use Rattle.flow_core_plans.specs.TableFacts.{lists_of, seen_with, HasTables, HasRoom}
+use Rattle.flow_core_plans.specs.RunFacts.{shown_of}
 use Rattle.flow_core.specs.Views.{View, blank_shown, is_makes}
 
 abbrev pub plan_of : Plan → ℕ × List Edit

@@ -2,6 +2,6 @@ pub mod Comings
 pub mod Flows
 pub mod MoveKinds
 pub mod Views
-pub use Rattle.flow_plans.specs.SetupLaws
-pub use Rattle.flow_plans.specs.SetupReading
-pub use Rattle.flow_plans.specs.Setups
+pub use Rattle.flow_core_plans.specs.SetupLaws
+pub use Rattle.flow_core_plans.specs.SetupReading
+pub use Rattle.flow_core_plans.specs.Setups

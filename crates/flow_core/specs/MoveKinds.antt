@@ -1,12 +1,12 @@
--- Which move a task makes that can go on.
+-- Scaffold: Which move a task makes that can go on.
 use Rattle.std.specs.Prelude.{ℕ, Bool, true, false, Option, Some, None, slice_get, if◌then◌else◌}
 use Rattle.cacao_book.specs.declared.steps.Step.{Step}
-use Rattle.flow_rules.specs.declared.phases.Phase.{Phase}
-use Rattle.flow_rules.specs.declared.phases.Phase.TheVariants as phase
-use Rattle.flow_rules.specs.declared.moves.Move.{Move}
-use Rattle.flow_rules.specs.declared.moves.Move.TheVariants as move
-use Rattle.flow_rules.specs.Places.{Place, to_filter, to_operator, places}
-use Rattle.flow_rules.specs.State.{Shown}
+use Rattle.flow_core_rules.specs.declared.phases.Phase.{Phase}
+use Rattle.flow_core_rules.specs.declared.phases.Phase.TheVariants as phase
+use Rattle.flow_core_rules.specs.declared.moves.Move.{Move}
+use Rattle.flow_core_rules.specs.declared.moves.Move.TheVariants as move
+use Rattle.flow_core_rules.specs.Places.{Place, to_filter, to_operator, places}
+use Rattle.flow_core_rules.specs.State.{Shown}
 
 abbrev pub is_operators : Option Place → Bool
 is_operators None = false

@@ -1,20 +1,20 @@
--- What contracts see of a flow, and its answers.
+-- Promise: What contracts see of a flow, and its answers.
 use Rattle.std.specs.Prelude.{◌≡◌, ℕ, suc, ◌+◌, ◌==◌, nat_lt, Bool, true, false, not, List, length, count_by, Option, Some, None, IsSome, Result, Ok, Err, ⊤, option_and_then, if◌then◌else◌}
 use Rattle.std.specs.Str.{IsUtf8}
 use Rattle.std.specs.List.{list_any}
 use Rattle.run_records.specs.declared.record.Record.{Record}
 use Rattle.run_records.specs.declared.record.Record.TheVariants as entry
 use Rattle.run_records.specs.Ranges.{most_text}
-use Rattle.flow_rules.specs.declared.moves.Move.{Move}
-use Rattle.flow_rules.specs.Givens.{Given}
-use Rattle.flow_rules.specs.State.{Shown}
-use Rattle.flow_rules.specs.Edits.{Edit}
-use Rattle.flow_rules.specs.Edits.Edit.{makes, issues}
-use Rattle.flow_rules.specs.Changes.{change, moment_of}
-use Rattle.flow_rules.specs.Runs.{shown_after}
-use Rattle.flow_rules.specs.Moves.{record_of}
-use Rattle.flow_plans.specs.TableFacts.{blank_lists}
-pub use Rattle.flow_plans.specs.Begins.{begins}
+use Rattle.flow_core_rules.specs.declared.moves.Move.{Move}
+use Rattle.flow_core_rules.specs.Givens.{Given}
+use Rattle.flow_core_rules.specs.State.{Shown}
+use Rattle.flow_core_rules.specs.Edits.{Edit}
+use Rattle.flow_core_rules.specs.Edits.Edit.{makes, issues}
+use Rattle.flow_core_rules.specs.Changes.{change, moment_of}
+use Rattle.flow_core_rules.specs.Runs.{shown_after}
+use Rattle.flow_core_rules.specs.Moves.{record_of}
+use Rattle.flow_core_plans.specs.TableFacts.{blank_lists}
+pub use Rattle.flow_core_plans.specs.Begins.{begins}
 use Rattle.flow_core.specs.declared.flow_errors.FlowError.{FlowError}
 use Rattle.flow_core.specs.declared.flow_errors.FlowError.TheVariants as flow_error
 use Rattle.flow_core.specs.declared.flow_errors.LimitKind.{LimitKind}

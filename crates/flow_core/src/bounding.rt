@@ -1,12 +1,12 @@
 // Moves whose command, or question, is too long: they are told before memory is taken for them.
 ghost use Rattle.std.specs.Prelude.{◌≡◌, IfOk, true};
-ghost use Rattle.flow_plans.specs.Sizes.{is_long_move};
+ghost use Rattle.flow_core_plans.specs.Sizes.{is_long_move};
 ghost use Rattle.flow_core.specs.Views.{taken_by, Refuses};
 
 use crate::flow::Flow;
 use crate::flow_errors::{FlowError, LimitKind};
-use flow_plans::setup_law;
-use flow_rules::Move;
+use flow_core_plans::setup_law;
+use flow_core_rules::Move;
 use std::alloc::AllocError;
 
 impl Flow {

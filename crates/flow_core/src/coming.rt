@@ -1,17 +1,17 @@
 // The records of moves, each with what it changes.
 ghost use Rattle.std.specs.Prelude.{◌≡◌, IfErr, IfOk, IfSome, Some, true, option_and_then, option_map};
-ghost use Rattle.flow_rules.specs.Changes.{change, is_in_time};
-ghost use Rattle.flow_rules.specs.Moves.{record_of};
-ghost use Rattle.flow_rules.specs.declared.moves.Move.TheVariants as does_move;
-ghost use Rattle.flow_plans.specs.Planned.{edits_of, AreDeclared};
-ghost use Rattle.flow_plans.specs.RunFacts.{shown_of, IsWell};
+ghost use Rattle.flow_core_rules.specs.Changes.{change, is_in_time};
+ghost use Rattle.flow_core_rules.specs.Moves.{record_of};
+ghost use Rattle.flow_core_rules.specs.declared.moves.Move.TheVariants as does_move;
+ghost use Rattle.flow_core_plans.specs.Planned.{edits_of, AreDeclared};
+ghost use Rattle.flow_core_plans.specs.RunFacts.{shown_of, IsWell};
 ghost use Rattle.flow_core.specs.Comings.{IsOfMove};
 ghost use Rattle.flow_core.specs.Views.{taken, taken_by, Refuses};
 
 use crate::flow::Flow;
 use crate::flow_errors::FlowError;
-use flow_plans::{Planned, Run, next_command, next_question, planned, setup_law};
-use flow_rules::Move;
+use flow_core_plans::{Planned, Run, next_command, next_question, planned, setup_law};
+use flow_core_rules::Move;
 use run_records::Record;
 use std::alloc::{AllocError, Global};
 

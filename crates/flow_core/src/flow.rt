@@ -1,18 +1,20 @@
 // A run that goes on from record to record.
-ghost use Rattle.std.specs.Prelude.{◌≡◌, ◌+◌, ◌<◌, ◌≤◌, length, None, Some, IfOk, IfSome, IfErr, OnOk, OnErr, option_map, true};
+ghost use Rattle.std.specs.Prelude.{◌≡◌, ◌+◌, ◌<◌, None, Some, IfOk, IfSome, OnOk, OnErr, option_map};
 ghost use Rattle.run_records.specs.declared.record.Record.TheVariants as entry;
-ghost use Rattle.flow_rules.specs.Runs.{begin_of};
-ghost use Rattle.flow_rules.specs.Moves.{record_of};
-ghost use Rattle.flow_plans.specs.Planned.{edits_of, AreDeclared};
+ghost use Rattle.flow_core_rules.specs.Runs.{begin_of};
+ghost use Rattle.flow_core_rules.specs.Moves.{record_of};
+ghost use Rattle.flow_core_plans.specs.Planned.{edits_of, AreDeclared};
 ghost use Rattle.flow_core.specs.Flows.{plan_of, HasSizes, IsReached};
-ghost use Rattle.flow_plans.specs.Setups.{IsSetup};
+ghost use Rattle.flow_core_plans.specs.Setups.{IsSetup};
 ghost use Rattle.flow_core.specs.Views.{blank_shown, taken, taken_by, passed, AsksText, IsReadyFor, Takes, Answers};
 
 use crate::coming::Coming;
 use crate::flow_errors::FlowError;
 use crate::limits::{MOST_EDITS, passed};
-use flow_plans::{Planned, Run, Setup, Tables, begin, change, first_change, moment_of, setup_law};
-use flow_rules::Move;
+use flow_core_plans::{
+    Planned, Run, Setup, Tables, begin, change, first_change, moment_of, setup_law,
+};
+use flow_core_rules::Move;
 use run_records::Record;
 use std::alloc::{AllocError, Global};
 use std::marker::Model;

@@ -10,8 +10,8 @@ mod moves;
 mod report;
 mod telling;
 
+pub use base_dues::Dues;
 pub use flow::Flow;
-pub use flow_dues::Dues;
+pub use flow_core_plans::{Setup, SetupError, accepted_again, accepted_is_runnable, setup_law};
+pub use flow_core_rules::Move;
 pub use flow_errors::{FlowError, LimitKind};
-pub use flow_plans::{Setup, SetupError, accepted_again, accepted_is_runnable, setup_law};
-pub use flow_rules::Move;

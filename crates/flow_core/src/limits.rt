@@ -1,12 +1,12 @@
 // The limits of a record.
 ghost use Rattle.std.specs.Prelude.{◌≡◌, ◌≤◌, length, count_by};
 ghost use Rattle.std.specs.List.{list_any};
-ghost use Rattle.flow_rules.specs.State.{Shown};
-ghost use Rattle.flow_plans.specs.Planned.{edit_of, edits_of};
+ghost use Rattle.flow_core_rules.specs.State.{Shown};
+ghost use Rattle.flow_core_plans.specs.Planned.{edit_of, edits_of};
 ghost use Rattle.flow_core.specs.Views.{is_makes, is_long_command, passed};
 
 use crate::flow_errors::LimitKind;
-use flow_plans::{MOST_COMMAND, Planned};
+use flow_core_plans::{MOST_COMMAND, Planned};
 
 /// The most tasks of a run.
 const MOST_TASKS: usize = 1_000_000;

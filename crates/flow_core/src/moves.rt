@@ -1,20 +1,20 @@
 // The moves that a flow makes by itself, and what it waits for. No call here takes memory.
 ghost use Rattle.std.specs.Prelude.{◌≡◌, true, is_some, slice_get, option_map};
-ghost use Rattle.flow_rules.specs.Moves.{enabled_move, due, asks, ready_set, deadlines, move_at};
-ghost use Rattle.flow_rules.specs.Places.{places};
-ghost use Rattle.flow_rules.specs.Sane.{IsNotStuck};
-ghost use Rattle.flow_rules.specs.Waiting.{AlwaysWaits};
+ghost use Rattle.flow_core_rules.specs.Moves.{enabled_move, due, asks, ready_set, deadlines, move_at};
+ghost use Rattle.flow_core_rules.specs.Places.{places};
+ghost use Rattle.flow_core_rules.specs.Sane.{IsNotStuck};
+ghost use Rattle.flow_core_rules.specs.Waiting.{AlwaysWaits};
 ghost use Rattle.flow_core.specs.MoveKinds.{is_operators};
-ghost use Rattle.flow_dues.specs.Pairs.{IsQueue, rising};
-ghost use Rattle.flow_dues.specs.Least.{sooner};
-ghost use Rattle.flow_plans.specs.RunFacts.{shown_of};
+ghost use Rattle.base_dues.specs.Pairs.{IsQueue, rising};
+ghost use Rattle.base_dues.specs.Least.{sooner};
+ghost use Rattle.flow_core_plans.specs.RunFacts.{shown_of};
 ghost use Rattle.flow_core.specs.Views.{has_begun};
 
 use crate::flow::Flow;
+use base_dues::Dues;
 use cacao_book::StepKind;
-use flow_dues::Dues;
-use flow_plans::{Place, Run, place_in, setup_law};
-use flow_rules::{Move, Phase};
+use flow_core_plans::{Place, Run, place_in, setup_law};
+use flow_core_rules::{Move, Phase};
 
 /// The lesser of two moments, where there are any.
 fn sooner(one: Option<u64>, other: Option<u64>) -> Option<u64>

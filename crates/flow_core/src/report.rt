@@ -1,16 +1,16 @@
 // The lines that tell of a run.
-ghost use Rattle.std.specs.Prelude.{◌≡◌, ◌∷◌, ◌++◌, ◌≤◌, [], ℕ, IfOk, OnOk, codes, decimal, true, length, slice_get, unwrap_or, Some};
-ghost use Rattle.flow_rules.specs.Lines.{report, line_from, line, maybe_number, phase_words, issue_words, agent_word, maybe_text, outcome_words, well_words, key_of, task_lines, issue_lines, variable_lines};
-ghost use Rattle.flow_rules.specs.Changes.{outcome};
-ghost use Rattle.flow_plans.specs.RunFacts.{shown_of};
+ghost use Rattle.std.specs.Prelude.{◌≡◌, ◌∷◌, ◌++◌, [], ℕ, IfOk, OnOk, codes, decimal, true, slice_get, unwrap_or, Some};
+ghost use Rattle.flow_core_rules.specs.Lines.{report, line_from, line, maybe_number, phase_words, issue_words, agent_word, maybe_text, outcome_words, well_words, key_of, task_lines, issue_lines, variable_lines};
+ghost use Rattle.flow_core_rules.specs.Changes.{outcome};
+ghost use Rattle.flow_core_plans.specs.RunFacts.{shown_of};
 ghost use Rattle.flow_core.specs.Views.{has_begun};
 
 use crate::flow::Flow;
 use cacao_site::Bytes;
 use cacao_text::canonical_string;
 use cacao_vars::{Name, Word};
-use flow_plans::Run;
-use flow_rules::{Issue, IssuePhase, Phase, Task};
+use flow_core_plans::Run;
+use flow_core_rules::{Issue, IssuePhase, Phase, Task};
 use itoa::Buffer;
 use std::alloc::{AllocError, Global};
 use std::collections::BTreeMap;

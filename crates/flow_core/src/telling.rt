@@ -1,15 +1,15 @@
 // What a flow tells of its run. No call here takes memory.
-ghost use Rattle.std.specs.Prelude.{◌≡◌, ◌≢◌, ◌<◌, IfSome, Some, true, false, length, slice_get, option_map};
+ghost use Rattle.std.specs.Prelude.{◌≡◌, ◌≢◌, ◌<◌, Some, true, false, length, slice_get, option_map};
 ghost use Rattle.std.specs.Option.{option_map_or};
-ghost use Rattle.flow_rules.specs.declared.issues.Issue.{Issue};
-ghost use Rattle.flow_rules.specs.Changes.{outcome, is_waiting};
-ghost use Rattle.flow_rules.specs.Lines.{key_of};
-ghost use Rattle.flow_rules.specs.Moves.{deadline_of};
+ghost use Rattle.flow_core_rules.specs.declared.issues.Issue.{Issue};
+ghost use Rattle.flow_core_rules.specs.Changes.{outcome, is_waiting};
+ghost use Rattle.flow_core_rules.specs.Lines.{key_of};
+ghost use Rattle.flow_core_rules.specs.Moves.{deadline_of};
 
 use crate::flow::Flow;
 use cacao_vars::{Name, Word};
-use flow_plans::Setup;
-use flow_rules::IssuePhase;
+use flow_core_plans::Setup;
+use flow_core_rules::IssuePhase;
 use std::collections::BTreeMap;
 
 impl Flow {

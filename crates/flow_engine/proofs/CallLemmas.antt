@@ -3,22 +3,21 @@ use Rattle.std.proofs.Common.{◌≡◌, ℕ, zero, suc, ◌==◌, Bool, false, 
 use Rattle.std.specs.Prelude.{slice_get}
 use Rattle.cacao_site.specs.View.{SiteView}
 use Rattle.run_records.specs.declared.record.Record.{Record}
-use Rattle.flow_rules.specs.declared.issues.Issue.{Issue}
-use Rattle.flow_rules.specs.Changes.{change, moment_of}
-use Rattle.flow_rules.specs.Edits.{Edit, all_edited, all_shown_edited, edited, shown_edited, changed_at, closed}
-use Rattle.flow_rules.specs.Edits.Edit.{opens, writes, makes, moves, issues, closes, upgrades}
-use Rattle.flow_rules.specs.Laws.{KeepsIssues, RecordsKeepIssues}
-use Rattle.flow_rules.specs.declared.moves.Move.{Move}
-use Rattle.flow_rules.specs.Moves.{enabled_move}
-use Rattle.flow_rules.specs.Runs.{Next, after, shown_after}
-use Rattle.flow_rules.specs.State.{Lists, Shown, State}
+use Rattle.flow_core_rules.specs.declared.issues.Issue.{Issue}
+use Rattle.flow_core_rules.specs.Changes.{change, moment_of}
+use Rattle.flow_core_rules.specs.Edits.{Edit, all_edited, all_shown_edited, edited, shown_edited, changed_at, closed}
+use Rattle.flow_core_rules.specs.Edits.Edit.{opens, writes, makes, moves, issues, closes, upgrades}
+use Rattle.flow_core_rules.specs.Laws.{KeepsIssues, RecordsKeepIssues}
+use Rattle.flow_core_rules.specs.declared.moves.Move.{Move}
+use Rattle.flow_core_rules.specs.Moves.{enabled_move}
+use Rattle.flow_core_rules.specs.Runs.{Next, after, shown_after}
+use Rattle.flow_core_rules.specs.State.{Lists, Shown, State}
 use Rattle.flow_core.specs.Flows.{IsReached}
 use Rattle.flow_core.specs.Views.{View, begins, taken}
-use Rattle.engine_history.specs.HistoryCalls.{Adds, Is, IsOfMove, MayCome, Refuses}
-use Rattle.engine_history.specs.HistoryView.{HistoryView, flow_of}
-use Rattle.engine_history.specs.declared.error.EngineError.{EngineError}
-use Rattle.engine_history.specs.declared.error.EngineError.TheVariants as refused
-use Rattle.engine_history.proofs.KindLemmas.{adds_as, refuses_as}
+use Rattle.flow_engine_history.specs.HistoryCalls.{Adds, Is, IsOfMove, MayCome}
+use Rattle.flow_engine_history.specs.HistoryView.{HistoryView, flow_of}
+use Rattle.flow_engine_history.specs.declared.error.EngineError.{EngineError}
+use Rattle.flow_engine_history.proofs.KindLemmas.{adds_as, refuses_as}
 use Rattle.flow_engine.specs.EngineCalls.{Appends, IsMove, IsStanding, Refused}
 use Rattle.flow_engine.specs.EngineView.{EngineView}
 use Rattle.flow_engine.specs.OpenIssues.{ArePut, OpenIssues, without_ended}
@@ -120,16 +119,3 @@ pub puts_kept : RecordsKeepIssues → (v : EngineView) (h k : HistoryView) (p q 
     → Adds h k (Is next) old new → ArePut h.seen p → q ≡ without_ended p next → ArePut k.seen q
 puts_kept law v h k p q next old new is standing adds puts ended =
     subst (ArePut k.seen) (sym ended) (puts_appended law h k next p old new (subst IsStanding (ap (λ (x : EngineView). x.history) (sym is)) standing) adds puts)
-
-pub run_appended : (h k : HistoryView) (IsNext : Record → Type 0) (old new : SiteView) → Adds h k IsNext old new → k.seen.run ≡ h.seen.run
-run_appended h k IsNext old new adds = ap (λ (x : HistoryView). x.seen.run) adds.view
-
--- a refusal leaves what is shown
-pub seen_refused : (h k : HistoryView) (IsNext : Record → Type 0) (error : EngineError) (old new : SiteView) → Refuses h k IsNext error old new → k.seen ≡ h.seen
-seen_refused h k IsNext refused.Disk old new r = ap (λ (x : HistoryView). x.seen) r.1
-seen_refused h k IsNext (refused.Damaged place) old new r = absurd r
-seen_refused h k IsNext (refused.OtherRun held asked) old new r = absurd r
-seen_refused h k IsNext (refused.OtherBook index) old new r = absurd r
-seen_refused h k IsNext (refused.Limit what) old new r = ap (λ (x : HistoryView). x.seen) r.1
-seen_refused h k IsNext refused.Broken old new r = ap (λ (x : HistoryView). x.seen) r.1
-seen_refused h k IsNext refused.Memory old new r = ap (λ (x : HistoryView). x.seen) r.1

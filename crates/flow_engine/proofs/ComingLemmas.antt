@@ -17,30 +17,30 @@ use Rattle.run_records.specs.Layout.{layout}
 use Rattle.run_records.specs.declared.record.Record.{Record}
 use Rattle.run_records.specs.declared.record.Record.TheVariants as entry
 use Rattle.run_records.specs.Ranges.{IsShort, last_moment, most_text}
-use Rattle.flow_rules.specs.declared.issues.Issue.{Issue}
-use Rattle.flow_rules.specs.declared.moves.Move.{Move}
-use Rattle.flow_rules.specs.declared.moves.Move.TheVariants as move
-use Rattle.flow_rules.specs.Changes.{Issuing, change, is_answer, is_final, is_in_time, is_waiting, moment_of, next_command, next_question, outcome, upgrade}
-use Rattle.flow_rules.specs.Edits.{Edit}
-use Rattle.flow_rules.specs.Edits.Edit.{opens, writes, makes, issues, upgrades}
-use Rattle.flow_rules.specs.Givens.{Given}
-use Rattle.flow_rules.specs.Laws.{EnabledAreInRange, HasFitFields, HasRecord, MovesAreEnabled, RunsAreSane, WaitingCanEnd}
-use Rattle.flow_rules.specs.Moves.{deadline_of, enabled_move, record_of}
-use Rattle.flow_rules.specs.Runs.{begin_of, first_edits, first_task}
-use Rattle.flow_rules.specs.Sane.{CanEnd, IsSane}
-use Rattle.flow_rules.specs.State.{Shown}
-use Rattle.flow_rules.proofs.ShapeLemmas.{Issued, Sent, change_shape}
+use Rattle.flow_core_rules.specs.declared.issues.Issue.{Issue}
+use Rattle.flow_core_rules.specs.declared.moves.Move.{Move}
+use Rattle.flow_core_rules.specs.declared.moves.Move.TheVariants as move
+use Rattle.flow_core_rules.specs.Changes.{Issuing, change, is_answer, is_final, is_in_time, is_waiting, moment_of, next_command, next_question, outcome, upgrade}
+use Rattle.flow_core_rules.specs.Edits.{Edit}
+use Rattle.flow_core_rules.specs.Edits.Edit.{opens, writes, makes, issues, upgrades}
+use Rattle.flow_core_rules.specs.Givens.{Given}
+use Rattle.flow_core_rules.specs.Laws.{EnabledAreInRange, HasFitFields, HasRecord, MovesAreEnabled, RunsAreSane, WaitingCanEnd}
+use Rattle.flow_core_rules.specs.Moves.{deadline_of, enabled_move, record_of}
+use Rattle.flow_core_rules.specs.Runs.{begin_of, first_edits, first_task}
+use Rattle.flow_core_rules.specs.Sane.{CanEnd, IsSane}
+use Rattle.flow_core_rules.specs.State.{Shown}
+use Rattle.flow_core_rules.proofs.ShapeLemmas.{Issued, Sent, change_shape}
 use Rattle.flow_core.specs.Flows.{HasSizes, IsReached, IsStateOf}
 use Rattle.flow_core.specs.Setups.{IsReadable, IsSetup}
 use Rattle.flow_core.specs.Views.{AsksText, View, begins, blank_shown, is_long_command, most_tasks, is_makes, passed, taken, taken_by}
 use Rattle.flow_core.specs.declared.flow_errors.LimitKind.{LimitKind}
 use Rattle.flow_core.specs.declared.flow_errors.LimitKind.TheVariants as limit
 use Rattle.flow_core.proofs.FlowLemmas.{reached_state}
-use Rattle.engine_history.specs.HistoryCalls.{MayMove, with_record}
-use Rattle.engine_history.specs.HistoryView.{HistoryView, entries_of, flow_of}
-use Rattle.engine_history.specs.Histories.{IsHistory}
-use Rattle.operator_answers.specs.Answers.{IsOperatorAnswer}
-use Rattle.operator_answers.specs.declared.answers.OperatorAnswer.{OperatorAnswer}
+use Rattle.flow_engine_history.specs.HistoryCalls.{MayMove, with_record}
+use Rattle.flow_engine_history.specs.HistoryView.{HistoryView, entries_of, flow_of}
+use Rattle.flow_engine_history.specs.Histories.{IsHistory}
+use Rattle.flow_engine_answers.specs.Answers.{IsOperatorAnswer}
+use Rattle.flow_engine_answers.specs.declared.answers.OperatorAnswer.{OperatorAnswer}
 use Rattle.flow_engine.specs.EngineCalls.{IsComing, IsStanding, IsWaiting}
 use Rattle.flow_engine.specs.OpenIssues.{ArePut, IsPut, OpenIssues, puts_of}
 

@@ -2,8 +2,8 @@
 use Rattle.std.proofs.Common.{◌≡◌, inl, inr, ℕ, ◌==◌, ◌<◌, ◌&&◌, ◌||◌, nat_lt, Bool, true, false, cond, List, [], ◌∷◌, Option, Some, None, arith, refl, ap, sym, subst, ◌∙◌}
 use Rattle.std.specs.Prelude.{slice_get, option_and_then}
 use Rattle.std.specs.List.{AllByRecursion}
-use Rattle.flow_rules.proofs.RunLemmas.{some_inner}
-use Rattle.flow_dues.specs.Pairs.{Due, at, comes_first, IsQueue}
+use Rattle.flow_core_rules.proofs.RunLemmas.{some_inner}
+use Rattle.base_dues.specs.Pairs.{Due, at, comes_first, IsQueue}
 use Rattle.flow_engine.specs.declared.puts.Puts.{Puts}
 use Rattle.flow_engine.specs.OpenIssues.{OpenIssues, puts_of, resend_of, IsNextPut, IsNoLater}
 

@@ -3,13 +3,13 @@ use Rattle.std.proofs.Common.{◌≡◌, ◌≢◌, ℕ, zero, suc, ◌==◌, �
 use Rattle.std.specs.Prelude.{slice_get, option_and_then, option_map, IfSome}
 use Rattle.std.proofs.lemmas.List.Elements.{All-contains}
 use Rattle.std.proofs.lemmas.Map.Views.{Contains-from_lookup}
-use Rattle.flow_rules.proofs.RunLemmas.{some_inner}
-use Rattle.flow_dues.specs.Pairs.{Due, at, rising, is_by, IsFirstBy}
-use Rattle.flow_dues.proofs.ListedLemmas.{at-rising_pairs}
-use Rattle.flow_rules.specs.declared.issues.Issue.{Issue}
-use Rattle.flow_rules.specs.State.{Shown}
-use Rattle.flow_rules.specs.Changes.{is_waiting}
-use Rattle.flow_rules.specs.Moves.{deadline_of, deadlines, has_deadline}
+use Rattle.flow_core_rules.proofs.RunLemmas.{some_inner}
+use Rattle.base_dues.specs.Pairs.{Due, at, rising, is_by, IsFirstBy}
+use Rattle.base_dues.proofs.ListedLemmas.{at-rising_pairs}
+use Rattle.flow_core_rules.specs.declared.issues.Issue.{Issue}
+use Rattle.flow_core_rules.specs.State.{Shown}
+use Rattle.flow_core_rules.specs.Changes.{is_waiting}
+use Rattle.flow_core_rules.specs.Moves.{deadline_of, deadlines, has_deadline}
 use Rattle.flow_core.proofs.DueFacts.{deadline_pairs}
 use Rattle.flow_engine.specs.declared.puts.Puts.{Puts}
 use Rattle.flow_engine.specs.EngineView.{EngineView}

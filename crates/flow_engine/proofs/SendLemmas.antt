@@ -14,13 +14,13 @@ use Rattle.run_records.specs.declared.record.Record.TheVariants as entry
 use Rattle.run_records.specs.Ranges.{InRange}
 use Rattle.run_journal.specs.Durable.{IsImage}
 use Rattle.run_journal.proofs.DurableLemmas.{images_stay}
-use Rattle.flow_rules.specs.declared.issues.Issue.{Issue}
-use Rattle.flow_rules.specs.Laws.{HasRecords, IssuesHaveRecords, record_of_issue}
-use Rattle.flow_rules.specs.Runnable.{IsRunnable}
-use Rattle.flow_rules.specs.State.{Shown}
+use Rattle.flow_core_rules.specs.declared.issues.Issue.{Issue}
+use Rattle.flow_core_rules.specs.Laws.{HasRecords, IssuesHaveRecords, record_of_issue}
+use Rattle.flow_core_rules.specs.Runnable.{IsRunnable}
+use Rattle.flow_core_rules.specs.State.{Shown}
 use Rattle.flow_core.specs.SetupLaws.{AcceptedIsRunnable}
-use Rattle.engine_history.specs.HistoryView.{HistoryView, IsReady, entries_of}
-use Rattle.engine_history.specs.Histories.{IsHistory, IsSoFar}
+use Rattle.flow_engine_history.specs.HistoryView.{HistoryView, IsReady, entries_of}
+use Rattle.flow_engine_history.specs.Histories.{IsHistory, IsSoFar}
 use Rattle.flow_engine.specs.declared.puts.Puts.{Puts}
 use Rattle.flow_engine.specs.EngineCalls.{IsOpen, IsWaiting}
 use Rattle.flow_engine.specs.KeptPuts.{AreCounted, IsCounted}

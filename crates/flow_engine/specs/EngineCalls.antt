@@ -1,4 +1,4 @@
--- What the calls of an engine do.
+-- Promise: What the calls of an engine do.
 use Rattle.std.specs.Prelude.{◌≡◌, ◌≢◌, ℕ, ◌<◌, ◌≤◌, true, false, List, [], length, Option, Some, IsSome, option_and_then, option_map, slice_get}
 use Rattle.cacao_site.specs.declared.parcel.Parcel.{Parcel}
 use Rattle.cacao_site.specs.SiteCalls.{Puts}
@@ -8,19 +8,19 @@ use Rattle.oc2_msg.specs.Responses.{answer}
 use Rattle.run_records.specs.Ranges.{InRange}
 use Rattle.run_records.specs.declared.record.Record.{Record}
 use Rattle.run_records.specs.declared.record.Record.TheVariants as entry
-use Rattle.flow_rules.specs.Changes.{is_waiting}
-use Rattle.flow_rules.specs.Laws.{HasRecords}
-use Rattle.flow_rules.specs.Moves.{deadline_of, enabled_move, record_of}
-use Rattle.flow_rules.specs.Runs.{begin_of}
-use Rattle.flow_rules.specs.State.{Shown}
-use Rattle.flow_rules.specs.declared.issues.Issue.{Issue}
-use Rattle.flow_rules.specs.declared.moves.Move.{Move}
+use Rattle.flow_core_rules.specs.Changes.{is_waiting}
+use Rattle.flow_core_rules.specs.Laws.{HasRecords}
+use Rattle.flow_core_rules.specs.Moves.{deadline_of, enabled_move, record_of}
+use Rattle.flow_core_rules.specs.Runs.{begin_of}
+use Rattle.flow_core_rules.specs.State.{Shown}
+use Rattle.flow_core_rules.specs.declared.issues.Issue.{Issue}
+use Rattle.flow_core_rules.specs.declared.moves.Move.{Move}
 use Rattle.flow_core.specs.Flows.{HasSizes, IsReached}
 use Rattle.flow_core.specs.Setups.{IsSetup}
 use Rattle.flow_core.specs.Views.{taken}
-use Rattle.engine_history.specs.HistoryCalls.{Adds, Refuses}
-use Rattle.engine_history.specs.HistoryView.{HistoryView, flow_of}
-use Rattle.engine_history.specs.declared.error.EngineError.{EngineError}
+use Rattle.flow_engine_history.specs.HistoryCalls.{Adds, Refuses}
+use Rattle.flow_engine_history.specs.HistoryView.{HistoryView, flow_of}
+use Rattle.flow_engine_history.specs.declared.error.EngineError.{EngineError}
 use Rattle.flow_engine.specs.EngineView.{EngineView}
 use Rattle.flow_engine.specs.OpenIssues.{puts_of, with_put, without_ended}
 

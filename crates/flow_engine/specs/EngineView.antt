@@ -1,5 +1,5 @@
--- What contracts see of an engine.
-use Rattle.engine_history.specs.HistoryView.{HistoryView}
+-- Promise: What contracts see of an engine.
+use Rattle.flow_engine_history.specs.HistoryView.{HistoryView}
 use Rattle.flow_engine.specs.OpenIssues.{OpenIssues}
 
 pub record EngineView : Type 0 where

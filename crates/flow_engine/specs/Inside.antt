@@ -1,4 +1,4 @@
--- What an `Engine` keeps.
+-- Promise: What an `Engine` keeps.
 use Rattle.flow_engine.specs.declared.engine.Engine.TheInside.{Inside}
 use Rattle.flow_engine.specs.EngineView.{EngineView}
 use Rattle.flow_engine.specs.OpenIssues.{ArePut}

@@ -1,9 +1,9 @@
--- What `OpenPuts` keep: the moments of the next puts, beside the map.
+-- Promise: What `OpenPuts` keep: the moments of the next puts, beside the map.
 use Rattle.std.specs.Prelude.{◌≡◌, ℕ, ◌≤◌, Some, nat_eq, option_and_then}
 use Rattle.std.specs.List.{IsDistinct}
 use Rattle.std.specs.Map.{keys_of}
 use Rattle.run_records.specs.Ranges.{last_moment}
-use Rattle.flow_dues.specs.Pairs.{at}
+use Rattle.base_dues.specs.Pairs.{at}
 use Rattle.flow_engine.specs.declared.open_puts.OpenPuts.TheInside.{Inside}
 use Rattle.flow_engine.specs.declared.puts.Puts.{Puts}
 use Rattle.flow_engine.specs.OpenIssues.{OpenIssues, most_puts, puts_of, resend_of}

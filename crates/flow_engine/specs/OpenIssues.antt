@@ -1,14 +1,14 @@
--- Issues that were put and wait: when each was put last, and how often.
+-- Promise: Issues that were put and wait: when each was put last, and how often.
 use Rattle.std.specs.Prelude.{◌≡◌, ◌≢◌, ◌⊎◌, ℕ, ◌+◌, ◌<◌, ◌≤◌, nat_lt, min, true, List, All, AllPairs, Option, Some, None, nat_eq, slice_get, if◌then◌else◌}
 use Rattle.std.specs.Map.{lookup}
 use Rattle.std.specs.Option.{option_map_or}
 use Rattle.indexmap.specs.IndexMap.{insert_entry, swap_remove_entry}
 use Rattle.run_records.specs.declared.record.Record.{Record}
 use Rattle.run_records.specs.Ranges.{last_moment}
-use Rattle.flow_rules.specs.Changes.{is_waiting}
-use Rattle.flow_rules.specs.Laws.{ended_by}
-use Rattle.flow_rules.specs.State.{Shown}
-use Rattle.flow_rules.specs.declared.issues.Issue.{Issue}
+use Rattle.flow_core_rules.specs.Changes.{is_waiting}
+use Rattle.flow_core_rules.specs.Laws.{ended_by}
+use Rattle.flow_core_rules.specs.State.{Shown}
+use Rattle.flow_core_rules.specs.declared.issues.Issue.{Issue}
 use Rattle.flow_engine.specs.declared.puts.Puts.{Puts}
 
 -- Issues by number, each with its puts. Their order is that of the map that keeps them, and says nothing.

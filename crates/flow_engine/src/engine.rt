@@ -1,12 +1,12 @@
 // The engine.
 ghost use Rattle.std.specs.Prelude.{◌≡◌, ◌≢◌, ◌↔◌, ◌+◌, ◌/◌, ◌<◌, ◌≤◌, [], length, false, Some, Err, slice_get, IsTrue, IsSome, IfOk, IfErr, IfSome};
 ghost use Rattle.cacao_site.specs.DiskCalls.{IsDurable, IsLeft, OnlyFile};
-ghost use Rattle.flow_dues.specs.Pairs.{is_by, IsFirstBy};
-ghost use Rattle.flow_rules.specs.Moves.{deadline_of};
-ghost use Rattle.flow_rules.specs.declared.issues.Issue.{Issue};
-ghost use Rattle.engine_history.specs.HistoryView.{HoldsRecords, IsReady};
-ghost use Rattle.engine_history.specs.Histories.{IsHistory, IsLineAt};
-ghost use Rattle.engine_history.specs.Openings.{IsRefusedOpening};
+ghost use Rattle.base_dues.specs.Pairs.{is_by, IsFirstBy};
+ghost use Rattle.flow_core_rules.specs.Moves.{deadline_of};
+ghost use Rattle.flow_core_rules.specs.declared.issues.Issue.{Issue};
+ghost use Rattle.flow_engine_history.specs.HistoryView.{HoldsRecords, IsReady};
+ghost use Rattle.flow_engine_history.specs.Histories.{IsHistory, IsLineAt};
+ghost use Rattle.flow_engine_history.specs.Openings.{IsRefusedOpening};
 ghost use Rattle.flow_engine.specs.EngineCalls.{put_deadline, IsWaiting};
 ghost use Rattle.flow_engine.specs.EngineView.{EngineView};
 ghost use Rattle.flow_engine.specs.OpenIssues.{puts_of, ArePut, IsNextPut};
@@ -14,8 +14,8 @@ ghost use Rattle.flow_engine.specs.OpenIssues.{puts_of, ArePut, IsNextPut};
 use crate::open_puts::OpenPuts;
 use crate::puts::Puts;
 use cacao_site::{Bytes, Disk};
-use engine_history::{EngineError, History};
 use flow_core::{Flow, Setup};
+use flow_engine_history::{EngineError, History};
 use indexmap::IndexMap;
 use std::alloc::{AllocError, Global};
 use std::marker::Model;

@@ -2,13 +2,13 @@
 ghost use Rattle.std.specs.Prelude.{◌≡◌, ◌+◌, ◌<◌, ◌≤◌, ◌==◌, ℕ, min, nat_eq, false, [], IfSome, OnOk, OnErr, if◌then◌else◌};
 ghost use Rattle.indexmap.specs.IndexMap.{swap_remove_entry};
 ghost use Rattle.run_records.specs.Ranges.{last_moment};
-ghost use Rattle.flow_rules.specs.Laws.{ended_by};
-ghost use Rattle.flow_dues.specs.Pairs.{at};
+ghost use Rattle.flow_core_rules.specs.Laws.{ended_by};
+ghost use Rattle.base_dues.specs.Pairs.{at};
 ghost use Rattle.flow_engine.specs.KeptPuts.{AreCounted, IsCounted};
 ghost use Rattle.flow_engine.specs.OpenIssues.{count_of, most_puts, puts_of, resend_of, with_put, without_ended, IsNextPut};
 
 use crate::puts::Puts;
-use flow_dues::Dues;
+use base_dues::Dues;
 use indexmap::IndexMap;
 use run_records::Record;
 use std::alloc::{AllocError, Global};

@@ -1,29 +1,28 @@
 // The calls that append a record.
-ghost use Rattle.std.specs.Prelude.{◌≡◌, ◌≢◌, ◌≤◌, [], ℕ, None, Some, true, false, Ok, IfOk, IfErr, OnOk, IsSome, IfSome, MatchOption, length, slice_get};
+ghost use Rattle.std.specs.Prelude.{◌≡◌, ◌≢◌, ◌≤◌, [], None, Some, true, false, Ok, IfOk, IfErr, OnOk, IsSome, IfSome, MatchOption, length, slice_get};
 ghost use Rattle.oc2_msg.specs.declared.answers.Answer.{Answer};
 ghost use Rattle.oc2_msg.specs.Ranges.{AnswerInRange};
-ghost use Rattle.run_records.specs.Ranges.{InRange, last_moment};
+ghost use Rattle.run_records.specs.Ranges.{last_moment};
 ghost use Rattle.run_records.specs.declared.record.Record.TheVariants as entry;
-ghost use Rattle.flow_rules.specs.Changes.{is_in_time, is_waiting, outcome};
-ghost use Rattle.flow_rules.specs.Moves.{deadline_of, enabled_move};
-ghost use Rattle.flow_rules.specs.declared.issues.Issue.{Issue};
+ghost use Rattle.flow_core_rules.specs.Changes.{is_in_time, is_waiting, outcome};
+ghost use Rattle.flow_core_rules.specs.Moves.{deadline_of, enabled_move};
+ghost use Rattle.flow_core_rules.specs.declared.issues.Issue.{Issue};
 ghost use Rattle.flow_core.specs.Views.{taken};
-ghost use Rattle.engine_history.specs.HistoryCalls.{Is, MayMove};
-ghost use Rattle.engine_history.specs.HistoryView.{IsReady, flow_of};
-ghost use Rattle.operator_answers.specs.Answers.{IsOperatorAnswer};
+ghost use Rattle.flow_engine_history.specs.HistoryCalls.{Is, MayMove};
+ghost use Rattle.flow_engine_history.specs.HistoryView.{IsReady, flow_of};
+ghost use Rattle.flow_engine_answers.specs.Answers.{IsOperatorAnswer};
 ghost use Rattle.flow_engine.specs.EngineCalls.{Appends, IsBeginning, IsComing, IsFinal, IsFromFilter, IsMove, IsReply, IsReplyTo, IsStanding, IsWaiting, Refused};
-ghost use Rattle.flow_engine.specs.EngineView.{EngineView};
 ghost use Rattle.flow_engine.specs.OpenIssues.{puts_of};
 
 use crate::engine::Engine;
 use cacao_site::{Bytes, Disk, Parcel, Site};
-use engine_history::EngineError;
 use flow_core::{Flow, Move};
-use flow_rules::{
+use flow_core_rules::{
     moves_are_in_range, moves_have_records, records_keep_issues, runs_are_sane, waiting_can_end,
 };
+use flow_engine_answers::OperatorAnswer;
+use flow_engine_history::EngineError;
 use oc2_msg::{Answer, ResponseError, read_response};
-use operator_answers::OperatorAnswer;
 use run_records::Record;
 use std::alloc::{AllocError, Global};
 

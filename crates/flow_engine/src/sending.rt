@@ -1,16 +1,15 @@
 // The sending of commands.
-ghost use Rattle.std.specs.Prelude.{◌≡◌, ◌≢◌, ◌⊎◌, ◌<◌, true, false, Some, IfOk, OnOk, OnErr, IsErrOf, length, slice_get};
-ghost use Rattle.flow_rules.specs.Changes.{is_in_time};
-ghost use Rattle.flow_rules.specs.declared.issues.Issue.{Issue};
-ghost use Rattle.engine_history.specs.HistoryView.{IsReady};
+ghost use Rattle.std.specs.Prelude.{◌≡◌, ◌⊎◌, ◌<◌, true, false, Some, IfOk, OnOk, OnErr, IsErrOf, length, slice_get};
+ghost use Rattle.flow_core_rules.specs.Changes.{is_in_time};
+ghost use Rattle.flow_core_rules.specs.declared.issues.Issue.{Issue};
+ghost use Rattle.flow_engine_history.specs.HistoryView.{IsReady};
 ghost use Rattle.flow_engine.specs.EngineCalls.{IsWaiting, Sends, command_of};
-ghost use Rattle.flow_engine.specs.EngineView.{EngineView};
 
 use crate::engine::Engine;
 use cacao_site::{Bytes, Parcel, Site};
-use engine_history::EngineError;
 use flow_core::accepted_is_runnable;
-use flow_rules::issues_have_records;
+use flow_core_rules::issues_have_records;
+use flow_engine_history::EngineError;
 use std::alloc::AllocError;
 
 impl Engine {

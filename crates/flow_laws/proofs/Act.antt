@@ -7,8 +7,8 @@ use Rattle.cacao_site.specs.declared.parcel.Parcel.{Parcel}
 use Rattle.cacao_site.specs.DiskCalls.{IsLeft}
 use Rattle.run_records.specs.declared.record.Record.{Record}
 use Rattle.run_records.specs.declared.act.Act.{Act}
-use Rattle.slpf_acts.specs.Acts.{AreActs}
-use Rattle.slpf_acts.proofs.Acts.{acts_more}
+use Rattle.slpf_rules_acts.specs.Acts.{AreActs}
+use Rattle.slpf_rules_acts.proofs.Acts.{acts_more}
 use Rattle.flow_laws.specs.Acts.{HasReply}
 use Rattle.flow_laws.specs.Journals.{run_of, IsSent}
 use Rattle.flow_laws.specs.Images.{puts_to, IsRecords, IsActs, IsAgent}

@@ -5,7 +5,7 @@ use Rattle.cacao_site.specs.View.{SiteView}
 use Rattle.cacao_site.specs.declared.parcel.Parcel.{Parcel}
 use Rattle.run_records.specs.declared.record.Record.{Record}
 use Rattle.run_records.specs.declared.act.Act.{Act}
-use Rattle.slpf_acts.proofs.Acts.{none_are_acts}
+use Rattle.slpf_rules_acts.proofs.Acts.{none_are_acts}
 use Rattle.flow_laws.specs.Journals.{run_of}
 use Rattle.flow_laws.specs.Images.{up_to, puts_to}
 use Rattle.flow_laws.specs.Held.{Speech, IsRunLine}

@@ -8,7 +8,7 @@ use Rattle.cacao_site.specs.declared.parcel.Parcel.{Parcel}
 use Rattle.run_journal.specs.Layout.{Stands, header, entries, front}
 use Rattle.run_records.specs.declared.record.Record.{Record}
 use Rattle.run_records.specs.declared.act.Act.{Act}
-use Rattle.flow_rules.specs.Laws.{IsRecordLine}
+use Rattle.flow_core_rules.specs.Laws.{IsRecordLine}
 use Rattle.flow_laws.specs.Images.{up_to, WasSaid}
 use Rattle.flow_laws.specs.Good.{IsGood}
 use Rattle.flow_laws.specs.Held.{IsHeldAs, IsRunLine, plain}

@@ -6,7 +6,7 @@ use Rattle.cacao_site.specs.DiskCalls.{IsLeft}
 use Rattle.cacao_site.specs.View.{SiteView}
 use Rattle.cacao_site.specs.declared.parcel.Parcel.{Parcel}
 use Rattle.run_records.specs.declared.act.Act.{Act}
-use Rattle.slpf_acts.specs.Acts.{reply_text, table_of}
+use Rattle.slpf_rules_acts.specs.Acts.{reply_text, table_of}
 use Rattle.flow_laws.specs.Acts.{HasReply, IsBytes}
 use Rattle.flow_laws.specs.Images.{puts_to, IsActs, HasImage, EachFilter, WasSaid}
 use Rattle.flow_laws.specs.Good.{IsGood}

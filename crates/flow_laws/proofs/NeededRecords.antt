@@ -11,10 +11,10 @@ use Rattle.cacao_site.specs.declared.parcel.Parcel.{Parcel}
 use Rattle.run_records.specs.declared.record.Record.{Record}
 use Rattle.run_records.specs.declared.record.Record.TheVariants.{Begin, Reply}
 use Rattle.run_records.specs.declared.act.Act.{Act}
-use Rattle.flow_rules.specs.State.{Shown, shown}
-use Rattle.flow_rules.specs.Lines.{record_line}
-use Rattle.flow_rules.proofs.LineLemmas.{records_have_lines, lines_fix_records}
-use Rattle.slpf_acts.proofs.Acts.{none_are_acts}
+use Rattle.flow_core_rules.specs.State.{Shown, shown}
+use Rattle.flow_core_rules.specs.Lines.{record_line}
+use Rattle.flow_core_rules.proofs.LineLemmas.{records_have_lines, lines_fix_records}
+use Rattle.slpf_rules_acts.proofs.Acts.{none_are_acts}
 use Rattle.flow_laws.specs.Journals.{IsJournalRun, run_of}
 use Rattle.flow_laws.specs.Images.{up_to, puts_to, IsAgent, IsActs, IsRecords, HasImage, WasSaid}
 use Rattle.flow_laws.specs.Good.{IsGood}

@@ -15,8 +15,8 @@ use Rattle.run_records.specs.Reading.{record_of, act_of, act_at}
 use Rattle.run_records.specs.declared.record.Record.{Record}
 use Rattle.run_records.specs.declared.record.Record.TheVariants.{Begin, Send}
 use Rattle.run_records.specs.declared.act.Act.{Act}
-use Rattle.slpf_acts.specs.Acts.{AreActs, IsReplied}
-use Rattle.slpf_acts.proofs.Acts.{none_are_acts, acts_more}
+use Rattle.slpf_rules_acts.specs.Acts.{AreActs, IsReplied}
+use Rattle.slpf_rules_acts.proofs.Acts.{none_are_acts, acts_more}
 use Rattle.flow_laws.specs.Acts.{HasReply, IsBytes}
 use Rattle.flow_laws.specs.Journals.{IsJournalRun, IsSent, run_of}
 use Rattle.flow_laws.specs.Images.{AnyJournal, puts_to, IsAgent, IsActs, IsRecords, HasImage, EachFilter, WasSaid}

@@ -10,8 +10,8 @@ use Rattle.run_journal.specs.Layout.{Stands}
 use Rattle.run_records.specs.declared.record.Record.{Record}
 use Rattle.run_records.specs.declared.record.Record.TheVariants.{Begin, Reply}
 use Rattle.run_records.specs.declared.act.Act.{Act}
-use Rattle.flow_rules.specs.Lines.{record_line}
-use Rattle.flow_rules.proofs.RunLemmas.{runs_go_on}
+use Rattle.flow_core_rules.specs.Lines.{record_line}
+use Rattle.flow_core_rules.proofs.RunLemmas.{runs_go_on}
 use Rattle.flow_laws.specs.Acts.{HasReply, ReadsAs}
 use Rattle.flow_laws.specs.Journals.{IsJournalRun, IsNextStep, IsShownBefore, run_of}
 use Rattle.flow_laws.specs.Images.{puts_to, IsRecords, IsActs, IsAgent}

@@ -4,12 +4,11 @@ use Rattle.std.specs.Prelude.{map}
 use Rattle.std.specs.List.{AllByRecursion}
 use Rattle.std.proofs.lemmas.List.{map-append}
 use Rattle.run_journal.specs.Layout.{Stands, StandsBeforeOrAfter}
-use Rattle.run_records.specs.Layout.{layout, act_layout}
-use Rattle.run_records.specs.Ranges.{InRange, ActInRange}
+use Rattle.run_records.specs.Layout.{layout}
+use Rattle.run_records.specs.Ranges.{InRange}
 use Rattle.run_records.specs.declared.record.Record.{Record}
-use Rattle.run_records.specs.declared.act.Act.{Act}
-use Rattle.flow_laws.specs.Images.{IsRecords, IsActs}
-use Rattle.flow_laws.proofs.OneList.{records_of_layout, acts_of_layout}
+use Rattle.flow_laws.specs.Images.{IsRecords}
+use Rattle.flow_laws.proofs.OneList.{records_of_layout}
 
 each_push : {X : Type 0} (P : X → Type 0) (xs : List X) (x : X) → AllByRecursion P xs → P x → AllByRecursion P (xs ++ x ∷ [])
 each_push P [] x all p = (p, tt)
@@ -21,12 +20,4 @@ record_appended records next ranges fits image stands = elim stands [
   | inl before ↦ inl (records_of_layout image records ranges before)
   | inr after ↦ inr (records_of_layout image (records ++ next ∷ []) (each_push InRange records next ranges fits)
       (subst (λ (l : List (List ℕ)). Stands image l) (sym (map-append layout records (next ∷ []))) after))
-]
-
-pub act_appended : (acts : List Act) (act : Act) → AllByRecursion ActInRange acts → ActInRange act → (image : List ℕ)
-    → StandsBeforeOrAfter (map act_layout acts) (act_layout act) image → IsActs image acts ⊎ IsActs image (acts ++ act ∷ [])
-act_appended acts act ranges fits image stands = elim stands [
-  | inl before ↦ inl (acts_of_layout image acts ranges before)
-  | inr after ↦ inr (acts_of_layout image (acts ++ act ∷ []) (each_push ActInRange acts act ranges fits)
-      (subst (λ (l : List (List ℕ)). Stands image l) (sym (map-append act_layout acts (act ∷ []))) after))
 ]

@@ -1,4 +1,4 @@
--- What the records of a journal say: a run, its number, its commands, and their lines.
+-- Promise: What the records of a journal say: a run, its number, its commands, and their lines.
 use Rattle.std.specs.Prelude.{◌≡◌, ℕ, ◌≤◌, List, [], ◌∷◌, length, All, Contains, Option, Some, None, ⊤}
 use Rattle.serde_json.specs.Data.{Data}
 use Rattle.run_records.specs.declared.record.Record.{Record}
@@ -6,11 +6,11 @@ use Rattle.run_records.specs.declared.record.Record.TheVariants as entry
 use Rattle.cacao_check.specs.declared.breaks.Mode.TheVariants as mode
 use Rattle.cacao_check.specs.FirstBreak.{IsAccepted}
 use Rattle.cacao_check.specs.Fits.{FitsKind}
-use Rattle.flow_rules.specs.Accepted.{Accepted, IsRun, IsRunOf}
-use Rattle.flow_rules.specs.Givens.{Given}
-use Rattle.flow_rules.specs.State.{State, Shown, shown}
-use Rattle.flow_rules.specs.Runs.{Next, Leads}
-use Rattle.flow_rules.specs.Laws.{ended_by}
+use Rattle.flow_core_rules.specs.Accepted.{Accepted, IsRun, IsRunOf}
+use Rattle.flow_core_rules.specs.Givens.{Given}
+use Rattle.flow_core_rules.specs.State.{State, Shown, shown}
+use Rattle.flow_core_rules.specs.Runs.{Next, Leads}
+use Rattle.flow_core_rules.specs.Laws.{ended_by}
 
 -- the trees of one playbook or more break no rule in the mode of runs
 abbrev pub AreAccepted : List Data → Type 0

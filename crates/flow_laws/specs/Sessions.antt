@@ -1,4 +1,4 @@
--- From session to session: which sites a session may begin on.
+-- Promise: From session to session: which sites a session may begin on.
 use Rattle.std.specs.Prelude.{◌≡◌, ℕ, ◌≤◌, List, [], drop, None, Contains}
 use Rattle.cacao_site.specs.DiskCalls.{IsLeft}
 use Rattle.cacao_site.specs.Sound.{IsInTime}

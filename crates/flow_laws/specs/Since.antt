@@ -1,4 +1,4 @@
--- Agreement at each beat of a session so far.
+-- Promise: Agreement at each beat of a session so far.
 use Rattle.std.specs.Prelude.{ℕ, ◌≤◌, IsTrue}
 use Rattle.cacao_site.specs.View.{SiteView}
 use Rattle.flow_laws.specs.Images.{puts_of}

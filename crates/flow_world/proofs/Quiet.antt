@@ -12,12 +12,12 @@ use Rattle.flow_laws.specs.Fresh.{IsFresh}
 use Rattle.flow_laws.specs.Held.{plain}
 use Rattle.flow_laws.specs.Since.{AgreedSince}
 use Rattle.flow_laws.proofs.Calls.{since_quiet, since_start}
-use Rattle.flow_rules.specs.Givens.{Given}
+use Rattle.flow_core_rules.specs.Givens.{Given}
 use Rattle.slpf_actuator.specs.ActuatorView.{ActuatorView}
-use Rattle.flow_steps.specs.Agreement.{HasKept}
-use Rattle.flow_steps.specs.Steps.{Steps}
-use Rattle.flow_steps.specs.Worlds.{World, holds, opened}
-use Rattle.flow_steps.proofs.Agreement.{steps_keep_agreement}
+use Rattle.flow_world_steps.specs.Agreement.{HasKept}
+use Rattle.flow_world_steps.specs.Steps.{Steps}
+use Rattle.flow_world_steps.specs.Worlds.{World, holds, opened}
+use Rattle.flow_world_steps.proofs.Agreement.{steps_keep_agreement}
 use Rattle.flow_world_parts.specs.Openings.{AreOpen, OpensFile, OpensFilters, RefusesOpening}
 use Rattle.flow_world.specs.Sessions.{IsStart, KeepsAgreement}
 use Rattle.flow_world_parts.specs.declared.error.WorldError.{WorldError}

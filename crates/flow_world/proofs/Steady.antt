@@ -2,10 +2,10 @@
 use Rattle.std.proofs.Common.{◌≡◌, ◌≢◌, inl, inr, ℕ, Bool, List, refl, sym, ◌∙◌, ap}
 use Rattle.std.specs.Prelude.{Result, Ok, Err, IfOk, IfErr}
 use Rattle.cacao_site.specs.View.{SiteView}
-use Rattle.operator_answers.specs.declared.answers.OperatorAnswer.{OperatorAnswer}
-use Rattle.flow_rules.specs.Givens.{Given}
-use Rattle.flow_steps.specs.Worlds.{Cause, disk_failed, refused}
-use Rattle.flow_steps.proofs.Steady.{steps_steady}
+use Rattle.flow_engine_answers.specs.declared.answers.OperatorAnswer.{OperatorAnswer}
+use Rattle.flow_core_rules.specs.Givens.{Given}
+use Rattle.flow_world_steps.specs.Worlds.{Cause, disk_failed, refused}
+use Rattle.flow_world_steps.proofs.Steady.{steps_steady}
 use Rattle.flow_world_parts.specs.Closes.{refusal_of}
 use Rattle.flow_world.specs.Laws.{ClosesAreSteady, RefusalsAreSteady}
 use Rattle.flow_world.specs.Sessions.{HasClosed, HasRefused, Went}

@@ -1,9 +1,9 @@
--- In which one way a session closes, and that no end hides a fault of the disk.
+-- Promise: In which one way a session closes, and that no end hides a fault of the disk.
 use Rattle.std.specs.Prelude.{◌≡◌, ℕ, List}
 use Rattle.cacao_site.specs.View.{SiteView}
-use Rattle.operator_answers.specs.declared.answers.OperatorAnswer.{OperatorAnswer}
-use Rattle.flow_rules.specs.Givens.{Given}
-use Rattle.flow_steps.specs.Worlds.{World}
+use Rattle.flow_engine_answers.specs.declared.answers.OperatorAnswer.{OperatorAnswer}
+use Rattle.flow_core_rules.specs.Givens.{Given}
+use Rattle.flow_world_steps.specs.Worlds.{World}
 use Rattle.flow_world_parts.specs.Closes.{IsClose, IsRefusal}
 use Rattle.flow_world_parts.specs.Openings.{IsSteady}
 use Rattle.flow_world.specs.Sessions.{HasClosed, HasRefused}

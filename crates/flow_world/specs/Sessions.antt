@@ -1,16 +1,16 @@
--- A whole session.
+-- Promise: A whole session.
 use Rattle.std.specs.Prelude.{◌≡◌, ◌⊎◌, ℕ, IsSome, IsTrue, List}
 use Rattle.cacao_site.specs.View.{SiteView}
-use Rattle.operator_answers.specs.declared.answers.OperatorAnswer.{OperatorAnswer}
+use Rattle.flow_engine_answers.specs.declared.answers.OperatorAnswer.{OperatorAnswer}
 use Rattle.flow_laws.specs.Fresh.{IsFresh}
 use Rattle.flow_laws.specs.Held.{plain}
 use Rattle.flow_laws.specs.Sessions.{IsStart as IsStartAs}
 use Rattle.flow_laws.specs.Since.{AgreedSince}
-use Rattle.flow_rules.specs.Givens.{Given}
-use Rattle.flow_steps.specs.Causes.{HasCause}
-use Rattle.flow_steps.specs.Steps.{Steps}
-use Rattle.flow_steps.specs.Whole.{AddsUp, IsOpened}
-use Rattle.flow_steps.specs.Worlds.{World}
+use Rattle.flow_core_rules.specs.Givens.{Given}
+use Rattle.flow_world_steps.specs.Causes.{HasCause}
+use Rattle.flow_world_steps.specs.Steps.{Steps}
+use Rattle.flow_world_steps.specs.Whole.{AddsUp, IsOpened}
+use Rattle.flow_world_steps.specs.Worlds.{World}
 use Rattle.flow_world_parts.specs.Closes.{IsClose, IsRefusal}
 use Rattle.flow_world_parts.specs.Openings.{AreOpen, RefusesOpening}
 use Rattle.flow_world_parts.specs.declared.close.Close.{Close}

@@ -4,8 +4,8 @@ ghost use Rattle.flow_world.specs.Sessions.{HasClosed, HasRefused, IsStart, Keep
 
 use cacao_site::Site;
 use flow_core::Setup;
+use flow_engine_answers::Answers;
 use flow_world_parts::{Close, WorldError, open_files, run_opened};
-use operator_answers::Answers;
 use std::alloc::Global;
 
 /// One session of a run: its files are opened, and it goes on until it closes or a call refuses. At most `most` records are

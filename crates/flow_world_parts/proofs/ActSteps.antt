@@ -11,8 +11,8 @@ use Rattle.slpf_actuator.specs.ActuatorCalls.{Acts, Overflows, Refuses, Repeats}
 use Rattle.slpf_actuator.specs.ActuatorView.{ActuatorView}
 use Rattle.slpf_actuator.specs.declared.error.ActError.{ActError}
 use Rattle.slpf_actuator.specs.declared.error.ActError.TheVariants as act_error
-use Rattle.flow_steps.specs.Sides.{FiltersReady, IsFilter}
-use Rattle.flow_steps.proofs.Filters.{get_set, ready_stays}
+use Rattle.flow_world_steps.specs.Sides.{FiltersReady, IsFilter}
+use Rattle.flow_world_steps.proofs.Filters.{get_set, ready_stays}
 use Rattle.flow_world_parts.specs.Acting.{FilterAnswers, IsActCause, OneAnswers}
 use Rattle.flow_world_parts.specs.Errors.{MayRefuseAct}
 

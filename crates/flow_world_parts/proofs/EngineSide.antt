@@ -1,28 +1,24 @@
 -- What the engine's side does, from the calls of its engine.
-use Rattle.std.proofs.Common.{◌≡◌, ◌≢◌, ◌⊎◌, inl, inr, ℕ, ◌+◌, ◌<◌, ◌≤◌, true, false, List, [], ◌∷◌, ◌++◌, length, refl, sym, ◌∙◌, subst, ap, arith}
+use Rattle.std.proofs.Common.{◌≡◌, ◌≢◌, ◌⊎◌, inl, inr, ℕ, ◌+◌, ◌<◌, ◌≤◌, true, List, [], ◌∷◌, ◌++◌, length, refl, sym, ◌∙◌, subst, ap, arith}
 use Rattle.std.specs.Prelude.{Option, Some, None}
 use Rattle.std.proofs.lemmas.Bool.{cases_lt}
 use Rattle.cacao_site.specs.Sound.{IsSound}
 use Rattle.cacao_site.specs.View.{SiteView}
 use Rattle.cacao_site.specs.declared.parcel.Parcel.{Parcel}
 use Rattle.run_records.specs.declared.record.Record.{Record}
-use Rattle.engine_history.specs.HistoryView.{HistoryView, IsReady}
-use Rattle.engine_history.specs.Histories.{IsHistory}
-use Rattle.engine_history.specs.declared.error.EngineError.{EngineError}
-use Rattle.engine_history.specs.declared.error.EngineError.TheVariants as engine_error
-use Rattle.flow_engine.specs.EngineCalls.{Appends, IsBeginning, IsReply, IsWaiting, Refused, Sends}
+use Rattle.flow_engine_history.specs.HistoryView.{HistoryView, IsReady}
+use Rattle.flow_engine_history.specs.Histories.{IsHistory}
+use Rattle.flow_engine.specs.EngineCalls.{Appends, IsBeginning, IsReply, IsWaiting, Sends}
 use Rattle.flow_engine.specs.EngineView.{EngineView}
 use Rattle.flow_engine.specs.OpenIssues.{ArePut, OpenIssues, puts_of}
-use Rattle.flow_rules.specs.Changes.{is_in_time}
-use Rattle.flow_steps.specs.Sides.{AllPut, IsEngine, IsUp, IsWhole}
-use Rattle.flow_steps.specs.Steps.{IsAddressed}
-use Rattle.flow_steps.specs.Steps.Step.{begins, puts_first, replies}
-use Rattle.flow_steps.specs.Steps.Steps.{nothing, and_then}
-use Rattle.flow_steps.specs.Worlds.{Notes, Phase, holds, owes, rests}
-use Rattle.flow_steps.proofs.AllPuts.{put_now}
-use Rattle.flow_steps.proofs.Issues.{below}
-use Rattle.flow_world_parts.specs.Errors.{MayRefuseAppend}
-use Rattle.flow_world_parts.specs.Leads.{AnyNotes, ArePutBelow, EngineGoes, EngineRefuses, IsAtWork, MayAppend}
+use Rattle.flow_world_steps.specs.Sides.{AllPut, IsEngine, IsUp, IsWhole}
+use Rattle.flow_world_steps.specs.Steps.{IsAddressed}
+use Rattle.flow_world_steps.specs.Steps.Step.{begins, puts_first, replies}
+use Rattle.flow_world_steps.specs.Steps.Steps.{nothing, and_then}
+use Rattle.flow_world_steps.specs.Worlds.{Notes, Phase, holds, owes, rests}
+use Rattle.flow_world_steps.proofs.AllPuts.{put_now}
+use Rattle.flow_world_steps.proofs.Issues.{below}
+use Rattle.flow_world_parts.specs.Leads.{AnyNotes, ArePutBelow, EngineGoes, EngineRefuses, MayAppend}
 use Rattle.flow_world_parts.specs.declared.error.WorldError.{WorldError}
 use Rattle.flow_world_parts.proofs.EngineSteps.{IsTry, appended, goes_refuses, goes_then}
 
@@ -35,19 +31,6 @@ module _ (P : Notes → Type 0) (budget : (notes : Notes) → P notes → 1 ≤ 
 
   pub append_unsaid : (error : WorldError) → EngineRefuses AnyNotes error mid w owes sn → EngineRefuses P error so v p sn
   append_unsaid error unsaid = goes_refuses P 1 error so mid sn v w p owes (appended P budget IsNext so v p step mid w is engine) unsaid
-
--- why a whole engine may refuse to append
-pub may_refuse : (v w : EngineView) (IsNext : Record → Type 0) (why : EngineError) (so sn : SiteView) → v.history.broken ≡ false → Refused v w IsNext why so sn → MayRefuseAppend why
-may_refuse v w IsNext engine_error.Disk so sn whole is = tt
-may_refuse v w IsNext (engine_error.Limit what) so sn whole is = tt
-may_refuse v w IsNext engine_error.Memory so sn whole is = tt
-may_refuse v w IsNext engine_error.Broken so sn whole is = absurd (both whole is.0.0)
-  where
-    both : v.history.broken ≡ false → v.history.broken ≡ true → ⊥
-    both e f = let g : false ≡ true = sym e ∙ f in cc
-may_refuse v w IsNext (engine_error.Damaged place) so sn whole is = absurd is.0
-may_refuse v w IsNext (engine_error.OtherRun held asked) so sn whole is = absurd is.0
-may_refuse v w IsNext (engine_error.OtherBook index) so sn whole is = absurd is.0
 
 pub engine_is : (w : EngineView) (site : SiteView) → IsReady w.history site → IsHistory w.history → ArePut w.history.seen w.puts → IsEngine w site
 engine_is w site ready history put = record { ready = ready; history = history; put = put }
@@ -68,18 +51,6 @@ reply_step so v beat parcel sound up addressed back filters notes given new trie
 
 same_or_not : (a b : ℕ) → a < b + 1 → (a ≡ b) ⊎ (a < b)
 same_or_not a b lt = elim (cases_lt a b) [ inl less ↦ inr less | inr ge ↦ inl (omega (arith, lt, ge)) ]
-
-pub sent_work : (v w : EngineView) (issue moment : ℕ) (so sn : SiteView) → IsAtWork v so → Sends v w issue moment so sn → IsEngine w sn → IsAtWork w sn
-sent_work v w issue moment so sn work sends engine =
-    let history : w.history ≡ v.history = ap (λ (x : EngineView). x.history) sends.view in
-    record {
-      up = record {
-        has_file = record { engine = engine; whole = ap (λ (h : HistoryView). h.broken) history ∙ sends.whole };
-        begun = subst (λ (h : HistoryView). h.records ≢ []) (sym history) work.up.begun;
-      };
-      in_time = subst (λ (h : HistoryView). is_in_time h.seen sn.clock.now ≡ true) (sym history)
-          (subst (λ (n : ℕ). is_in_time v.history.seen n ≡ true) (sym sends.put.time.now) work.in_time);
-    }
 
 module _ (v w : EngineView) (issue : ℕ) (so sn : SiteView) (put : ArePutBelow issue v) (sends : Sends v w issue so.clock.now so sn) where
   pub put_goes : IsSound so → IsUp v so → puts_of v.puts issue ≡ None → IsEngine w sn → EngineGoes AnyNotes 0 so v rests sn w rests
@@ -109,9 +80,6 @@ module _ (v w : EngineView) (issue : ℕ) (so sn : SiteView) (put : ArePutBelow 
 
   pub put_others : (other : ℕ) → other ≢ issue → puts_of w.puts other ≡ puts_of v.puts other
   put_others = (put_now v w issue so.clock.now so sn sends).others
-
-  pub put_history : w.history ≡ v.history
-  put_history = (put_now v w issue so.clock.now so sn sends).history
 
 -- each issue that waits was put where each below their number was
 pub all_put : (n : ℕ) (v : EngineView) → length v.history.seen.lists.issues ≤ n → ArePutBelow n v → AllPut v

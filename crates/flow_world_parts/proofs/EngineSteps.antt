@@ -7,19 +7,19 @@ use Rattle.cacao_site.specs.SayCalls.{SaysOnly}
 use Rattle.cacao_site.specs.Sound.{IsSound}
 use Rattle.cacao_site.specs.View.{SiteView}
 use Rattle.run_records.specs.declared.record.Record.{Record}
-use Rattle.engine_history.specs.Histories.{IsLineAt}
-use Rattle.engine_history.specs.declared.error.EngineError.{EngineError}
-use Rattle.engine_history.specs.declared.error.EngineError.TheVariants as engine_error
+use Rattle.flow_engine_history.specs.Histories.{IsLineAt}
+use Rattle.flow_engine_history.specs.declared.error.EngineError.{EngineError}
+use Rattle.flow_engine_history.specs.declared.error.EngineError.TheVariants as engine_error
 use Rattle.flow_engine.specs.EngineCalls.{Appends, Refused}
 use Rattle.flow_engine.specs.EngineView.{EngineView}
 use Rattle.slpf_actuator.specs.ActuatorView.{ActuatorView}
-use Rattle.flow_steps.specs.Appends.{Tries}
-use Rattle.flow_steps.specs.Appends.Tries.{done, failed, limited}
-use Rattle.flow_steps.specs.Sides.{IsEngine, IsUp}
-use Rattle.flow_steps.specs.Steps.{IsLastLine, Step, Steps}
-use Rattle.flow_steps.specs.Steps.Step.{says, fails_to_say, wants_memory_now}
-use Rattle.flow_steps.specs.Steps.Steps.{nothing, and_then}
-use Rattle.flow_steps.specs.Worlds.{IsGoing, Notes, Phase, World, disk_failed, not_said, owes, owes_line, past, refused, rests, wants_memory}
+use Rattle.flow_world_steps.specs.Appends.{Tries}
+use Rattle.flow_world_steps.specs.Appends.Tries.{done, failed, limited}
+use Rattle.flow_world_steps.specs.Sides.{IsEngine, IsUp}
+use Rattle.flow_world_steps.specs.Steps.{IsLastLine, Step, Steps}
+use Rattle.flow_world_steps.specs.Steps.Step.{says, fails_to_say, wants_memory_now}
+use Rattle.flow_world_steps.specs.Steps.Steps.{nothing, and_then}
+use Rattle.flow_world_steps.specs.Worlds.{IsGoing, Notes, Phase, World, disk_failed, not_said, owes, owes_line, past, refused, rests, wants_memory}
 use Rattle.flow_world_parts.specs.Errors.{append_refusal}
 use Rattle.flow_world_parts.specs.Leads.{AddsTo, AnyNotes, EngineDid, EngineGoes, EngineRefuses, RefusesAt, at}
 use Rattle.flow_world_parts.specs.declared.error.WorldError.{WorldError}
@@ -57,16 +57,6 @@ pub did_then : {T : Type 0} (result : Result T WorldError) (P : Notes → Type 0
     → EngineDid result AnyNotes m mid w q sn x → EngineDid result P (n + m) so v p sn x
 did_then (Ok t) P n m so mid sn v w x p q first second = goes_then P n m so mid sn v w x p q rests first second
 did_then (Err error) P n m so mid sn v w x p q first second = goes_refuses P n error so mid sn v w p q first second
-
--- fewer are known
-pub goes_knowing : (P Q : Notes → Type 0) (n : ℕ) (so sn : SiteView) (v w : EngineView) (p q : Phase) → ((notes : Notes) → Q notes → P notes)
-    → EngineGoes P n so v p sn w q → EngineGoes Q n so v p sn w q
-goes_knowing P Q n so sn v w p q from goes filters notes given = goes filters notes (from notes given)
-
-pub did_knowing : {T : Type 0} (result : Result T WorldError) (P Q : Notes → Type 0) (n : ℕ) (so sn : SiteView) (v w : EngineView) (p : Phase) → ((notes : Notes) → Q notes → P notes)
-    → EngineDid result P n so v p sn w → EngineDid result Q n so v p sn w
-did_knowing (Ok t) P Q n so sn v w p from did = λ filters notes given. did filters notes (from notes given)
-did_knowing (Err error) P Q n so sn v w p from did = λ filters notes given. did filters notes (from notes given)
 
 -- nothing was done
 pub stays_there : (P : Notes → Type 0) (so : SiteView) (v : EngineView) (p : Phase) → EngineGoes P 0 so v p so v p

@@ -11,12 +11,12 @@ use Rattle.slpf_actuator.specs.ActuatorCalls.{Acts, Offers, Refuses, Repeats}
 use Rattle.slpf_actuator.specs.ActuatorView.{ActuatorView, act_for}
 use Rattle.slpf_actuator.specs.declared.error.ActError.{ActError}
 use Rattle.slpf_actuator.specs.declared.error.ActError.TheVariants as act_error
-use Rattle.flow_steps.specs.Sides.{IsFilter, IsUp}
-use Rattle.flow_steps.specs.Steps.{DoesNothing, HoldsCommand, IsActCause as IsStepCause, IsAddressed, MayHaveActed, Unsures}
-use Rattle.flow_steps.specs.Steps.Step.{acts_on, repeats_reply, fails_to_act}
-use Rattle.flow_steps.specs.Steps.Steps.{nothing, and_then}
-use Rattle.flow_steps.specs.Worlds.{Cause, Notes, disk_failed, holds, past, refused, wants_memory}
-use Rattle.flow_steps.proofs.Records.{has_records}
+use Rattle.flow_world_steps.specs.Sides.{IsFilter, IsUp}
+use Rattle.flow_world_steps.specs.Steps.{DoesNothing, HoldsCommand, IsActCause as IsStepCause, IsAddressed, MayHaveActed, Unsures}
+use Rattle.flow_world_steps.specs.Steps.Step.{acts_on, repeats_reply, fails_to_act}
+use Rattle.flow_world_steps.specs.Steps.Steps.{nothing, and_then}
+use Rattle.flow_world_steps.specs.Worlds.{Cause, Notes, disk_failed, holds, past, refused, wants_memory}
+use Rattle.flow_world_steps.proofs.Records.{has_records}
 use Rattle.flow_world_parts.specs.Acting.{IsActCause}
 use Rattle.flow_world_parts.specs.Closes.{refusal_of}
 use Rattle.flow_world_parts.specs.Errors.{act_refusal}

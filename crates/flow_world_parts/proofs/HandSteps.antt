@@ -1,5 +1,5 @@
 -- Whose filter has an act of a run, and where a command that is handed to its filter leads.
-use Rattle.std.proofs.Common.{◌≡◌, inl, inr, ℕ, zero, suc, ◌+◌, ◌-◌, ◌<◌, ◌≤◌, Bool, true, false, List, [], ◌∷◌, length, get_or, sym, ◌∙◌, subst, ap, arith}
+use Rattle.std.proofs.Common.{◌≡◌, inl, inr, ℕ, ◌+◌, ◌-◌, ◌<◌, ◌≤◌, Bool, true, false, List, length, get_or, sym, ◌∙◌, subst, ap, arith}
 use Rattle.std.specs.Prelude.{◌↔◌, Any, Option, Some, IsTrue, Result, Ok, Err, slice_get}
 use Rattle.std.proofs.lemmas.Bool.{cases_lt}
 use Rattle.cacao_site.specs.Sound.{IsSound}
@@ -10,8 +10,8 @@ use Rattle.flow_laws.specs.Images.{HasBegun}
 use Rattle.slpf_actuator.specs.ActuatorCalls.{Acts, Refuses}
 use Rattle.slpf_actuator.specs.ActuatorView.{ActuatorView}
 use Rattle.slpf_actuator.specs.declared.error.ActError.{ActError}
-use Rattle.flow_steps.specs.Sides.{FiltersReady, IsFilter}
-use Rattle.flow_steps.specs.Steps.{IsAddressed}
+use Rattle.flow_world_steps.specs.Sides.{FiltersReady, IsFilter}
+use Rattle.flow_world_steps.specs.Steps.{IsAddressed}
 use Rattle.flow_world_parts.specs.Acting.{IsActCause, OneAnswers}
 use Rattle.flow_world_parts.specs.Errors.{act_refusal}
 use Rattle.flow_world_parts.specs.Leads.{FilterDid}
@@ -38,15 +38,6 @@ none_more items fs run agent v b is at_least high value not so before lower low 
       let e : false ≡ true = sym not ∙ held in
       absurd (cc)
 ]
-
--- behind the last filter there is none
-pub none_beyond : (fs : List ActuatorView) (run : ℕ) → ((lower : ℕ) → 1 ≤ lower → lower < length fs + 1 → HasRunAt fs run lower → ⊥) → (agent : ℕ) → 1 ≤ agent → agent ≤ 16 → HasRunAt fs run agent → ⊥
-none_beyond fs run none agent low high has = none agent low (let below = at_most fs (agent - 1) has.v has.there in omega (arith, below, low)) has
-  where
-    at_most : {T : Type 0} (xs : List T) (k : ℕ) (x : T) → slice_get xs k ≡ Some x → k < length xs
-    at_most [] k x is = absurd (cc)
-    at_most (y ∷ ys) zero x is = omega arith
-    at_most (y ∷ ys) (suc k) x is = let rest = at_most ys k x is in omega (arith, rest)
 
 -- ---- where its answer leads
 

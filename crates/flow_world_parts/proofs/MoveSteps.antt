@@ -5,30 +5,29 @@ use Rattle.cacao_site.specs.Sound.{IsSound}
 use Rattle.cacao_site.specs.View.{ClockView, SiteView}
 use Rattle.run_records.specs.declared.record.Record.{Record}
 use Rattle.run_records.specs.declared.record.Record.TheVariants as entry
-use Rattle.flow_dues.specs.Pairs.{IsFirstBy}
-use Rattle.engine_history.specs.HistoryCalls.{Is}
-use Rattle.engine_history.specs.HistoryView.{HistoryView}
-use Rattle.engine_history.specs.Histories.{IsHistory}
-use Rattle.operator_answers.specs.declared.answers.OperatorAnswer.{OperatorAnswer}
-use Rattle.engine_history.specs.declared.error.EngineError.{EngineError}
+use Rattle.base_dues.specs.Pairs.{IsFirstBy}
+use Rattle.flow_engine_history.specs.HistoryCalls.{Is}
+use Rattle.flow_engine_history.specs.HistoryView.{HistoryView}
+use Rattle.flow_engine_history.specs.Histories.{IsHistory}
+use Rattle.flow_engine_answers.specs.declared.answers.OperatorAnswer.{OperatorAnswer}
+use Rattle.flow_engine_history.specs.declared.error.EngineError.{EngineError}
 use Rattle.flow_engine.specs.EngineCalls.{Appends, IsMove, IsWaiting, Refused, Sends, put_deadline}
 use Rattle.flow_engine.specs.EngineView.{EngineView}
 use Rattle.flow_engine.specs.OpenIssues.{ArePut, IsNextPut, OpenIssues, puts_of}
 use Rattle.flow_engine.specs.declared.puts.Puts.{Puts}
 use Rattle.flow_laws.proofs.Basics.{same_or_not}
-use Rattle.flow_rules.specs.Changes.{is_in_time, moment_of}
-use Rattle.flow_rules.specs.Moves.{enabled_move}
-use Rattle.flow_rules.specs.State.{Shown}
-use Rattle.flow_rules.specs.declared.issues.Issue.{Issue}
+use Rattle.flow_core_rules.specs.Changes.{is_in_time, moment_of}
+use Rattle.flow_core_rules.specs.State.{Shown}
+use Rattle.flow_core_rules.specs.declared.issues.Issue.{Issue}
 use Rattle.slpf_actuator.specs.ActuatorView.{ActuatorView}
-use Rattle.flow_steps.specs.Sides.{AllPut, IsEngine}
-use Rattle.flow_steps.specs.Steps.Step.{moves, upgrades, tells, expires, resends}
-use Rattle.flow_steps.specs.Steps.Steps.{nothing, and_then}
-use Rattle.flow_steps.specs.Turns.{HasLooked, IsIdle, IsOnTime, IsToBeTold, IsUntold}
-use Rattle.flow_steps.specs.Worlds.{Notes, looked, owes, rests}
-use Rattle.flow_steps.proofs.AllPuts.{all_stay_put, put_after}
-use Rattle.flow_steps.proofs.Issues.{below, is_put_of, puts_were}
-use Rattle.flow_steps.proofs.Timely.{in_time_after, in_time_bounds}
+use Rattle.flow_world_steps.specs.Sides.{AllPut, IsEngine}
+use Rattle.flow_world_steps.specs.Steps.Step.{moves, upgrades, tells, expires, resends}
+use Rattle.flow_world_steps.specs.Steps.Steps.{nothing, and_then}
+use Rattle.flow_world_steps.specs.Turns.{HasLooked, IsOnTime, IsToBeTold, IsUntold}
+use Rattle.flow_world_steps.specs.Worlds.{Notes, looked, owes, rests}
+use Rattle.flow_world_steps.proofs.AllPuts.{all_stay_put, put_after}
+use Rattle.flow_world_steps.proofs.Issues.{below, is_put_of, puts_were}
+use Rattle.flow_world_steps.proofs.Timely.{in_time_after, in_time_bounds}
 use Rattle.flow_world_parts.specs.Errors.{append_refusal}
 use Rattle.flow_world_parts.specs.Leads.{AnyNotes, ArePutBelow, EngineDid, EngineGoes, EngineRefuses, IsAtWork, MayAnswer, WhereLooked, at}
 use Rattle.flow_world_parts.specs.declared.error.WorldError.{WorldError}
@@ -145,12 +144,6 @@ module _ (answers : List OperatorAnswer) (so : SiteView) (v : EngineView) where
   on_time_of now untold none is filters notes given = record {
     untold = untold filters notes given;
     none = subst (λ (n : ℕ). IsFirstBy n (put_deadline v) None) is none;
-  }
-
-  pub idle_of : (now : ℕ) → IsSound so → IsAtWork v so → now ≡ so.clock.now → enabled_move v.history.seen now ≡ None → WhereLooked IsIdle answers so v
-  idle_of now sound work is none filters notes given = record {
-    has_looked = looks filters notes sound work given;
-    no_move = subst (λ (n : ℕ). enabled_move v.history.seen n ≡ None) is none;
   }
 
   pub resent : (issue moment now : ℕ) (sn : SiteView) (w : EngineView) → WhereLooked IsOnTime answers so v → IsNextPut v.puts (Some (moment, issue)) → moment ≤ now → now ≡ so.clock.now

@@ -7,10 +7,10 @@ use Rattle.cacao_site.specs.View.{DiskView, SiteView}
 use Rattle.cacao_site.proofs.Beats.{goes_on-refl, goes_on-trans, stays-trans}
 use Rattle.flow_engine.specs.EngineView.{EngineView}
 use Rattle.slpf_actuator.specs.ActuatorView.{ActuatorView, HoldsActs}
-use Rattle.flow_steps.specs.Sides.{AreFilters, FiltersReady, IsWhole}
-use Rattle.flow_steps.proofs.Filters.{ready_stays}
-use Rattle.flow_steps.proofs.Growth.{get_last_or}
-use Rattle.flow_steps.proofs.Readiness.{engine_stays}
+use Rattle.flow_world_steps.specs.Sides.{AreFilters, FiltersReady, IsWhole}
+use Rattle.flow_world_steps.proofs.Filters.{ready_stays}
+use Rattle.flow_world_steps.proofs.Growth.{get_last_or}
+use Rattle.flow_world_steps.proofs.Readiness.{engine_stays}
 use Rattle.flow_world_parts.specs.Openings.{IsFilterOpen, OpensFilters, OpensNext, RefusesFile, RefusesFilters, blocks_to}
 use Rattle.flow_world_parts.specs.declared.error.WorldError.{WorldError}
 

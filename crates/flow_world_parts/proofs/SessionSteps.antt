@@ -6,18 +6,18 @@ use Rattle.cacao_site.specs.SiteCalls.{TakesNone, TakesOnly, TakesSome}
 use Rattle.cacao_site.specs.Sound.{IsSound}
 use Rattle.cacao_site.specs.View.{SiteView}
 use Rattle.cacao_site.specs.declared.parcel.Parcel.{Parcel}
-use Rattle.operator_answers.specs.declared.answers.OperatorAnswer.{OperatorAnswer}
+use Rattle.flow_engine_answers.specs.declared.answers.OperatorAnswer.{OperatorAnswer}
 use Rattle.flow_engine.specs.EngineCalls.{IsReplyTo}
 use Rattle.flow_engine.specs.EngineView.{EngineView}
-use Rattle.flow_rules.specs.Changes.{outcome}
+use Rattle.flow_core_rules.specs.Changes.{outcome}
 use Rattle.oc2_msg.specs.declared.answers.Answer.{Answer}
 use Rattle.slpf_actuator.specs.ActuatorView.{ActuatorView}
-use Rattle.flow_steps.specs.Steps.{IsAddressed, LacksFilter, Steps}
-use Rattle.flow_steps.specs.Steps.Step.{takes, finds_none, fails_to_take, drops, ignores_reply}
-use Rattle.flow_steps.specs.Steps.Steps.{nothing, and_then}
-use Rattle.flow_steps.specs.Turns.{BeginsTurn, most_ignored}
-use Rattle.flow_steps.specs.Worlds.{Notes, Phase, holds, looked, refused, rests, wants_memory}
-use Rattle.flow_world_parts.specs.Leads.{AnyNotes, ClosesFrom, Counts, Ended, EngineGoes, EngineRefuses, FiltersGo, FiltersRefuse, Goes, IsBetweenTurns, MayAnswer, MayAppend, Refuses, Turned, at, world_of}
+use Rattle.flow_world_steps.specs.Steps.{IsAddressed, LacksFilter, Steps}
+use Rattle.flow_world_steps.specs.Steps.Step.{takes, finds_none, fails_to_take, drops, ignores_reply}
+use Rattle.flow_world_steps.specs.Steps.Steps.{nothing, and_then}
+use Rattle.flow_world_steps.specs.Turns.{BeginsTurn, most_ignored}
+use Rattle.flow_world_steps.specs.Worlds.{Notes, Phase, holds, looked, refused, rests, wants_memory}
+use Rattle.flow_world_parts.specs.Leads.{AnyNotes, ClosesFrom, Counts, Ended, EngineGoes, EngineRefuses, FiltersGo, Goes, IsBetweenTurns, MayAnswer, MayAppend, Refuses, Turned, at, world_of}
 use Rattle.flow_world_parts.specs.declared.close.Close.{Close}
 use Rattle.flow_world_parts.specs.declared.close.Close.TheVariants as close
 use Rattle.flow_world_parts.specs.declared.error.WorldError.{WorldError}
@@ -69,10 +69,6 @@ filters_go answers n beat parcel so sn s t calm goes engine left ignored notes c
         ignored = omega (arith, leads.ignored, counts.ignored, ignored);
       };
     }
-
-pub filters_refuse : (answers : List OperatorAnswer) (error : WorldError) (beat : ℕ) (parcel : Parcel) (so sn : SiteView) (s : Session) → FiltersRefuse error beat parcel so s.filters sn
-    → Refuses error answers so s (holds beat parcel) sn
-filters_refuse answers error beat parcel so sn s refuses notes counts = refuses s.engine notes
 
 -- ---- one behind the other
 

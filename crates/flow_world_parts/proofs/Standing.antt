@@ -3,18 +3,17 @@ use Rattle.std.proofs.Common.{◌≡◌, ◌≢◌, ℕ, true, List, [], refl, s
 use Rattle.std.specs.Prelude.{None, Result, Ok, Err, OnOk}
 use Rattle.cacao_site.specs.DiskCalls.{KeepsDisk, OnlyFile}
 use Rattle.cacao_site.specs.View.{SiteView}
-use Rattle.cacao_site.specs.declared.parcel.Parcel.{Parcel}
-use Rattle.operator_answers.specs.declared.answers.OperatorAnswer.{OperatorAnswer}
+use Rattle.flow_engine_answers.specs.declared.answers.OperatorAnswer.{OperatorAnswer}
 use Rattle.flow_engine.specs.EngineView.{EngineView}
-use Rattle.flow_rules.specs.Changes.{is_in_time}
+use Rattle.flow_core_rules.specs.Changes.{is_in_time}
 use Rattle.slpf_actuator.specs.ActuatorView.{ActuatorView}
-use Rattle.flow_steps.specs.Sides.{FiltersReady, IsWhole}
-use Rattle.flow_steps.specs.Worlds.{IsGoing, Notes, Phase, holds, looked, opened, rests}
-use Rattle.flow_steps.proofs.Filters.{ready_stays}
-use Rattle.flow_steps.proofs.Readiness.{engine_stays}
-use Rattle.flow_steps.proofs.Standing.{steps_stand, steps_up}
-use Rattle.flow_steps.proofs.Timely.{steps_in_time}
-use Rattle.flow_world_parts.specs.Leads.{Counts, EngineGoes, Goes, IsAtWork, IsWorking, KeepsFilters, at, world_of}
+use Rattle.flow_world_steps.specs.Sides.{FiltersReady, IsWhole}
+use Rattle.flow_world_steps.specs.Worlds.{IsGoing, Notes, Phase, opened, rests}
+use Rattle.flow_world_steps.proofs.Filters.{ready_stays}
+use Rattle.flow_world_steps.proofs.Readiness.{engine_stays}
+use Rattle.flow_world_steps.proofs.Standing.{steps_stand, steps_up}
+use Rattle.flow_world_steps.proofs.Timely.{steps_in_time}
+use Rattle.flow_world_parts.specs.Leads.{Counts, Goes, IsAtWork, IsWorking, KeepsFilters, world_of}
 use Rattle.flow_world_parts.specs.declared.turns.Session.{Session}
 
 -- some notes of a session
@@ -23,15 +22,6 @@ sample answers left ignored = record { answers = answers; left = left; unsure = 
 
 pub sample_counts : (answers : List OperatorAnswer) (s : Session) → Counts answers s (sample answers s.left s.ignored)
 sample_counts answers s = record { answers_are = refl; left = refl; ignored = refl }
-
--- ---- the engine alone
-
-pub work_after : (P : Notes → Type 0) (notes : Notes) (n : ℕ) (so sn : SiteView) (v w : EngineView) (p q : Phase) → P notes → IsAtWork v so → EngineGoes P n so v p sn w q → IsGoing q → q ≢ opened → IsAtWork w sn
-work_after P notes n so sn v w p q given work goes going fresh =
-    let leads = goes [] notes given in
-    let a = at so v [] notes p in
-    let b = at sn w [] leads.notes q in
-    record { up = steps_up a b work.up leads.steps going; in_time = steps_in_time a b (λ g o. work.in_time) leads.steps going fresh }
 
 -- ---- a session
 
@@ -106,9 +96,3 @@ working_stays s old new keeps now is = record {
 
 pub rests_fresh : rests ≢ opened
 rests_fresh e = cc
-
-pub looked_fresh : looked ≢ opened
-looked_fresh e = cc
-
-pub holds_fresh : (beat : ℕ) (parcel : Parcel) → holds beat parcel ≢ opened
-holds_fresh beat parcel e = cc

@@ -6,15 +6,15 @@ use Rattle.std.proofs.lemmas.Bool.{false≢true}
 use Rattle.std.proofs.lemmas.List.{get_or_default}
 use Rattle.std.proofs.lemmas.Option.{none-some}
 use Rattle.cacao_site.specs.View.{SiteView}
-use Rattle.operator_answers.specs.declared.answers.OperatorAnswer.{OperatorAnswer}
+use Rattle.flow_engine_answers.specs.declared.answers.OperatorAnswer.{OperatorAnswer}
 use Rattle.flow_engine.specs.EngineView.{EngineView}
-use Rattle.flow_rules.specs.Changes.{is_waiting}
-use Rattle.flow_rules.specs.State.{Shown}
-use Rattle.flow_rules.specs.declared.issues.Issue.{Issue}
+use Rattle.flow_core_rules.specs.Changes.{is_waiting}
+use Rattle.flow_core_rules.specs.State.{Shown}
+use Rattle.flow_core_rules.specs.declared.issues.Issue.{Issue}
 use Rattle.flow_laws.proofs.Basics.{same_some}
 use Rattle.slpf_actuator.specs.ActuatorView.{ActuatorView}
-use Rattle.flow_steps.specs.Turns.{HasAnswer, IsIdle, IsToBeTold, IsUntold, answer_for}
-use Rattle.flow_steps.specs.Worlds.{Notes, looked}
+use Rattle.flow_world_steps.specs.Turns.{HasAnswer, IsIdle, IsToBeTold, IsUntold, answer_for}
+use Rattle.flow_world_steps.specs.Worlds.{Notes, looked}
 use Rattle.flow_world_parts.specs.Leads.{IsLeastTold, IsTold, IsWaitingFor, WhereLooked, at}
 
 -- ---- the first answer for an issue
@@ -95,9 +95,6 @@ IsLeastOf v answers n (Some issue) =
     IsTold v answers issue × ((k : ℕ) (told : OperatorAnswer) → k < n → slice_index_or answers k told ≡ told → IsWaitingFor v told.issue → issue ≤ told.issue)
 
 module _ (v : EngineView) (answers : List OperatorAnswer) where
-  pub none_yet : IsLeastOf v answers 0 None
-  none_yet k told lt there waits = absurd (omega (arith, lt))
-
   pub least_of_all : (o : Option ℕ) → IsLeastOf v answers (length answers) o → IsLeastTold v answers o
   least_of_all None none = λ issue is. none is.has.0 is.told is.has.1 is.has.2 (subst (λ (n : ℕ). IsWaitingFor v n) (sym is.of_issue) is.waiting)
   least_of_all (Some issue) least = (least.0, λ lower lt is. absurd (apart lower lt is))

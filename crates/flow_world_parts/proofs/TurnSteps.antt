@@ -3,15 +3,15 @@ use Rattle.std.proofs.Common.{◌≡◌, ◌<◌, ◌≤◌, List, sym, subst, a
 use Rattle.std.specs.Prelude.{Option, None, Result, Ok}
 use Rattle.cacao_site.specs.View.{SiteView}
 use Rattle.flow_core.specs.SetupLaws.{AcceptedIsRunnable}
-use Rattle.operator_answers.specs.declared.answers.OperatorAnswer.{OperatorAnswer}
+use Rattle.flow_engine_answers.specs.declared.answers.OperatorAnswer.{OperatorAnswer}
 use Rattle.flow_engine.specs.EngineView.{EngineView}
-use Rattle.flow_rules.specs.Moves.{enabled_move}
-use Rattle.flow_steps.specs.Sides.{AllPut}
-use Rattle.flow_steps.specs.Spent.{most_spent, place}
-use Rattle.flow_steps.specs.Worlds.{Phase, rests}
-use Rattle.flow_steps.proofs.Bounded.{spent_few}
-use Rattle.flow_steps.proofs.Spending.{turn_spends}
-use Rattle.flow_steps.proofs.Timely.{in_time_bounds}
+use Rattle.flow_core_rules.specs.Moves.{enabled_move}
+use Rattle.flow_world_steps.specs.Sides.{AllPut}
+use Rattle.flow_world_steps.specs.Spent.{most_spent, place}
+use Rattle.flow_world_steps.specs.Worlds.{Phase, rests}
+use Rattle.flow_world_steps.proofs.Bounded.{spent_few}
+use Rattle.flow_world_steps.proofs.Spending.{turn_spends}
+use Rattle.flow_world_steps.proofs.Timely.{in_time_bounds}
 use Rattle.flow_world_parts.specs.Leads.{Goes, IsBetweenTurns, IsWorking, Turned, world_of}
 use Rattle.flow_world_parts.specs.Used.{used}
 use Rattle.flow_world_parts.specs.declared.close.Close.{Close}
@@ -23,9 +23,6 @@ use Rattle.flow_world_parts.proofs.Standing.{sample, sample_counts}
 
 pub same_session : (s : Session) (v : EngineView) → v ≡ s.engine → ◌≡◌ {A = Session} (record s { engine = v }) s
 same_session s v e = ap (λ (x : EngineView). let t : Session = record s { engine = x } in t) e
-
-pub between_same : (s t : Session) (so sn : SiteView) → t ≡ s → sn ≡ so → IsBetweenTurns s so → IsBetweenTurns t sn
-between_same s t so sn same stays is = subst (λ (x : SiteView). IsBetweenTurns t x) (sym stays) (subst (λ (x : Session). IsBetweenTurns x so) (sym same) is)
 
 pub turned_same : (result : Result (Option Close) WorldError) (answers : List OperatorAnswer) (s t u : Session) (so mid sn : SiteView) (p : Phase) → t ≡ s → mid ≡ so → Turned result answers mid t p sn u → Turned result answers so s p sn u
 turned_same result answers s t u so mid sn p same stays is = subst (λ (x : SiteView). Turned result answers x s p sn u) stays (subst (λ (x : Session). Turned result answers mid x p sn u) same is)

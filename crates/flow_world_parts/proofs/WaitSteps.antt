@@ -10,21 +10,21 @@ use Rattle.run_records.specs.Ranges.{last_moment}
 use Rattle.run_records.specs.declared.act.Act.{Act}
 use Rattle.run_records.specs.declared.record.Record.{Record}
 use Rattle.flow_core.specs.declared.flow_errors.LimitKind.TheVariants as limit
-use Rattle.operator_answers.specs.declared.answers.OperatorAnswer.{OperatorAnswer}
+use Rattle.flow_engine_answers.specs.declared.answers.OperatorAnswer.{OperatorAnswer}
 use Rattle.flow_engine.specs.EngineView.{EngineView}
 use Rattle.flow_engine.specs.OpenIssues.{IsNextPut}
-use Rattle.flow_rules.specs.Changes.{is_in_time, outcome}
-use Rattle.flow_rules.specs.Moves.{asks, due, enabled_move}
-use Rattle.flow_rules.specs.Sane.{IsNotStuck}
-use Rattle.flow_rules.specs.State.{Shown}
+use Rattle.flow_core_rules.specs.Changes.{is_in_time, outcome}
+use Rattle.flow_core_rules.specs.Moves.{asks, due, enabled_move}
+use Rattle.flow_core_rules.specs.Sane.{IsNotStuck}
+use Rattle.flow_core_rules.specs.State.{Shown}
 use Rattle.slpf_actuator.specs.ActuatorView.{ActuatorView}
-use Rattle.flow_steps.specs.Sides.{IsWhole}
-use Rattle.flow_steps.specs.Steps.{GoesTowards, Step, Steps, after_reach, HasRun}
-use Rattle.flow_steps.specs.Steps.Step.{asks_clock, finds_late, opens_clock, finds_run_used}
-use Rattle.flow_steps.specs.Steps.Steps.{nothing, and_then}
-use Rattle.flow_steps.proofs.Timely.{in_time_bounds, in_time_later}
-use Rattle.flow_steps.specs.Turns.{ComesNext, IsIdle, IsOnTime}
-use Rattle.flow_steps.specs.Worlds.{Notes, Phase, World, looked, opened, past, refused, rests, run_used, waits}
+use Rattle.flow_world_steps.specs.Sides.{IsWhole}
+use Rattle.flow_world_steps.specs.Steps.{GoesTowards, Step, Steps, after_reach, HasRun}
+use Rattle.flow_world_steps.specs.Steps.Step.{asks_clock, finds_late, opens_clock, finds_run_used}
+use Rattle.flow_world_steps.specs.Steps.Steps.{nothing, and_then}
+use Rattle.flow_world_steps.proofs.Timely.{in_time_bounds, in_time_later}
+use Rattle.flow_world_steps.specs.Turns.{ComesNext, IsIdle, IsOnTime}
+use Rattle.flow_world_steps.specs.Worlds.{Notes, Phase, World, looked, opened, past, refused, rests, run_used, waits}
 use Rattle.flow_world_parts.specs.Clock.{FallsShort, IsReached, IsTooLate}
 use Rattle.flow_world_parts.specs.Closes.{IsAtTurn}
 use Rattle.flow_world_parts.specs.Leads.{ClosesAt, ClosesFrom, Counts, Ended, EndedAt, Goes, IsAtWork, IsBetweenTurns, IsNewTo, IsWorking, Refuses, RefusesAt, WhereLooked, at, world_of}

@@ -1,4 +1,4 @@
--- What becomes of a command that is handed to its filter, whatever an engine knows of it.
+-- Scaffold: What becomes of a command that is handed to its filter, whatever an engine knows of it.
 use Rattle.std.specs.Prelude.{◌≡◌, ℕ, ◌-◌, Bool, true, false, List, Some, Result, Ok, Err, slice_get, slice_set, ⊤}
 use Rattle.cacao_site.specs.Counts.{Rose}
 use Rattle.cacao_site.specs.View.{SiteView}

@@ -1,4 +1,4 @@
--- What becomes of a question to the clock.
+-- Scaffold: What becomes of a question to the clock.
 use Rattle.std.specs.Prelude.{ℕ, ◌<◌, ◌≤◌}
 use Rattle.cacao_site.specs.SiteCalls.{Reaches}
 use Rattle.cacao_site.specs.View.{SiteView}

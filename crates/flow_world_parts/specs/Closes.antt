@@ -1,10 +1,10 @@
--- How a session closes, and why it refuses once its files are open.
+-- Promise: How a session closes, and why it refuses once its files are open.
 use Rattle.std.specs.Prelude.{◌≡◌, ℕ, ◌<◌, Bool, Some, None}
-use Rattle.flow_rules.specs.Changes.{outcome}
-use Rattle.flow_rules.specs.Moves.{asks, due}
-use Rattle.flow_steps.specs.Sides.{AllPut, IsUp}
-use Rattle.flow_steps.specs.Turns.{IsUntold, most_ignored}
-use Rattle.flow_steps.specs.Worlds.{Cause, World, disk_failed, not_said, past, refused, rests, run_used, waits, wants_memory}
+use Rattle.flow_core_rules.specs.Changes.{outcome}
+use Rattle.flow_core_rules.specs.Moves.{asks, due}
+use Rattle.flow_world_steps.specs.Sides.{AllPut, IsUp}
+use Rattle.flow_world_steps.specs.Turns.{IsUntold, most_ignored}
+use Rattle.flow_world_steps.specs.Worlds.{Cause, World, disk_failed, not_said, past, refused, rests, run_used, waits, wants_memory}
 use Rattle.flow_world_parts.specs.declared.close.Close.{Close}
 use Rattle.flow_world_parts.specs.declared.close.Close.TheVariants as close
 use Rattle.flow_world_parts.specs.declared.error.WorldError.{WorldError}

@@ -1,18 +1,18 @@
--- Where the functions of a session lead: from each world that has what they know, to one that has what they left.
+-- Scaffold: Where the functions of a session lead: from each world that has what they know, to one that has what they left.
 use Rattle.std.specs.Prelude.{◌≡◌, ◌≢◌, ℕ, ◌+◌, ◌<◌, ◌≤◌, Bool, true, false, List, Contains, Option, Some, None, Result, Ok, Err, slice_get, ⊤}
 use Rattle.cacao_site.specs.View.{SiteView}
 use Rattle.cacao_site.specs.declared.parcel.Parcel.{Parcel}
-use Rattle.operator_answers.specs.declared.answers.OperatorAnswer.{OperatorAnswer}
+use Rattle.flow_engine_answers.specs.declared.answers.OperatorAnswer.{OperatorAnswer}
 use Rattle.flow_engine.specs.EngineCalls.{IsWaiting}
 use Rattle.flow_engine.specs.EngineView.{EngineView}
 use Rattle.flow_engine.specs.OpenIssues.{puts_of}
-use Rattle.flow_rules.specs.Changes.{is_in_time, is_waiting}
-use Rattle.flow_rules.specs.declared.issues.Issue.{Issue}
+use Rattle.flow_core_rules.specs.Changes.{is_in_time, is_waiting}
+use Rattle.flow_core_rules.specs.declared.issues.Issue.{Issue}
 use Rattle.slpf_actuator.specs.ActuatorView.{ActuatorView}
-use Rattle.flow_steps.specs.Sides.{AllPut, FiltersReady, IsUp}
-use Rattle.flow_steps.specs.Steps.{Steps}
-use Rattle.flow_steps.specs.Turns.{most_ignored}
-use Rattle.flow_steps.specs.Worlds.{Notes, Phase, World, holds, looked, rests}
+use Rattle.flow_world_steps.specs.Sides.{AllPut, FiltersReady, IsUp}
+use Rattle.flow_world_steps.specs.Steps.{Steps}
+use Rattle.flow_world_steps.specs.Turns.{most_ignored}
+use Rattle.flow_world_steps.specs.Worlds.{Notes, Phase, World, holds, looked, rests}
 use Rattle.flow_world_parts.specs.Closes.{IsClose, IsRefusal}
 use Rattle.flow_world_parts.specs.declared.close.Close.{Close}
 use Rattle.flow_world_parts.specs.declared.error.WorldError.{WorldError}

@@ -1,17 +1,17 @@
--- The opening of a session's files: the journal first, then those of the filters in order.
+-- Promise: The opening of a session's files: the journal first, then those of the filters in order.
 use Rattle.std.specs.Prelude.{◌≡◌, ◌≢◌, ◌⊎◌, ◌↔◌, ℕ, zero, suc, ◌+◌, ◌*◌, ◌-◌, ◌/◌, ◌<◌, ◌≤◌, IsTrue, List, [], ◌∷◌, ◌++◌, length, Any, Some, slice_get, ⊤}
 use Rattle.cacao_site.specs.Counts.{Rose}
 use Rattle.cacao_site.specs.DiskCalls.{GoesOn, IsDurable, IsLeft, OnlyFile, SameRest, StaysAt}
 use Rattle.cacao_site.specs.View.{DiskView, SiteView}
 use Rattle.run_records.specs.declared.act.Act.{Act}
-use Rattle.engine_history.specs.HistoryView.{HoldsRecords}
-use Rattle.engine_history.specs.Openings.{IsRefusedOpening}
-use Rattle.engine_history.specs.declared.error.EngineError.{EngineError}
+use Rattle.flow_engine_history.specs.HistoryView.{HoldsRecords}
+use Rattle.flow_engine_history.specs.Openings.{IsRefusedOpening}
+use Rattle.flow_engine_history.specs.declared.error.EngineError.{EngineError}
 use Rattle.flow_engine.specs.EngineView.{EngineView}
-use Rattle.flow_rules.specs.Givens.{Given}
+use Rattle.flow_core_rules.specs.Givens.{Given}
 use Rattle.slpf_actuator.specs.ActuatorView.{ActuatorView, HoldsActs}
 use Rattle.slpf_actuator.specs.Damage.{IsDamaged}
-use Rattle.flow_steps.specs.Sides.{IsFilter, IsWhole}
+use Rattle.flow_world_steps.specs.Sides.{IsFilter, IsWhole}
 use Rattle.flow_world_parts.specs.Errors.{opening_refusal}
 use Rattle.flow_world_parts.specs.declared.error.WorldError.{WorldError}
 use Rattle.flow_world_parts.specs.declared.error.WorldError.TheVariants as error

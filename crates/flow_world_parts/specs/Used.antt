@@ -1,7 +1,7 @@
--- What a session uses up, so that it ends.
+-- Scaffold: What a session uses up, so that it ends.
 use Rattle.std.specs.Prelude.{ℕ, ◌+◌, ◌*◌, length}
 use Rattle.cacao_site.specs.View.{SiteView}
-use Rattle.flow_steps.specs.Spent.{all_acts, all_counts}
+use Rattle.flow_world_steps.specs.Spent.{all_acts, all_counts}
 use Rattle.flow_world_parts.specs.declared.turns.Session.{Session}
 
 -- records, puts of open issues, acts, parcels that changed nothing, and the present moment: each turn adds to this

@@ -1,7 +1,5 @@
 // What a session asks of the clock.
-ghost use Rattle.std.specs.Prelude.{◌≡◌, ◌≤◌, ◌<◌, IfOk, IfErr, MatchOption};
-ghost use Rattle.cacao_site.specs.SiteCalls.{Reaches};
-ghost use Rattle.run_records.specs.Ranges.{last_moment};
+ghost use Rattle.std.specs.Prelude.{◌≡◌, ◌<◌, IfOk, IfErr, MatchOption};
 ghost use Rattle.flow_core.specs.declared.flow_errors.LimitKind.TheVariants as limit;
 ghost use Rattle.flow_world_parts.specs.Clock.{FallsShort, IsTooLate, IsReached};
 

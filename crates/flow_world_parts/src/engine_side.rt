@@ -3,11 +3,11 @@ ghost use Rattle.std.specs.Prelude.{◌≡◌, ◌≢◌, ◌+◌, ◌<◌, ◌�
 ghost use Rattle.run_records.specs.Ranges.{last_moment};
 ghost use Rattle.flow_engine.specs.EngineCalls.{IsReplyTo, IsWaiting, Sends};
 ghost use Rattle.flow_engine.specs.OpenIssues.{puts_of};
-ghost use Rattle.flow_rules.specs.declared.issues.Issue.{Issue};
+ghost use Rattle.flow_core_rules.specs.declared.issues.Issue.{Issue};
 ghost use Rattle.oc2_msg.specs.declared.answers.Answer.{Answer};
-ghost use Rattle.flow_steps.specs.Sides.{AllPut, IsUp, IsWhole};
-ghost use Rattle.flow_steps.specs.Steps.{IsAddressed};
-ghost use Rattle.flow_steps.specs.Worlds.{holds, owes, rests};
+ghost use Rattle.flow_world_steps.specs.Sides.{AllPut, IsWhole};
+ghost use Rattle.flow_world_steps.specs.Steps.{IsAddressed};
+ghost use Rattle.flow_world_steps.specs.Worlds.{holds, owes, rests};
 ghost use Rattle.flow_world_parts.specs.Leads.{AnyNotes, ArePutBelow, EngineDid, EngineTried, IsAtWork, KeepsFilters, MayAppend};
 
 use crate::error::{WorldError, of_append};

@@ -1,6 +1,6 @@
 // Why a session refuses.
 ghost use Rattle.std.specs.Prelude.{◌≡◌, ◌≢◌};
-ghost use Rattle.engine_history.specs.declared.error.EngineError.TheVariants as engine_error;
+ghost use Rattle.flow_engine_history.specs.declared.error.EngineError.TheVariants as engine_error;
 ghost use Rattle.flow_world_parts.specs.Errors.{MayRefuseAppend, append_refusal, opening_refusal};
 
 use flow_core::LimitKind;

@@ -1,9 +1,9 @@
 // The filters of a session. They know nothing of the engine.
-ghost use Rattle.std.specs.Prelude.{◌≡◌, ◌↔◌, ◌+◌, ◌≤◌, ℕ, [], true, false, MatchOption, IsTrue, IfOk, IfErr, OnOk, length};
+ghost use Rattle.std.specs.Prelude.{◌≡◌, ◌↔◌, ◌+◌, ◌≤◌, ℕ, [], false, MatchOption, IsTrue, IfOk, IfErr, OnOk, length};
 ghost use Rattle.run_records.specs.Ranges.{last_moment};
 ghost use Rattle.flow_laws.specs.Images.{HasBegun};
-ghost use Rattle.flow_steps.specs.Sides.{FiltersReady};
-ghost use Rattle.flow_steps.specs.Steps.{IsAddressed};
+ghost use Rattle.flow_world_steps.specs.Sides.{FiltersReady};
+ghost use Rattle.flow_world_steps.specs.Steps.{IsAddressed};
 ghost use Rattle.flow_world_parts.specs.Acting.{OneAnswers};
 ghost use Rattle.flow_world_parts.specs.Errors.{MayRefuseAct, MayRefuseFile, act_refusal, file_refusal};
 ghost use Rattle.flow_world_parts.specs.Leads.{FilterDid};

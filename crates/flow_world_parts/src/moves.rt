@@ -1,21 +1,21 @@
 // What an engine does in a turn whose take found no parcel, in this order: a move, what an operator told, an Expire, a resend.
 // The first three are true exactly where they applied; else nothing changed, and the next one is tried. `soonest` tells what the resend is.
-ghost use Rattle.std.specs.Prelude.{◌≡◌, ◌≢◌, ◌≤◌, ℕ, min, List, Some, None, true, false, Ok, OnOk, IfErr};
+ghost use Rattle.std.specs.Prelude.{◌≡◌, ◌≤◌, ℕ, min, List, Some, None, true, false, Ok, OnOk};
 ghost use Rattle.std.specs.Option.{option_map_or};
-ghost use Rattle.flow_rules.specs.Changes.{outcome};
-ghost use Rattle.operator_answers.specs.Answers.{IsOperatorAnswer};
-ghost use Rattle.operator_answers.specs.declared.answers.OperatorAnswer.{OperatorAnswer};
+ghost use Rattle.flow_core_rules.specs.Changes.{outcome};
+ghost use Rattle.flow_engine_answers.specs.Answers.{IsOperatorAnswer};
+ghost use Rattle.flow_engine_answers.specs.declared.answers.OperatorAnswer.{OperatorAnswer};
 ghost use Rattle.flow_engine.specs.OpenIssues.{IsNextPut};
-ghost use Rattle.flow_steps.specs.Sides.{AllPut};
-ghost use Rattle.flow_steps.specs.Turns.{IsIdle, IsOnTime, IsToBeTold, IsUntold};
-ghost use Rattle.flow_steps.specs.Worlds.{looked, rests};
+ghost use Rattle.flow_world_steps.specs.Sides.{AllPut};
+ghost use Rattle.flow_world_steps.specs.Turns.{IsIdle, IsOnTime, IsToBeTold, IsUntold};
+ghost use Rattle.flow_world_steps.specs.Worlds.{looked};
 ghost use Rattle.flow_world_parts.specs.Leads.{EngineDid, EngineTried, IsAtWork, IsLeastTold, KeepsFilters, IsWaitingFor, MayAnswer, WhereLooked};
 
 use crate::engine_side::{put_first, put_issue, say_last};
 use crate::error::{WorldError, of_append};
 use cacao_site::Site;
 use flow_engine::Engine;
-use operator_answers::{Answers, OperatorAnswer};
+use flow_engine_answers::{Answers, OperatorAnswer};
 
 /// Appends the record of the enabled move at the present moment, says its line, and puts the command that it sends.
 pub fn move_on<S: Site>(engine: &mut Engine, site: &mut S, now: u64) -> Result<bool, WorldError>

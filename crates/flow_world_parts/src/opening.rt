@@ -1,7 +1,7 @@
 // The opening of a session's files, and what follows once they are open.
 ghost use Rattle.std.specs.Prelude.{◌≡◌, ◌≤◌, ℕ, [], MatchOption, IfOk, IfErr, length};
-ghost use Rattle.flow_steps.specs.Sides.{FiltersReady, IsWhole};
-ghost use Rattle.flow_steps.specs.Worlds.{Notes, opened};
+ghost use Rattle.flow_world_steps.specs.Sides.{FiltersReady, IsWhole};
+ghost use Rattle.flow_world_steps.specs.Worlds.{Notes, opened};
 ghost use Rattle.flow_world_parts.specs.Leads.{EndedAt, IsNewTo, at};
 ghost use Rattle.flow_world_parts.specs.Openings.{AreOpen, HasRunAt, IsFirstRunAt, RefusesOpening};
 
@@ -13,7 +13,7 @@ use crate::turns::Session;
 use cacao_site::Site;
 use flow_core::Setup;
 use flow_engine::Engine;
-use operator_answers::Answers;
+use flow_engine_answers::Answers;
 use std::alloc::Global;
 
 /// Opens the journal for a run, and then the files of the filters in order. It writes nothing.

@@ -1,14 +1,14 @@
 // A session between its calls.
 ghost use Rattle.std.specs.Prelude.{◌≡◌, ◌+◌, ◌<◌, ◌≤◌, ℕ, List, [], length, Some, None, true, false, Ok, OnOk, IfSome};
 ghost use Rattle.run_records.specs.Ranges.{last_moment};
-ghost use Rattle.flow_rules.specs.Changes.{outcome};
-ghost use Rattle.flow_rules.specs.Moves.{enabled_move};
-ghost use Rattle.operator_answers.specs.declared.answers.OperatorAnswer.{OperatorAnswer};
+ghost use Rattle.flow_core_rules.specs.Changes.{outcome};
+ghost use Rattle.flow_core_rules.specs.Moves.{enabled_move};
+ghost use Rattle.flow_engine_answers.specs.declared.answers.OperatorAnswer.{OperatorAnswer};
 ghost use Rattle.flow_engine.specs.OpenIssues.{IsNextPut};
-ghost use Rattle.flow_steps.specs.Sides.{AllPut, FiltersReady, IsWhole};
-ghost use Rattle.flow_steps.specs.Steps.{IsAddressed};
-ghost use Rattle.flow_steps.specs.Turns.{IsIdle, IsOnTime, IsUntold, most_ignored};
-ghost use Rattle.flow_steps.specs.Worlds.{holds, looked, rests};
+ghost use Rattle.flow_world_steps.specs.Sides.{AllPut, FiltersReady, IsWhole};
+ghost use Rattle.flow_world_steps.specs.Steps.{IsAddressed};
+ghost use Rattle.flow_world_steps.specs.Turns.{IsIdle, IsOnTime, IsUntold, most_ignored};
+ghost use Rattle.flow_world_steps.specs.Worlds.{holds, looked, rests};
 ghost use Rattle.flow_world_parts.specs.Leads.{Did, Ended, IsBetweenTurns, IsWorking, Turned, WhereLooked};
 ghost use Rattle.flow_world_parts.specs.Used.{used};
 
@@ -21,7 +21,7 @@ use crate::moves::{expire, move_on, resend, soonest, tell};
 use cacao_site::{Parcel, Site};
 use flow_core::{LimitKind, accepted_is_runnable};
 use flow_engine::Engine;
-use operator_answers::Answers;
+use flow_engine_answers::Answers;
 
 /// The most parcels of a session that change neither journal.
 const MOST_IGNORED: u32 = 1_000_000;

@@ -7,13 +7,13 @@ use Rattle.oc2_msg.specs.declared.directions.Direction.{Direction}
 use Rattle.oc2_msg.specs.declared.drops.Drop3.{Drop3}
 use Rattle.oc2_msg.specs.declared.arguments.FilterArgs.{FilterArgs}
 use Rattle.oc2_msg.specs.declared.arguments.Args.{Args}
-use Rattle.oc2_targets.specs.Parts.{optional, whole_data, has_only, object_of, present, is_absent_or, is_object, unless_empty}
+use Rattle.oc2_msg_targets.specs.Parts.{optional, whole_data, has_only, object_of, present, is_absent_or, is_object, unless_empty}
 use Rattle.oc2_msg.specs.Args.{time, filter_parts, filter_args_in, arg_parts, are_times, args_in}
-use Rattle.oc2_targets.specs.Ranges.{Each, IsRuleNumber}
+use Rattle.oc2_msg_targets.specs.Ranges.{Each, IsRuleNumber}
 use Rattle.oc2_msg.specs.Ranges.{IsTime, MayDrop}
 use Rattle.oc2_msg.specs.Least.{direction_part, drop_part, filter_part, args_part}
-use Rattle.oc2_targets.proofs.PresentLemmas.{Part, get_member-present, are_among-present, ArePartsOf, AreFormedMembers-present, members_depth-present, Each-unless_empty, is_object-unless_empty}
-use Rattle.oc2_targets.proofs.ValueLemmas.{optional_whole-back, Each-whole_data, IsUtf8-word}
+use Rattle.oc2_msg_targets.proofs.PresentLemmas.{Part, get_member-present, are_among-present, ArePartsOf, AreFormedMembers-present, members_depth-present, Each-unless_empty, is_object-unless_empty}
+use Rattle.oc2_msg_targets.proofs.ValueLemmas.{optional_whole-back, Each-whole_data, IsUtf8-word}
 use Rattle.oc2_msg.proofs.WordLemmas.{optional_direction-back, direction_read, optional_drop-back, drop_read, Each-direction_part, Each-drop_part}
 
 -- ---- the arguments of the profile

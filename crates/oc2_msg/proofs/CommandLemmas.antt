@@ -3,22 +3,22 @@ use Rattle.std.proofs.Common.{◌≡◌, ℕ, Bool, true, false, not, List, [], 
 use Rattle.std.specs.Prelude.{option_and_then, is_some, is_none}
 use Rattle.serde_json.specs.Data.{Data, string}
 use Rattle.serde_json.specs.Find.{get}
-use Rattle.oc2_targets.specs.declared.actions.Action.{Action}
-use Rattle.oc2_targets.specs.declared.actions.Action.TheVariants as action
-use Rattle.oc2_targets.specs.declared.kinds.TargetKind.{TargetKind}
-use Rattle.oc2_targets.specs.declared.kinds.TargetKind.TheVariants as kind
-use Rattle.oc2_targets.specs.declared.targets.Target.{Target}
+use Rattle.oc2_msg_targets.specs.declared.actions.Action.{Action}
+use Rattle.oc2_msg_targets.specs.declared.actions.Action.TheVariants as action
+use Rattle.oc2_msg_targets.specs.declared.kinds.TargetKind.{TargetKind}
+use Rattle.oc2_msg_targets.specs.declared.kinds.TargetKind.TheVariants as kind
+use Rattle.oc2_msg_targets.specs.declared.targets.Target.{Target}
 use Rattle.oc2_msg.specs.declared.arguments.Args.{Args}
 use Rattle.oc2_msg.specs.declared.commands.Command.{Command}
 use Rattle.oc2_msg.specs.declared.refusals.Refusal.{Refusal}
 use Rattle.oc2_msg.specs.declared.reasons.Reason.TheVariants as reason
-use Rattle.oc2_targets.specs.Parts.{is_absent_or, is_object, single, has_only, one_member}
-use Rattle.oc2_targets.specs.Words.{action_word, action_named, kind_word, kind_named, takes, is_deny, adds_rule}
-use Rattle.oc2_targets.specs.Targets.{target_in}
+use Rattle.oc2_msg_targets.specs.Parts.{is_absent_or, is_object, single, has_only, one_member}
+use Rattle.oc2_msg_targets.specs.Words.{action_word, action_named, kind_word, kind_named, takes, is_deny, adds_rule}
+use Rattle.oc2_msg_targets.specs.Targets.{target_in}
 use Rattle.oc2_msg.specs.Args.{args_in, is_unserved}
 use Rattle.oc2_msg.specs.Commands.{is_command, target_part, action_of, kind_of, taken_by, target_of, args_of, has_unserved, refusal, first_row, command_with, answered, answer_to, command_parts}
 use Rattle.oc2_msg.specs.Least.{message}
-use Rattle.oc2_targets.proofs.PresentLemmas.{Part, get_member-present, are_among-present}
+use Rattle.oc2_msg_targets.proofs.PresentLemmas.{Part, get_member-present, are_among-present}
 
 -- ---- the answer, by what is read
 

@@ -7,31 +7,31 @@ use Rattle.cacao_text.proofs.LawLemmas.{tree-canon}
 use Rattle.oc2_nets.specs.declared.flows.Flow.{Flow}
 use Rattle.oc2_nets.specs.declared.flows.Flow.TheVariants as flow
 use Rattle.oc2_nets.proofs.RoundTrips.{net4_back, net6_back}
-use Rattle.oc2_targets.specs.declared.actions.Action.{Action}
-use Rattle.oc2_targets.specs.declared.actions.Action.TheVariants as action
-use Rattle.oc2_targets.specs.declared.kinds.TargetKind.{TargetKind}
-use Rattle.oc2_targets.specs.declared.kinds.TargetKind.TheVariants as kind
-use Rattle.oc2_targets.specs.declared.targets.Target.TheVariants as target
+use Rattle.oc2_msg_targets.specs.declared.actions.Action.{Action}
+use Rattle.oc2_msg_targets.specs.declared.actions.Action.TheVariants as action
+use Rattle.oc2_msg_targets.specs.declared.kinds.TargetKind.{TargetKind}
+use Rattle.oc2_msg_targets.specs.declared.kinds.TargetKind.TheVariants as kind
+use Rattle.oc2_msg_targets.specs.declared.targets.Target.TheVariants as target
 use Rattle.oc2_msg.specs.declared.directions.Direction.{Direction}
 use Rattle.oc2_msg.specs.declared.drops.Drop3.{Drop3}
-use Rattle.oc2_targets.specs.declared.features.Feature.{Feature}
+use Rattle.oc2_msg_targets.specs.declared.features.Feature.{Feature}
 use Rattle.oc2_msg.specs.declared.commands.Command.{Command}
 use Rattle.oc2_msg.specs.declared.commands.Command.TheVariants as command
-use Rattle.oc2_targets.specs.Parts.{whole_data, one_member}
-use Rattle.oc2_targets.specs.Words.{kind_word, action_word, feature_word, takes, is_deny, adds_rule}
-use Rattle.oc2_targets.specs.Features.{is_distinct}
-use Rattle.oc2_targets.specs.Targets.{has_part, target_in}
+use Rattle.oc2_msg_targets.specs.Parts.{whole_data, one_member}
+use Rattle.oc2_msg_targets.specs.Words.{kind_word, action_word, feature_word, takes, is_deny, adds_rule}
+use Rattle.oc2_msg_targets.specs.Features.{is_distinct}
+use Rattle.oc2_msg_targets.specs.Targets.{has_part, target_in}
 use Rattle.oc2_msg.specs.Args.{args_in, no_args, is_unserved}
 use Rattle.oc2_msg.specs.Commands.{command_with, answer_to, is_command, action_of, kind_of, target_of, args_of}
-use Rattle.oc2_targets.specs.Ranges.{Each, FlowInRange}
+use Rattle.oc2_msg_targets.specs.Ranges.{Each, FlowInRange}
 use Rattle.oc2_msg.specs.Ranges.{RuleInRange, InRange}
-use Rattle.oc2_targets.specs.Least.{flow_kind, flow_value, features_data}
+use Rattle.oc2_msg_targets.specs.Least.{flow_kind, flow_value, features_data}
 use Rattle.oc2_msg.specs.Least.{args_part, message, rule_action, command_data}
 use Rattle.oc2_msg.specs.Laws.{HasCommand, CommandsReadBack}
-use Rattle.oc2_targets.proofs.PresentLemmas.{Part, ArePartsOf, IsFormed-object_of, depth-object_of}
-use Rattle.oc2_targets.proofs.ValueLemmas.{whole-whole_data, IsFormed-whole_data, IsUtf8-word, IsUtf8-net4_text, IsUtf8-net6_text, features_in-back, AreFormed-features, items_depth-texts, is_ascii_text}
+use Rattle.oc2_msg_targets.proofs.PresentLemmas.{Part, ArePartsOf, IsFormed-object_of, depth-object_of}
+use Rattle.oc2_msg_targets.proofs.ValueLemmas.{whole-whole_data, IsFormed-whole_data, IsUtf8-word, IsUtf8-net4_text, IsUtf8-net6_text, features_in-back, AreFormed-features, items_depth-texts, is_ascii_text}
 use Rattle.oc2_msg.proofs.WordLemmas.{direction_read-back, drop_read-back}
-use Rattle.oc2_targets.proofs.TargetLemmas.{connection4-back, connection6-back, IsFormed-connection4, IsFormed-connection6}
+use Rattle.oc2_msg_targets.proofs.TargetLemmas.{connection4-back, connection6-back, IsFormed-connection4, IsFormed-connection6}
 use Rattle.oc2_msg.proofs.ArgLemmas.{args_read, args_back, args_are_object, args_fit}
 use Rattle.oc2_msg.proofs.CommandLemmas.{answer_to-message, has_command}
 

@@ -7,20 +7,20 @@ use Rattle.serde_json.specs.Data.{Data, object, member, no_members, Members, dep
 use Rattle.serde_json.specs.Find.{get}
 use Rattle.cacao_json.specs.Profile.{IsFormed, IsTree}
 use Rattle.cacao_text.proofs.LawLemmas.{tree-canon}
-use Rattle.oc2_targets.specs.declared.features.Feature.{Feature}
-use Rattle.oc2_targets.specs.declared.features.Feature.TheVariants as feature
+use Rattle.oc2_msg_targets.specs.declared.features.Feature.{Feature}
+use Rattle.oc2_msg_targets.specs.declared.features.Feature.TheVariants as feature
 use Rattle.oc2_msg.specs.declared.reasons.Reason.{Reason}
 use Rattle.oc2_msg.specs.declared.reasons.Reason.TheVariants as reason
 use Rattle.oc2_msg.specs.declared.responses.Response.{Response}
-use Rattle.oc2_targets.specs.Parts.{optional, whole, whole_data, present, is_object, is_absent_or, one_member, unless_empty, one_text}
+use Rattle.oc2_msg_targets.specs.Parts.{optional, whole, whole_data, present, is_object, is_absent_or, one_member, unless_empty, one_text}
 use Rattle.oc2_msg.specs.Reasons.{reason_text}
-use Rattle.oc2_targets.specs.Features.{has}
-use Rattle.oc2_targets.specs.Ranges.{Each}
+use Rattle.oc2_msg_targets.specs.Features.{has}
+use Rattle.oc2_msg_targets.specs.Ranges.{Each}
 use Rattle.oc2_msg.specs.Ranges.{is_status, ResponseInRange}
 use Rattle.oc2_msg.specs.Responses.{flow_kinds, feature_value, value_part, rule_part, results_part, text_part, response_data, status_in, short_text, status_text_in, rule_in, answer_in}
 use Rattle.oc2_msg.specs.Laws.{ResponsesReadBack}
-use Rattle.oc2_targets.proofs.PresentLemmas.{Part, get_member-present, ArePartsOf, AreFormedMembers-present, members_depth-present, Each-unless_empty, is_object-unless_empty, IsFormed-object_of, depth-object_of}
-use Rattle.oc2_targets.proofs.ValueLemmas.{whole-whole_data, IsFormed-whole_data, IsUtf8-word, is_ascii_text, items_depth-texts}
+use Rattle.oc2_msg_targets.proofs.PresentLemmas.{Part, get_member-present, ArePartsOf, AreFormedMembers-present, members_depth-present, Each-unless_empty, is_object-unless_empty, IsFormed-object_of, depth-object_of}
+use Rattle.oc2_msg_targets.proofs.ValueLemmas.{whole-whole_data, IsFormed-whole_data, IsUtf8-word, is_ascii_text, items_depth-texts}
 
 -- ---- what is written
 

@@ -3,9 +3,9 @@ use Rattle.std.proofs.Common.{◌≡◌, ◌≤◌, Bool, true, false, codes, Op
 use Rattle.std.specs.Prelude.{unwrap_or}
 use Rattle.serde_json.specs.Data.{depth}
 use Rattle.cacao_json.specs.Profile.{IsFormed}
-use Rattle.oc2_targets.specs.Parts.{optional}
-use Rattle.oc2_targets.specs.Ranges.{Each}
-use Rattle.oc2_targets.proofs.ValueLemmas.{IsUtf8-word}
+use Rattle.oc2_msg_targets.specs.Parts.{optional}
+use Rattle.oc2_msg_targets.specs.Ranges.{Each}
+use Rattle.oc2_msg_targets.proofs.ValueLemmas.{IsUtf8-word}
 use Rattle.oc2_msg.specs.declared.directions.Direction.{Direction}
 use Rattle.oc2_msg.specs.declared.directions.Direction.TheVariants as direction
 use Rattle.oc2_msg.specs.declared.drops.Drop3.{Drop3}

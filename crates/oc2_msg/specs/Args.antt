@@ -1,4 +1,4 @@
--- The arguments of commands.
+-- Promise: The arguments of commands.
 use Rattle.std.specs.Prelude.{ℕ, List, [], ◌∷◌, Bool, true, false, not, ◌&&◌, ◌||◌, nat_le, Option, Some, None, option_and_then, is_some, codes, if◌then◌else◌}
 use Rattle.std.specs.List.{list_any}
 use Rattle.std.specs.Str.{bytes_eq}
@@ -8,7 +8,7 @@ use Rattle.oc2_msg.specs.declared.directions.Direction.{Direction}
 use Rattle.oc2_msg.specs.declared.drops.Drop3.{Drop3}
 use Rattle.oc2_msg.specs.declared.arguments.FilterArgs.{FilterArgs}
 use Rattle.oc2_msg.specs.declared.arguments.Args.{Args}
-use Rattle.oc2_targets.specs.Parts.{◌>>=◌, provided, optional, has_only, whole}
+use Rattle.oc2_msg_targets.specs.Parts.{◌>>=◌, provided, optional, has_only, whole}
 use Rattle.oc2_msg.specs.Words.{direction_named, drop_named, requests}
 
 abbrev pub time : Data → Option ℕ

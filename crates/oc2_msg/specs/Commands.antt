@@ -1,4 +1,4 @@
--- Commands: which bytes are refused, and what the others ask for.
+-- Promise: Commands: which bytes are refused, and what the others ask for.
 use Rattle.std.specs.Prelude.{ℕ, List, [], ◌∷◌, length, Bool, false, not, ◌&&◌, nat_le, Option, Some, None, option_and_then, unwrap_or, is_some, is_none, Result, Err, codes, if◌then◌else◌}
 use Rattle.std.specs.Option.{ok_or, option_map_or}
 use Rattle.std.specs.List.{list_any}
@@ -7,10 +7,10 @@ use Rattle.std.specs.Str.{chars}
 use Rattle.serde_json.specs.Data.{Data, null}
 use Rattle.serde_json.specs.Find.{get, as_str}
 use Rattle.cacao_json.specs.Reading.{tree}
-use Rattle.oc2_targets.specs.declared.actions.Action.{Action}
-use Rattle.oc2_targets.specs.declared.kinds.TargetKind.{TargetKind}
-use Rattle.oc2_targets.specs.declared.targets.Target.{Target}
-use Rattle.oc2_targets.specs.declared.targets.Target.TheVariants as target
+use Rattle.oc2_msg_targets.specs.declared.actions.Action.{Action}
+use Rattle.oc2_msg_targets.specs.declared.kinds.TargetKind.{TargetKind}
+use Rattle.oc2_msg_targets.specs.declared.targets.Target.{Target}
+use Rattle.oc2_msg_targets.specs.declared.targets.Target.TheVariants as target
 use Rattle.oc2_msg.specs.declared.arguments.Args.{Args}
 use Rattle.oc2_msg.specs.declared.directions.Direction.TheVariants.{Both}
 use Rattle.oc2_msg.specs.declared.drops.Drop3.TheVariants.{Silent}
@@ -19,9 +19,9 @@ use Rattle.oc2_msg.specs.declared.commands.Command.TheVariants as command
 use Rattle.oc2_msg.specs.declared.refusals.Refusal.{Refusal}
 use Rattle.oc2_msg.specs.declared.reasons.Reason.{Reason}
 use Rattle.oc2_msg.specs.declared.reasons.Reason.TheVariants as reason
-use Rattle.oc2_targets.specs.Parts.{◌>>=◌, has_only, single, is_object, is_absent_or}
-use Rattle.oc2_targets.specs.Words.{action_named, kind_named, takes, is_deny, adds_rule}
-use Rattle.oc2_targets.specs.Targets.{target_in}
+use Rattle.oc2_msg_targets.specs.Parts.{◌>>=◌, has_only, single, is_object, is_absent_or}
+use Rattle.oc2_msg_targets.specs.Words.{action_named, kind_named, takes, is_deny, adds_rule}
+use Rattle.oc2_msg_targets.specs.Targets.{target_in}
 use Rattle.oc2_msg.specs.Args.{args_in, is_unserved}
 
 -- ---- the parts of a command

@@ -1,4 +1,4 @@
--- What is written reads back.
+-- Promise: What is written reads back.
 use Rattle.std.specs.Prelude.{◌≡◌, Some, None, Ok, IsSome}
 use Rattle.serde_json.specs.Data.{Data}
 use Rattle.oc2_msg.specs.declared.commands.Command.{Command}

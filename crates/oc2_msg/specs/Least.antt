@@ -1,13 +1,13 @@
--- The least command object with a value: absent parts, `both` and `none` are not written.
+-- Promise: The least command object with a value: absent parts, `both` and `none` are not written.
 use Rattle.std.specs.Prelude.{ℕ, List, [], ◌∷◌, Bool, Option, Some, None, option_map, codes, if◌then◌else◌}
 use Rattle.serde_json.specs.Data.{Data, string}
 use Rattle.cacao_text.specs.Canon.{canon}
-use Rattle.oc2_targets.specs.declared.actions.Action.{Action}
-use Rattle.oc2_targets.specs.declared.actions.Action.TheVariants as action
-use Rattle.oc2_targets.specs.declared.kinds.TargetKind.TheVariants as kind
-use Rattle.oc2_targets.specs.Parts.{object_of, one_member, part_of, whole_data}
-use Rattle.oc2_targets.specs.Words.{action_word, kind_word}
-use Rattle.oc2_targets.specs.Least.{flow_data, features_data}
+use Rattle.oc2_msg_targets.specs.declared.actions.Action.{Action}
+use Rattle.oc2_msg_targets.specs.declared.actions.Action.TheVariants as action
+use Rattle.oc2_msg_targets.specs.declared.kinds.TargetKind.TheVariants as kind
+use Rattle.oc2_msg_targets.specs.Parts.{object_of, one_member, part_of, whole_data}
+use Rattle.oc2_msg_targets.specs.Words.{action_word, kind_word}
+use Rattle.oc2_msg_targets.specs.Least.{flow_data, features_data}
 use Rattle.oc2_msg.specs.declared.directions.Direction.{Direction}
 use Rattle.oc2_msg.specs.declared.directions.Direction.TheVariants as direction
 use Rattle.oc2_msg.specs.declared.drops.Drop3.{Drop3}

@@ -1,4 +1,4 @@
--- Commands, as the code has them before it looks into their parts.
+-- Promise: Commands, as the code has them before it looks into their parts.
 use Rattle.std.specs.Prelude.{◌≡◌, true, ⊤, Some, option_map, Result, Ok, Err, codes}
 use Rattle.serde_json.specs.Data.{Data}
 use Rattle.serde_json.specs.Find.{get}

@@ -1,10 +1,10 @@
--- The ranges of commands and responses.
+-- Promise: The ranges of commands and responses.
 use Rattle.std.specs.Prelude.{◌≡◌, ℕ, ◌<◌, ◌≤◌, ◌==◌, ◌^◌, List, [], ◌∷◌, length, Bool, true, false, IsTrue, Option, ⊤, IsUtf8, unwrap_or}
 use Rattle.std.specs.List.{list_any}
 use Rattle.oc2_nets.specs.declared.flows.Flow.{Flow}
-use Rattle.oc2_targets.specs.Targets.{has_part}
-use Rattle.oc2_targets.specs.Features.{is_distinct}
-use Rattle.oc2_targets.specs.Ranges.{IsRuleNumber, Each, FlowInRange}
+use Rattle.oc2_msg_targets.specs.Targets.{has_part}
+use Rattle.oc2_msg_targets.specs.Features.{is_distinct}
+use Rattle.oc2_msg_targets.specs.Ranges.{IsRuleNumber, Each, FlowInRange}
 use Rattle.oc2_msg.specs.declared.drops.Drop3.{Drop3}
 use Rattle.oc2_msg.specs.declared.drops.Drop3.TheVariants.{Silent}
 use Rattle.oc2_msg.specs.declared.arguments.FilterArgs.{FilterArgs}

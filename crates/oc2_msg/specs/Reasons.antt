@@ -1,4 +1,4 @@
--- The texts of refusals and responses.
+-- Promise: The texts of refusals and responses.
 use Rattle.std.specs.Prelude.{ℕ, List, [], codes}
 use Rattle.oc2_msg.specs.declared.reasons.Reason.{Reason}
 use Rattle.oc2_msg.specs.declared.reasons.Reason.TheVariants as reason

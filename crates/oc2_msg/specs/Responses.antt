@@ -1,20 +1,20 @@
--- Responses: what is written, and what is read.
+-- Promise: Responses: what is written, and what is read.
 use Rattle.std.specs.Prelude.{◌≡◌, ⊤, Result, Ok, Err, ℕ, List, [], ◌∷◌, length, ◌==◌, nat_le, Option, Some, None, option_map, option_and_then, unwrap_or, codes, if◌then◌else◌}
 use Rattle.serde_json.specs.Data.{Data, string, array}
 use Rattle.serde_json.specs.Find.{get, as_str}
 use Rattle.cacao_json.specs.Reading.{tree}
 use Rattle.cacao_text.specs.Canon.{canon}
-use Rattle.oc2_targets.specs.declared.features.Feature.{Feature}
-use Rattle.oc2_targets.specs.declared.features.Feature.TheVariants as feature
+use Rattle.oc2_msg_targets.specs.declared.features.Feature.{Feature}
+use Rattle.oc2_msg_targets.specs.declared.features.Feature.TheVariants as feature
 use Rattle.oc2_msg.specs.declared.reasons.Reason.{Reason}
 use Rattle.oc2_msg.specs.declared.responses.Response.{Response}
 use Rattle.oc2_msg.specs.declared.answers.Answer.{Answer}
 use Rattle.oc2_msg.specs.declared.answers.ResponseError.{ResponseError}
 use Rattle.oc2_msg.specs.declared.answers.ResponseError.TheVariants.{Malformed, Memory}
-use Rattle.oc2_targets.specs.Parts.{◌>>=◌, provided, optional, is_object, is_absent_or, whole, object_of, whole_data, texts, part_of, one_member, one_text}
+use Rattle.oc2_msg_targets.specs.Parts.{◌>>=◌, provided, optional, is_object, is_absent_or, whole, object_of, whole_data, texts, part_of, one_member, one_text}
 use Rattle.oc2_msg.specs.Ranges.{is_status}
 use Rattle.oc2_msg.specs.Reasons.{reason_text}
-use Rattle.oc2_targets.specs.Features.{has}
+use Rattle.oc2_msg_targets.specs.Features.{has}
 
 -- ---- the values of features
 

@@ -1,6 +1,6 @@
--- The words of arguments, and what they stand for.
+-- Promise: The words of arguments, and what they stand for.
 use Rattle.std.specs.Prelude.{ℕ, List, [], ◌∷◌, Option, codes}
-use Rattle.oc2_targets.specs.Parts.{named}
+use Rattle.oc2_msg_targets.specs.Parts.{named}
 use Rattle.oc2_msg.specs.declared.directions.Direction.{Direction}
 use Rattle.oc2_msg.specs.declared.directions.Direction.TheVariants as direction
 use Rattle.oc2_msg.specs.declared.drops.Drop3.{Drop3}

@@ -2,16 +2,16 @@
 ghost use Rattle.std.specs.Prelude.{◌≡◌, IfSome, Some, codes};
 ghost use Rattle.serde_json.specs.Find.{get};
 ghost use Rattle.cacao_json.specs.Tree.{data_of};
-ghost use Rattle.oc2_targets.specs.Parts.{optional, has_only};
-ghost use Rattle.oc2_msg.specs.Args.{time, rule_number, filter_parts, no_filter_args, filter_values, filter_args_in, arg_parts, is_at_most, are_times, no_args, arg_values, args_in, has_filter_arg, has_time, is_unserved};
-ghost use Rattle.oc2_targets.specs.Ranges.{Each, IsRuleNumber};
+ghost use Rattle.oc2_msg_targets.specs.Parts.{optional, has_only};
+ghost use Rattle.oc2_msg.specs.Args.{time, rule_number, no_filter_args, filter_values, filter_args_in, arg_parts, is_at_most, are_times, no_args, arg_values, args_in, has_filter_arg, has_time, is_unserved};
+ghost use Rattle.oc2_msg_targets.specs.Ranges.{Each, IsRuleNumber};
 ghost use Rattle.oc2_msg.specs.Ranges.{IsTime, FilterArgsInRange, ArgsInRange, HasTimes};
 
 use crate::directions::Direction;
 use crate::drops::Drop3;
 use crate::values::{optional_direction, optional_drop, optional_flag, optional_request};
 use cacao_json::{Tree, member};
-use oc2_targets::{has_only, optional_whole};
+use oc2_msg_targets::{has_only, optional_whole};
 
 /// The arguments of the profile (OpenC2 SLPF 1.0, section 2.1.3), each where it stands.
 #[derive(Clone, Copy)]

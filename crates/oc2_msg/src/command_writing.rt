@@ -1,11 +1,11 @@
 // From commands to texts.
 ghost use Rattle.std.specs.Prelude.{◌≡◌, IfOk, Ok, option_map};
 ghost use Rattle.cacao_json.specs.Tree.{data_of};
-ghost use Rattle.oc2_targets.specs.declared.actions.Action.TheVariants as action;
+ghost use Rattle.oc2_msg_targets.specs.declared.actions.Action.TheVariants as action;
 ghost use Rattle.oc2_msg.specs.declared.commands.Command.TheVariants as command;
-ghost use Rattle.oc2_targets.specs.Parts.{whole_data};
+ghost use Rattle.oc2_msg_targets.specs.Parts.{whole_data};
 ghost use Rattle.oc2_msg.specs.Commands.{answer_of};
-ghost use Rattle.oc2_targets.specs.Ranges.{Each};
+ghost use Rattle.oc2_msg_targets.specs.Ranges.{Each};
 ghost use Rattle.oc2_msg.specs.Ranges.{IsTime, InRange};
 ghost use Rattle.oc2_msg.specs.Least.{direction_part, drop_part, filter_part, args_with, message, rule_action, command_data, command_text};
 
@@ -14,7 +14,7 @@ use crate::directions::Direction;
 use crate::drops::Drop3;
 use cacao_json::{Pairs, Text, Tree};
 use cacao_text::{Bytes2, canonical};
-use oc2_targets::{
+use oc2_msg_targets::{
     Action, FeatureList, TargetKind, features_tree, flow_tree, one_member, put, text_tree,
     unless_empty, whole_tree,
 };

@@ -2,8 +2,8 @@
 use crate::directions::Direction;
 use crate::drops::Drop3;
 use cacao_json::Text;
+use oc2_msg_targets::FeatureList;
 use oc2_nets::Flow;
-use oc2_targets::FeatureList;
 
 /// A command to a packet filter (OpenC2 SLPF 1.0, section 2.3).
 #[derive(Drop)]

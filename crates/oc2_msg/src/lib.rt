@@ -26,7 +26,7 @@ pub use commands::Command;
 pub use directions::Direction;
 pub use drops::Drop3;
 pub use laws::reads_back;
-pub use oc2_targets::{Feature, FeatureList};
+pub use oc2_msg_targets::{Feature, FeatureList};
 pub use reading::read_command;
 pub use reasons::Reason;
 pub use refusals::{CommandError, Refusal};

@@ -5,12 +5,12 @@ ghost use Rattle.std.specs.Char.{is_whitespace};
 ghost use Rattle.std.specs.Str.{chars};
 ghost use Rattle.serde_json.specs.Find.{get};
 ghost use Rattle.cacao_json.specs.Tree.{data_of};
-ghost use Rattle.oc2_targets.specs.Parts.{has_only, is_absent_or};
+ghost use Rattle.oc2_msg_targets.specs.Parts.{has_only, is_absent_or};
 ghost use Rattle.oc2_msg.specs.Commands.{is_identifier, is_command_id, is_command, command_parts, action_text, target_part};
 ghost use Rattle.oc2_msg.specs.Messages.{IsMessageOf};
 
 use cacao_json::{Tree, member};
-use oc2_targets::{has_only, is_absent_or_object, single, str_of};
+use oc2_msg_targets::{has_only, is_absent_or_object, single, str_of};
 
 /// A command (OpenC2 Language 1.0, section 3.3.1), its parts not yet read.
 #[derive(Clone, Copy)]

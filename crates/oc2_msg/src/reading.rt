@@ -1,11 +1,11 @@
 // From bytes to a command.
 ghost use Rattle.std.specs.Prelude.{◌≡◌, ◌≤◌, IfOk, IfSome, length, option_map, option_and_then};
 ghost use Rattle.cacao_json.specs.Tree.{data_of};
-ghost use Rattle.oc2_targets.specs.Words.{kind_named, is_deny};
+ghost use Rattle.oc2_msg_targets.specs.Words.{kind_named, is_deny};
 ghost use Rattle.oc2_msg.specs.Args.{args_in};
 ghost use Rattle.oc2_msg.specs.Commands.{taken_by, command_with, answer_to, answer_of, refusal};
 ghost use Rattle.oc2_msg.specs.Messages.{IsAnswerOrMemory};
-ghost use Rattle.oc2_targets.specs.Ranges.{TargetInRange};
+ghost use Rattle.oc2_msg_targets.specs.Ranges.{TargetInRange};
 ghost use Rattle.oc2_msg.specs.Ranges.{InRange, ArgsInRange, HasTimes};
 
 use crate::arguments::Args;
@@ -16,7 +16,7 @@ use crate::messages::Message;
 use crate::reasons::Reason;
 use crate::refusals::{CommandError, Refusal};
 use cacao_json::{JsonError, Tree, read_tree};
-use oc2_targets::{Action, Target, TargetKind};
+use oc2_msg_targets::{Action, Target, TargetKind};
 use std::alloc::Global;
 
 /// The command of a text (OpenC2 Language 1.0, section 3.3.1; OpenC2 SLPF 1.0, section 2), or the status and the text

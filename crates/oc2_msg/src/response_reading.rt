@@ -6,7 +6,7 @@ ghost use Rattle.oc2_msg.specs.Ranges.{is_status, IsStatus, AnswerInRange};
 
 use crate::answers::{Answer, ResponseError};
 use cacao_json::{JsonError, Text, Tree, member, read_tree};
-use oc2_targets::{is_absent_or_object, str_of, whole_between};
+use oc2_msg_targets::{is_absent_or_object, str_of, whole_between};
 use std::alloc::Global;
 
 /// What a response answers (OpenC2 Language 1.0, section 3.2). `Malformed`: the bytes are no object with a status

@@ -9,7 +9,7 @@ use crate::reasons::Reason;
 use crate::responses::Response;
 use cacao_json::{Items, Pairs, Tree};
 use cacao_text::{Bytes2, canonical};
-use oc2_targets::{
+use oc2_msg_targets::{
     Feature, FeatureList, one_member, one_text, push_text, put, text_tree, unless_empty, whole_tree,
 };
 use std::alloc::{AllocError, Global};

@@ -1,6 +1,6 @@
 // Responses.
 use crate::reasons::Reason;
-use oc2_targets::FeatureList;
+use oc2_msg_targets::FeatureList;
 
 /// A response of a packet filter (OpenC2 Language 1.0, section 3.2).
 #[derive(Drop)]

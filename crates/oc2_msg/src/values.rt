@@ -2,13 +2,13 @@
 ghost use Rattle.std.specs.Prelude.{◌≡◌, option_map};
 ghost use Rattle.serde_json.specs.Find.{get, as_bool};
 ghost use Rattle.cacao_json.specs.Tree.{data_of};
-ghost use Rattle.oc2_targets.specs.Parts.{optional};
+ghost use Rattle.oc2_msg_targets.specs.Parts.{optional};
 ghost use Rattle.oc2_msg.specs.Args.{direction_in, drop_in, request_in, is_request};
 
 use crate::directions::Direction;
 use crate::drops::Drop3;
 use cacao_json::{Tree, member};
-use oc2_targets::str_of;
+use oc2_msg_targets::str_of;
 
 fn direction_in(tree: &Tree) -> Option<Direction>
     ensures { result ≡ direction_in (data_of tree.now) }

@@ -9,9 +9,9 @@ use Rattle.std.specs.Int.Digits.{number_from_digits}
 use Rattle.std.specs.Net.Text.{dotted_text}
 use Rattle.std.specs.Net.Grammar.{IsDotted}
 use Rattle.oc2_nets.specs.Texts.{parts}
-use Rattle.decimals.specs.Numbers.{number}
+use Rattle.base_decimals.specs.Numbers.{number}
 use Rattle.oc2_nets.specs.Ipv4.{octets, address4}
-use Rattle.decimals.proofs.Decimals.{own, number_some, number_sound}
+use Rattle.base_decimals.proofs.Decimals.{own, number_some, number_sound}
 use Rattle.oc2_nets.proofs.TextParts.{Lacks, parts_one, parts_more, joined_parts}
 
 pub decimal_lacks : (c n : ℕ) → n < 2 ^ 64 → (48 ≤ c → 57 < c) → Lacks c (decimal n)

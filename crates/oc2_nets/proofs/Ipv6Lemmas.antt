@@ -39,6 +39,3 @@ hex_lacks c (x ∷ text) high all (suc i) h e = hex_lacks c text high all.1 i (o
 
 pub no_colon : (text : List ℕ) → AllDigits 16 text → Lacks 58 text
 no_colon text all = hex_lacks 58 text (omega arith) all
-
-pub no_dot : (text : List ℕ) → AllDigits 16 text → Lacks 46 text
-no_dot text all = hex_lacks 46 text (omega arith) all

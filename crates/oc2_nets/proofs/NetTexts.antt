@@ -3,10 +3,10 @@ use Rattle.std.proofs.Common.{◌≡◌, ◌<◌, ◌^◌, ℕ, List, [], ◌∷
 use Rattle.std.specs.List.{join_with_byte}
 use Rattle.std.proofs.lemmas.List.Splits.{length-slice_split}
 use Rattle.oc2_nets.specs.Texts.{parts}
-use Rattle.decimals.specs.Numbers.{number}
+use Rattle.base_decimals.specs.Numbers.{number}
 use Rattle.oc2_nets.specs.Nets.{split_width}
-use Rattle.decimals.proofs.Decimals.{number_sound}
-use Rattle.decimals.proofs.Choices.{none_if}
+use Rattle.base_decimals.proofs.Decimals.{number_sound}
+use Rattle.base_decimals.proofs.Choices.{none_if}
 use Rattle.oc2_nets.proofs.TextParts.{Lacks, joined_parts, parts_one}
 use Rattle.oc2_nets.proofs.Ipv4Lemmas.{decimal_lacks}
 

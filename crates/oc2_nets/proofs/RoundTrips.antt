@@ -15,7 +15,7 @@ use Rattle.oc2_nets.specs.Texts.{parts}
 use Rattle.oc2_nets.specs.Ipv4.{address4}
 use Rattle.oc2_nets.specs.Ipv6.{address6}
 use Rattle.oc2_nets.specs.Nets.{split_width, net4_of, net6_of, net4_text, net6_text, hex, groups_of, groups_text}
-use Rattle.decimals.proofs.Decimals.{number_some}
+use Rattle.base_decimals.proofs.Decimals.{number_some}
 use Rattle.oc2_nets.proofs.TextParts.{Lacks, Lacks-append, parts_one, parts_more}
 use Rattle.oc2_nets.proofs.Ipv4Lemmas.{decimal_lacks, address4_some}
 use Rattle.oc2_nets.proofs.Ipv6Groups.{groups_lack, groups_plain, colon}

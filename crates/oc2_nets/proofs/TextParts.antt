@@ -31,8 +31,3 @@ Lacks-append c (x ∷ xs) ys left right (suc i) h = Lacks-append c xs ys (λ j k
 pub Lacks-right : (c : ℕ) (xs ys : List ℕ) → Lacks c (xs ++ ys) → Lacks c ys
 Lacks-right c [] ys both = both
 Lacks-right c (x ∷ xs) ys both = Lacks-right c xs ys (λ i h. both (suc i) (omega arith))
-
-pub Lacks-left : (c : ℕ) (xs ys : List ℕ) → Lacks c (xs ++ ys) → Lacks c xs
-Lacks-left c [] ys both i h = absurd (omega arith)
-Lacks-left c (x ∷ xs) ys both zero h = both zero (omega arith)
-Lacks-left c (x ∷ xs) ys both (suc i) h = Lacks-left c xs ys (λ j k. both (suc j) (omega arith)) i (omega arith)

@@ -1,4 +1,4 @@
--- An address is a number of so many bits, 32 or 128, the most significant first.
+-- Promise: An address is a number of so many bits, 32 or 128, the most significant first.
 use Rattle.std.specs.Prelude.{◌≡◌, ℕ, ◌-◌, ◌*◌, ◌/◌, ◌%◌, ◌^◌}
 
 -- the address with every bit past the width cleared

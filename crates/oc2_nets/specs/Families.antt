@@ -1,4 +1,4 @@
--- The family of an address.
+-- Promise: The family of an address.
 use Rattle.std.specs.Prelude.{Bool, true, false}
 use Rattle.oc2_nets.specs.declared.packets.Address.{Address}
 use Rattle.oc2_nets.specs.declared.packets.Address.TheVariants.{V4, V6}

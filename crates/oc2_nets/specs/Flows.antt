@@ -1,4 +1,4 @@
--- Which packets a flow covers.
+-- Promise: Which packets a flow covers.
 use Rattle.std.specs.Prelude.{ℕ, Bool, true, false, ◌==◌, ◌&&◌, ◌||◌, not, Option, Some, None}
 use Rattle.oc2_nets.specs.declared.packets.Protocol.{Protocol}
 use Rattle.oc2_nets.specs.declared.packets.Protocol.TheVariants.{Icmp, Tcp, Udp, Sctp}

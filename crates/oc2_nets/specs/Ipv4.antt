@@ -1,8 +1,8 @@
--- The text of an IPv4 address.
+-- Promise: The text of an IPv4 address.
 use Rattle.std.specs.Prelude.{ℕ, List, [], ◌∷◌, Option, Some, None, option_map}
 use Rattle.std.specs.Int.Digits.{number_from_digits}
 use Rattle.oc2_nets.specs.Texts.{◌>>=◌, dot, parts}
-use Rattle.decimals.specs.Numbers.{number}
+use Rattle.base_decimals.specs.Numbers.{number}
 
 -- four numbers from 0 to 255
 abbrev pub octets : List (List ℕ) → Option (List ℕ)

@@ -1,4 +1,4 @@
--- The text of an IPv6 address, in the first two forms of RFC 4291, section 2.2. The third, with an
+-- Promise: The text of an IPv6 address, in the first two forms of RFC 4291, section 2.2. The third, with an
 -- IPv4 address at the end, is not taken.
 use Rattle.std.specs.Prelude.{ℕ, ◌+◌, ◌-◌, List, [], ◌∷◌, ◌++◌, length, replicate, Bool, Option, Some, None, option_map, nat_lt, nat_le, ◌&&◌, ◌==◌, if◌then◌else◌}
 use Rattle.std.specs.List.{list_all}

@@ -1,4 +1,4 @@
--- What a net keeps.
+-- Promise: What a net keeps.
 use Rattle.std.specs.Prelude.{ℕ, ◌≤◌, ◌-◌, ◌/◌, ◌^◌, min}
 use Rattle.std.proofs.Math.Nat.{min-le_right, mul-mod_left}
 use Rattle.oc2_nets.specs.Bits.{cleared, IsCleared}

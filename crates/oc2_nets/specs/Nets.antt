@@ -1,4 +1,4 @@
--- Nets, and their texts.
+-- Promise: Nets, and their texts.
 use Rattle.std.specs.Prelude.{ℕ, ◌*◌, ◌/◌, ◌%◌, ◌^◌, min, Bool, false, ◌==◌, List, [], ◌∷◌, ◌++◌, map, Option, Some, None, option_map, codes}
 use Rattle.std.specs.Fmt.{decimal, digits}
 use Rattle.std.specs.List.{join_with_byte}
@@ -10,7 +10,7 @@ use Rattle.oc2_nets.specs.declared.packets.Address.TheVariants.{V4, V6}
 use Rattle.oc2_nets.specs.Bits.{cleared}
 use Rattle.oc2_nets.specs.NetFacts.{min_is_width, cleared_is_cleared}
 use Rattle.oc2_nets.specs.Texts.{◌>>=◌, slash, colon, parts}
-use Rattle.decimals.specs.Numbers.{number}
+use Rattle.base_decimals.specs.Numbers.{number}
 use Rattle.oc2_nets.specs.Ipv4.{address4}
 use Rattle.oc2_nets.specs.Ipv6.{address6}
 

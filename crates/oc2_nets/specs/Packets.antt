@@ -1,4 +1,4 @@
--- Packets, and their lines.
+-- Promise: Packets, and their lines.
 use Rattle.std.specs.Prelude.{ℕ, Bool, true, false, ◌&&◌, List, [], ◌∷◌, Option, Some, None, option_map, bytes_eq, codes, if◌then◌else◌, refl}
 use Rattle.oc2_nets.specs.declared.packets.Protocol.{Protocol}
 use Rattle.oc2_nets.specs.declared.packets.Protocol.TheVariants.{Icmp, Tcp, Udp, Sctp}
@@ -6,7 +6,7 @@ use Rattle.oc2_nets.specs.declared.packets.Address.{Address}
 use Rattle.oc2_nets.specs.declared.packets.Address.TheVariants.{V4, V6}
 use Rattle.oc2_nets.specs.declared.packets.Packet.{Packet}
 use Rattle.oc2_nets.specs.Texts.{◌>>=◌, space, parts}
-use Rattle.decimals.specs.Numbers.{number}
+use Rattle.base_decimals.specs.Numbers.{number}
 use Rattle.oc2_nets.specs.Ipv4.{address4}
 use Rattle.oc2_nets.specs.Ipv6.{address6}
 

@@ -1,4 +1,4 @@
--- Texts in parts.
+-- Promise: Texts in parts.
 use Rattle.std.specs.Prelude.{ℕ, List, Option, option_and_then, ◌==◌}
 use Rattle.std.specs.List.{slice_split}
 

@@ -1,4 +1,4 @@
--- The words of a packet's line, as the code keeps them.
+-- Scaffold: The words of a packet's line, as the code keeps them.
 use Rattle.std.specs.Prelude.{ℕ, List, [], ◌∷◌}
 use Rattle.oc2_nets.specs.declared.lines.Words.{Words}
 

@@ -7,7 +7,7 @@ ghost use Rattle.oc2_nets.specs.Words.{seven_words};
 use crate::packets::{Address, Packet, Protocol};
 use crate::protocols::read_protocol;
 use crate::texts::{cut, read_address4, read_address6};
-use decimals::read_number;
+use base_decimals::read_number;
 
 /// The greatest moment of a line, in milliseconds.
 const MOST_MOMENT: u64 = 9_000_000_000_000_000;

@@ -8,7 +8,7 @@ use crate::ipv4_nets::Net4;
 use crate::ipv6_nets::Net6;
 use crate::net_texts::NetText;
 use crate::texts::{cut, read_address4, read_address6};
-use decimals::read_number;
+use base_decimals::read_number;
 use std::alloc::{AllocError, Global};
 use std::net::Ipv4Addr;
 

@@ -1,5 +1,5 @@
 // Texts in parts, and addresses.
-ghost use Rattle.std.specs.Prelude.{◌≡◌, ◌<◌, ◌∷◌, [], ◌==◌, MatchOption};
+ghost use Rattle.std.specs.Prelude.{◌≡◌, ◌<◌, ◌∷◌, [], MatchOption};
 ghost use Rattle.oc2_nets.specs.Texts.{parts};
 ghost use Rattle.oc2_nets.specs.Ipv4.{address4};
 ghost use Rattle.oc2_nets.specs.Ipv6.{address6};

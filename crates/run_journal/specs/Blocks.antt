@@ -1,4 +1,4 @@
--- Calls that read.
+-- Promise: Calls that read.
 use Rattle.std.specs.Prelude.{ℕ, ◌+◌, ◌≤◌}
 use Rattle.cacao_site.specs.DiskCalls.{GoesOn, StaysAt, SameRest}
 use Rattle.cacao_site.specs.View.{SiteView}

@@ -1,4 +1,4 @@
--- An entry behind a header that may still be to be written.
+-- Promise: An entry behind a header that may still be to be written.
 use Rattle.std.specs.Prelude.{ℕ, ◌+◌, ◌≤◌, length, Bool, true, false, List}
 use Rattle.cacao_site.specs.DiskCalls.{OnlyFile}
 use Rattle.cacao_site.specs.View.{SiteView}

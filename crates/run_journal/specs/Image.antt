@@ -1,4 +1,4 @@
--- The entries of an image, each with the place of its gate.
+-- Promise: The entries of an image, each with the place of its gate.
 use Rattle.std.specs.Prelude.{◌≡◌, ℕ, List, map, length, take, Some, slice_get}
 use Rattle.run_journal.specs.declared.entries.Entry.{Entry}
 use Rattle.run_journal.specs.Layout.{front}

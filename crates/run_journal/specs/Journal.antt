@@ -1,4 +1,4 @@
--- What a `Journal` keeps.
+-- Promise: What a `Journal` keeps.
 use Rattle.std.specs.Prelude.{◌≡◌, ◌+◌, ◌<◌, ◌≤◌, All, [], false, length, vec_len, vec_capacity}
 use Rattle.run_journal.specs.declared.journal.Journal.TheInside.{Inside}
 use Rattle.run_journal.specs.JournalView.{JournalView}

@@ -1,4 +1,4 @@
--- What contracts see of a journal.
+-- Promise: What contracts see of a journal.
 use Rattle.std.specs.Prelude.{ℕ, List, Bool}
 
 pub record JournalView : Type 0 where

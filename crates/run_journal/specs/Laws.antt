@@ -1,4 +1,4 @@
--- What the layout of a journal settles.
+-- Promise: What the layout of a journal settles.
 use Rattle.std.specs.Prelude.{◌≡◌, ◌⊎◌, ◌<◌, ℕ, List, All}
 use Rattle.run_journal.specs.Layout.{Stands, HasLayout, IsDamagedAt}
 

@@ -1,4 +1,4 @@
--- What an image of a journal stands for.
+-- Promise: What an image of a journal stands for.
 use Rattle.std.specs.Prelude.{◌≡◌, ◌≢◌, ◌⊎◌, ℕ, ◌<◌, ◌≤◌, List, [], ◌∷◌, ◌++◌, length, take, slice_index, All}
 use Rattle.std.specs.Int.{w32, to_be_bytes, from_be_bytes}
 

@@ -2,7 +2,6 @@
 ghost use Rattle.std.specs.Prelude.{◌≡◌, ◌≢◌, ◌+◌, ◌<◌, ◌≤◌, ◌++◌, ◌∷◌, [], ℕ, length, true, false, OnOk, OnErr, IsErrOf, Err};
 ghost use Rattle.cacao_site.specs.Counts.{Rose};
 ghost use Rattle.cacao_site.specs.DiskCalls.{AllLeft};
-ghost use Rattle.run_journal.specs.JournalView.{JournalView};
 ghost use Rattle.run_journal.specs.Layout.{front};
 ghost use Rattle.run_journal.specs.Durable.{IsImage, MayAppend};
 

@@ -1,5 +1,5 @@
 // An image that is read as a whole.
-ghost use Rattle.std.specs.Prelude.{◌≡◌, ◌⊎◌, ℕ, IfOk, IsErrOf};
+ghost use Rattle.std.specs.Prelude.{◌⊎◌, ℕ, IfOk, IsErrOf};
 ghost use Rattle.run_journal.specs.Image.{ArePlaced, bytes_of};
 ghost use Rattle.run_journal.specs.Layout.{IsDamagedAt, Stands};
 

@@ -1,5 +1,5 @@
 // The entries of one file.
-ghost use Rattle.std.specs.Prelude.{◌≡◌, ◌<◌, ◌≤◌, [], length, take, All, false, true, OnOk, OnErr, IsErrOf, Err, slice_index_or};
+ghost use Rattle.std.specs.Prelude.{◌≡◌, ◌<◌, ◌≤◌, [], length, take, All, false, true, OnOk, OnErr, Err, slice_index_or};
 ghost use Rattle.run_journal.specs.Layout.{front, IsEntry};
 ghost use Rattle.run_journal.specs.JournalView.{JournalView};
 

@@ -1,9 +1,8 @@
 // The opening of a journal.
-ghost use Rattle.std.specs.Prelude.{◌≡◌, ◌≢◌, ◌↔◌, ◌+◌, ◌/◌, ◌<◌, ◌≤◌, ◌++◌, [], ℕ, List, length, All, IsTrue, true, false, IfOk, IsErrOf, Err};
+ghost use Rattle.std.specs.Prelude.{◌≡◌, ◌≢◌, ◌↔◌, ◌+◌, ◌/◌, ◌<◌, ◌≤◌, ◌++◌, ℕ, length, All, IsTrue, true, false, IfOk, IsErrOf, Err};
 ghost use Rattle.cacao_site.specs.Counts.{Rose};
-ghost use Rattle.cacao_site.specs.DiskCalls.{StaysAt, SameRest, EachBeat, AllLeft, IsLeft, IsDurable};
+ghost use Rattle.cacao_site.specs.DiskCalls.{StaysAt, SameRest, EachBeat, IsLeft, IsDurable};
 ghost use Rattle.run_journal.specs.Blocks.{OnlyReads};
-ghost use Rattle.run_journal.specs.JournalView.{JournalView};
 ghost use Rattle.run_journal.specs.Layout.{BreaksAt, HasLayout, IsDamagedAt, IsEntry, Stands, front};
 
 use crate::blocks::{Taken, read_block, read_rest};

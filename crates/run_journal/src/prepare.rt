@@ -1,8 +1,7 @@
 // The header of a journal.
-ghost use Rattle.std.specs.Prelude.{◌≡◌, ◌≢◌, ◌↔◌, ◌+◌, ◌≤◌, ◌⊎◌, ℕ, List, length, false, true, OnOk, OnErr, IsErrOf, Err};
+ghost use Rattle.std.specs.Prelude.{◌≡◌, ◌≢◌, ◌↔◌, ◌+◌, ◌≤◌, ◌⊎◌, ℕ, length, false, true, OnOk, OnErr, IsErrOf, Err};
 ghost use Rattle.cacao_site.specs.Counts.{Rose};
 ghost use Rattle.cacao_site.specs.DiskCalls.{StaysAt, SameRest, EachBeat, AllLeft};
-ghost use Rattle.run_journal.specs.JournalView.{JournalView};
 ghost use Rattle.run_journal.specs.Layout.{HasLayout, Stands};
 
 use crate::error::JournalError;

@@ -1,7 +1,7 @@
 // The entries of an image.
 ghost use Rattle.std.specs.Prelude.{◌≡◌, ◌≢◌, ◌≤◌, ◌<◌, ◌*◌, ◌+◌, ◌-◌, ◌∷◌, ◌++◌, List, ℕ, length, take, map, slice_index, IfOk, IfSome, IfNone, IsErrOf, true, false};
 ghost use Rattle.run_journal.specs.Image.{ArePlaced, bytes_of};
-ghost use Rattle.run_journal.specs.Layout.{Entries, HasLayout, IsBroken, IsDamagedAt, front, header, length_of, length_field, most_entry};
+ghost use Rattle.run_journal.specs.Layout.{Entries, HasLayout, IsBroken, IsDamagedAt, front, header, length_field, most_entry};
 
 use crate::entries::Entry;
 use crate::error::ImageError;

@@ -1,4 +1,4 @@
--- Fields from the front of a list of bytes: the value, and the bytes behind it.
+-- Promise: Fields from the front of a list of bytes: the value, and the bytes behind it.
 use Rattle.std.specs.Prelude.{ℕ, zero, suc, List, [], ◌∷◌, length, take, drop, Option, Some, None, option_and_then, nat_le, ◌&&◌, if◌then◌else◌}
 use Rattle.std.specs.Int.{Width, w32, byte_len, from_be_bytes}
 use Rattle.std.specs.Str.{is_utf8}

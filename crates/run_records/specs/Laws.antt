@@ -1,4 +1,4 @@
--- Laws of the layouts.
+-- Promise: Laws of the layouts.
 use Rattle.std.specs.Prelude.{◌≡◌, ◌≤◌, List, length, map, Some}
 use Rattle.std.specs.List.{AllByRecursion}
 use Rattle.run_records.specs.declared.record.Record.{Record}

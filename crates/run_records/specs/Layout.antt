@@ -1,4 +1,4 @@
--- The bytes of each record and of an act. Numbers are big-endian.
+-- Promise: The bytes of each record and of an act. Numbers are big-endian.
 use Rattle.std.specs.Prelude.{ℕ, List, [], ◌∷◌, ◌++◌, length}
 use Rattle.std.specs.List.{flat_map}
 use Rattle.std.specs.Int.{w16, w32, w64, to_be_bytes}

@@ -1,4 +1,4 @@
--- The records and the acts that the entries of a journal are.
+-- Promise: The records and the acts that the entries of a journal are.
 use Rattle.std.specs.Prelude.{ℕ, List, [], ◌∷◌, Option, Some}
 use Rattle.run_records.specs.declared.record.Record.{Record}
 use Rattle.run_records.specs.declared.act.Act.{Act}

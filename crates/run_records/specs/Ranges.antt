@@ -1,4 +1,4 @@
--- The ranges of the fields of records and acts.
+-- Promise: The ranges of the fields of records and acts.
 use Rattle.std.specs.Prelude.{◌≡◌, ℕ, ◌<◌, ◌≤◌, ◌^◌, List, length, IsUtf8}
 use Rattle.std.specs.List.{AllByRecursion}
 use Rattle.run_records.specs.declared.record.Record.{Record}

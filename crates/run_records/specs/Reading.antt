@@ -1,4 +1,4 @@
--- What reading gives: the one value in range whose layout the bytes are.
+-- Promise: What reading gives: the one value in range whose layout the bytes are.
 use Rattle.std.specs.Prelude.{ℕ, List, [], ◌∷◌, length, Option, Some, None, nat_le, ◌==◌, if◌then◌else◌}
 use Rattle.std.specs.Int.{w16, w32, w64}
 use Rattle.run_records.specs.declared.record.Record.{Record}

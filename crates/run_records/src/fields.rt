@@ -1,5 +1,5 @@
 // Fields from the front of a slice of bytes: the value, and the bytes behind it.
-ghost use Rattle.std.specs.Prelude.{◌≡◌, ◌+◌, IfOk, option_map};
+ghost use Rattle.std.specs.Prelude.{◌≡◌, IfOk, option_map};
 ghost use Rattle.std.specs.Int.{w16, w32, w64};
 ghost use Rattle.std.specs.Str.{is_utf8};
 ghost use Rattle.run_records.specs.Fields.{number_at, small_at, string_at, text_at, strings_at, value_and_rest};

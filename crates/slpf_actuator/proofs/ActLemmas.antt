@@ -11,8 +11,8 @@ use Rattle.run_records.specs.Ranges.{ActInRange}
 use Rattle.slpf_rules.specs.declared.rules.Rule.{Rule}
 use Rattle.slpf_rules.specs.Laws.{RepliesAreFinal}
 use Rattle.slpf_rules.specs.Replies.{reply}
-use Rattle.slpf_acts.proofs.Acts.{acts_more}
-use Rattle.slpf_acts.specs.Acts.{AreActs, reply_text, table_of}
+use Rattle.slpf_rules_acts.proofs.Acts.{acts_more}
+use Rattle.slpf_rules_acts.specs.Acts.{AreActs, reply_text, table_of}
 use Rattle.slpf_actuator.specs.ActLists.{IsFinalReply, IsHistory, MayFollow, entries_of, moment_of_last, last_of}
 
 pub acts_push : (acts : List Act) (act : Act) → AreActs acts → MayFollow acts act → AreActs (acts ++ act ∷ [])

@@ -12,7 +12,7 @@ use Rattle.run_records.specs.Layout.{act_layout}
 use Rattle.run_records.specs.Ranges.{ActInRange}
 use Rattle.run_records.specs.Reading.{act_of}
 use Rattle.run_records.proofs.ReadLemmas.{act_again}
-use Rattle.slpf_acts.specs.Acts.{AreActs, IsOther, IsReplied}
+use Rattle.slpf_rules_acts.specs.Acts.{AreActs, IsOther, IsReplied}
 use Rattle.slpf_actuator.specs.ActLists.{IsHistory, MayFollow, entries_of}
 use Rattle.slpf_actuator.specs.Damage.{BreaksIn, IsBad}
 use Rattle.slpf_actuator.specs.Laws.{NoActsWhereDamaged, OneDamage}

@@ -11,7 +11,7 @@ use Rattle.run_records.specs.Layout.{act_layout}
 use Rattle.run_records.specs.Ranges.{ActInRange}
 use Rattle.run_records.proofs.EntryLemmas.{acts_are_short}
 use Rattle.slpf_rules.specs.Laws.{RepliesAreFinal}
-use Rattle.slpf_acts.specs.Acts.{table_of}
+use Rattle.slpf_rules_acts.specs.Acts.{table_of}
 use Rattle.slpf_actuator.specs.ActLists.{IsHistory, IsNew, entries_of}
 use Rattle.slpf_actuator.specs.ActuatorCalls.{HoldsWith, MayAdd, Offers}
 use Rattle.slpf_actuator.specs.ActuatorView.{IsReady, act_for, moment_for}

@@ -9,7 +9,7 @@ use Rattle.run_records.specs.declared.act.Act.{Act}
 use Rattle.run_records.specs.Layout.{act_layout}
 use Rattle.run_records.specs.Ranges.{ActInRange}
 use Rattle.run_records.specs.Reading.{act_of}
-use Rattle.slpf_acts.specs.Acts.{reply_text, table_of}
+use Rattle.slpf_rules_acts.specs.Acts.{reply_text, table_of}
 use Rattle.slpf_actuator.specs.ActLists.{IsHistory, IsNew, MayFollow, entries_of}
 use Rattle.slpf_actuator.specs.Damage.{BreaksIn, IsBad}
 use Rattle.slpf_actuator.specs.History.{is_of}

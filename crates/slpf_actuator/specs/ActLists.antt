@@ -1,4 +1,4 @@
--- The acts that a filter holds, and which may follow.
+-- Promise: The acts that a filter holds, and which may follow.
 use Rattle.std.specs.Prelude.{◌≡◌, ◌≢◌, ℕ, ◌+◌, ◌≤◌, List, [], ◌∷◌, map, length, All, Contains, Some}
 use Rattle.std.specs.List.{AllByRecursion}
 use Rattle.oc2_msg.specs.declared.answers.Answer.{Answer}
@@ -7,7 +7,7 @@ use Rattle.run_journal.specs.Layout.{front}
 use Rattle.run_records.specs.declared.act.Act.{Act}
 use Rattle.run_records.specs.Layout.{act_layout}
 use Rattle.run_records.specs.Ranges.{ActInRange}
-use Rattle.slpf_acts.specs.Acts.{AreActs, IsReplied}
+use Rattle.slpf_rules_acts.specs.Acts.{AreActs, IsReplied}
 
 -- the acts that a filter holds: they are acts of one filter, their fields lie in their ranges, and they can be counted
 pub record IsHistory (acts : List Act) : Type 0 where

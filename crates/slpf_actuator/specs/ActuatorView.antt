@@ -1,4 +1,4 @@
--- What contracts see of a filter.
+-- Promise: What contracts see of a filter.
 use Rattle.std.specs.Prelude.{◌≡◌, ℕ, ◌≤◌, max, Bool, true, false, List}
 use Rattle.cacao_site.specs.declared.parcel.Parcel.{Parcel}
 use Rattle.cacao_site.specs.DiskCalls.{AllLeft}
@@ -6,7 +6,7 @@ use Rattle.cacao_site.specs.View.{SiteView}
 use Rattle.run_journal.specs.Durable.{IsImage}
 use Rattle.run_journal.specs.Layout.{Stands}
 use Rattle.run_records.specs.declared.act.Act.{Act}
-use Rattle.slpf_acts.specs.Acts.{reply_text, table_of}
+use Rattle.slpf_rules_acts.specs.Acts.{reply_text, table_of}
 use Rattle.slpf_actuator.specs.ActLists.{IsHistory, entries_of, moment_of_last}
 
 pub record ActuatorView : Type 0 where

@@ -1,4 +1,4 @@
--- Where a file holds no acts of a filter.
+-- Promise: Where a file holds no acts of a filter.
 use Rattle.std.specs.Prelude.{◌≡◌, ◌⊎◌, ℕ, List, ◌∷◌, ◌++◌, length, Some}
 use Rattle.run_journal.specs.Layout.{IsDamagedAt, Stands, front}
 use Rattle.run_records.specs.declared.act.Act.{Act}

@@ -1,4 +1,4 @@
--- What a refusal of the journal means for the filter.
+-- Promise: What a refusal of the journal means for the filter.
 use Rattle.run_journal.specs.declared.error.JournalError.{JournalError}
 use Rattle.run_journal.specs.declared.error.JournalError.TheVariants as journal
 use Rattle.slpf_actuator.specs.declared.error.ActError.{ActError}

@@ -1,4 +1,4 @@
--- What a filter keeps of its acts: their table, and where each stands.
+-- Promise: What a filter keeps of its acts: their table, and where each stands.
 use Rattle.std.specs.Prelude.{◌≡◌, ℕ, suc, Bool, ◌==◌, ◌&&◌, List, [], ◌∷◌, Option, Some, None, option_map, if◌then◌else◌}
 use Rattle.std.specs.Map.{lookup}
 use Rattle.std.specs.BTreeMap.{is_at}
@@ -6,7 +6,7 @@ use Rattle.std.specs.Ordering.{nat_cmp, ordering_then}
 use Rattle.std.specs.declared.cmp.Ordering.{Ordering}
 use Rattle.run_records.specs.declared.act.Act.{Act}
 use Rattle.slpf_rules.specs.declared.rules.Rule.{Rule}
-use Rattle.slpf_acts.specs.Acts.{table_of}
+use Rattle.slpf_rules_acts.specs.Acts.{table_of}
 use Rattle.slpf_actuator.specs.ActLists.{IsHistory}
 
 abbrev pub Places : Type 0

@@ -1,4 +1,4 @@
--- What an `Actuator` keeps.
+-- Promise: What an `Actuator` keeps.
 use Rattle.std.specs.Prelude.{◌≡◌, ◌≤◌, false, List}
 use Rattle.run_journal.specs.JournalView.{JournalView}
 use Rattle.run_records.specs.declared.act.Act.{Act}

@@ -1,4 +1,4 @@
--- What the damage of a filter's file settles.
+-- Promise: What the damage of a filter's file settles.
 use Rattle.std.specs.Prelude.{◌≡◌, ℕ, List}
 use Rattle.run_records.specs.declared.act.Act.{Act}
 use Rattle.slpf_actuator.specs.ActLists.{IsHistory}

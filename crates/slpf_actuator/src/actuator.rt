@@ -1,6 +1,6 @@
 // The filter.
 ghost use Rattle.std.specs.Prelude.{◌≡◌, ◌↔◌, ◌≤◌, IsTrue, Any, length};
-ghost use Rattle.slpf_acts.specs.Acts.{table_of};
+ghost use Rattle.slpf_rules_acts.specs.Acts.{table_of};
 ghost use Rattle.slpf_actuator.specs.ActLists.{IsHistory};
 ghost use Rattle.slpf_actuator.specs.ActuatorView.{ActuatorView};
 

@@ -3,7 +3,7 @@ ghost use Rattle.std.specs.Prelude.{◌≡◌, ◌≤◌, ℕ, IfOk, OnOk, OnErr
 ghost use Rattle.oc2_msg.specs.Commands.{answer_of};
 ghost use Rattle.oc2_msg.specs.Ranges.{InRange};
 ghost use Rattle.slpf_rules.specs.Replies.{reply_to};
-ghost use Rattle.slpf_acts.specs.Acts.{reply_text};
+ghost use Rattle.slpf_rules_acts.specs.Acts.{reply_text};
 
 use cacao_site::Bytes;
 use oc2_msg::{Command, CommandError, Refusal, Response, read_command, write_response};

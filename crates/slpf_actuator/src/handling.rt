@@ -3,7 +3,7 @@ ghost use Rattle.std.specs.Prelude.{◌≡◌, ◌≢◌, ◌⊎◌, ◌↔◌, 
 ghost use Rattle.cacao_site.specs.Counts.{Rose};
 ghost use Rattle.slpf_actuator.specs.ActLists.{IsNew, length_with};
 ghost use Rattle.slpf_actuator.specs.ActuatorCalls.{Acts, Overflows, Refuses, Repeats};
-ghost use Rattle.slpf_actuator.specs.ActuatorView.{ActuatorView, IsReady, act_for};
+ghost use Rattle.slpf_actuator.specs.ActuatorView.{IsReady, act_for};
 
 use crate::actuator::Actuator;
 use crate::error::ActError;

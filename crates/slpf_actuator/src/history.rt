@@ -1,9 +1,9 @@
 // The acts of a filter, with their table and their places.
-ghost use Rattle.std.specs.Prelude.{◌≡◌, ◌↔◌, ◌<◌, ℕ, [], ◌∷◌, ◌++◌, length, find, Any, IsTrue, IfOk, OnOk, OnErr, option_copied, vec_len, vec_capacity};
+ghost use Rattle.std.specs.Prelude.{◌≡◌, ◌↔◌, ◌<◌, [], ◌∷◌, ◌++◌, length, find, Any, IsTrue, IfOk, OnOk, OnErr, option_copied, vec_len, vec_capacity};
 ghost use Rattle.oc2_msg.specs.Commands.{answer_of};
 ghost use Rattle.oc2_msg.specs.Ranges.{InRange};
 ghost use Rattle.run_records.specs.Ranges.{ActInRange};
-ghost use Rattle.slpf_acts.specs.Acts.{table_of};
+ghost use Rattle.slpf_rules_acts.specs.Acts.{table_of};
 ghost use Rattle.slpf_actuator.specs.ActLists.{IsHistory, MayFollow, moment_of_last};
 ghost use Rattle.slpf_actuator.specs.History.{is_of};
 

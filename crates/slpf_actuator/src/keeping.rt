@@ -3,12 +3,11 @@ ghost use Rattle.std.specs.Prelude.{◌≡◌, ◌≢◌, ◌⊎◌, ◌<◌, �
 ghost use Rattle.cacao_site.specs.Counts.{Rose};
 ghost use Rattle.oc2_msg.specs.Commands.{answer_of};
 ghost use Rattle.oc2_msg.specs.Ranges.{InRange};
-ghost use Rattle.run_journal.specs.JournalView.{JournalView};
 ghost use Rattle.run_records.specs.Layout.{act_layout};
 ghost use Rattle.run_records.specs.Ranges.{ActInRange};
 ghost use Rattle.slpf_actuator.specs.ActLists.{IsFinalReply, IsNew, MayFollow, entries_of, length_with};
 ghost use Rattle.slpf_actuator.specs.ActuatorCalls.{Acts, MayAdd, Offers, Overflows};
-ghost use Rattle.slpf_actuator.specs.ActuatorView.{ActuatorView, IsReady, act_for, reply_parcel_of};
+ghost use Rattle.slpf_actuator.specs.ActuatorView.{IsReady, act_for, reply_parcel_of};
 ghost use Rattle.slpf_actuator.specs.Inside.{view_over};
 
 use crate::answering::{Asked, answer};

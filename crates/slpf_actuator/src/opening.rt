@@ -2,9 +2,8 @@
 ghost use Rattle.std.specs.Prelude.{◌≡◌, ◌≢◌, ◌↔◌, ◌⊎◌, ◌+◌, ◌/◌, ◌<◌, ◌≤◌, ◌++◌, ◌∷◌, [], ℕ, length, true, false, IsTrue, Ok, Err, IfOk, OnErr, IsErrOf};
 ghost use Rattle.cacao_site.specs.Counts.{Rose};
 ghost use Rattle.cacao_site.specs.DiskCalls.{IsDurable, IsLeft, OnlyFile};
-ghost use Rattle.run_journal.specs.JournalView.{JournalView};
 ghost use Rattle.slpf_actuator.specs.ActLists.{IsHistory, entries_of};
-ghost use Rattle.slpf_actuator.specs.ActuatorView.{ActuatorView, HoldsActs, IsReady};
+ghost use Rattle.slpf_actuator.specs.ActuatorView.{HoldsActs, IsReady};
 ghost use Rattle.slpf_actuator.specs.Damage.{BreaksIn, IsBad, IsDamaged};
 
 use crate::actuator::Actuator;

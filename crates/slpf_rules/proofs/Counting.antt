@@ -1,5 +1,5 @@
 -- How many nets of a width an index has.
-use Rattle.std.proofs.Common.{◌≡◌, ℕ, ◌+◌, ◌≤◌, Bool, true, false, cond, ◌==◌, ◌&&◌, ◌||◌, List, [], ◌∷◌, length, Option, Some, None, is_some, count_by, Ordering, Less, Equal, Greater, nat_cmp, refl, sym, ap, ap₂, ◌∙◌, arith}
+use Rattle.std.proofs.Common.{◌≡◌, ℕ, ◌+◌, ◌≤◌, Bool, true, false, cond, ◌==◌, ◌&&◌, ◌||◌, List, [], ◌∷◌, Option, Some, None, is_some, count_by, Ordering, Less, Equal, Greater, nat_cmp, refl, sym, ap, ap₂, ◌∙◌, arith}
 use Rattle.std.specs.List.{list_any}
 use Rattle.std.specs.Map.{keys_of, lookup, remove_entry}
 use Rattle.std.specs.Set.{remove_key}
@@ -126,11 +126,3 @@ none_from (Some v) n h w = let e = h refl in absurd (omega arith)
 -- no net of this width, and nothing under this net
 pub at-none : (k : AnyNet) (es : List (AnyNet × List ℕ)) → count_by (has_width_of k) (keys_of es) ≡ 0 → at es k ≡ None
 at-none k es h = none_from (at es k) (count_by (has_width_of k) (keys_of es)) (λ some. one-le-count k (keys_of es) (sym (is_some-lookup (is_at (net_cmp k)) es) ∙ some)) h
-
-one-le-one : (b : Bool) → one b ≤ 1
-one-le-one true = omega arith
-one-le-one false = omega arith
-
-pub count-le-length : (p : AnyNet → Bool) (ks : List AnyNet) → count_by p ks ≤ length ks
-count-le-length p [] = omega arith
-count-le-length p (k ∷ ks) = omega (arith, count-le-length p ks, count_cons p k ks, one-le-one (p k))

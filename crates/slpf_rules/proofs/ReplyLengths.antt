@@ -5,13 +5,13 @@ use Rattle.std.proofs.lemmas.Fmt.{length-decimal-le}
 use Rattle.serde_json.specs.Data.{Data, array, object, Members, no_members, member}
 use Rattle.cacao_text.specs.Canon.{canon, escaped, string_text, after_commas, joined, member_text, in_order, item_texts, named_texts}
 use Rattle.cacao_text.proofs.Sorting.{total, total-in_order}
-use Rattle.oc2_targets.specs.declared.features.Feature.{Feature}
-use Rattle.oc2_targets.specs.declared.features.Feature.TheVariants as feature
+use Rattle.oc2_msg_targets.specs.declared.features.Feature.{Feature}
+use Rattle.oc2_msg_targets.specs.declared.features.Feature.TheVariants as feature
 use Rattle.oc2_msg.specs.declared.reasons.Reason.{Reason}
 use Rattle.oc2_msg.specs.declared.reasons.Reason.TheVariants as reason
 use Rattle.oc2_msg.specs.declared.responses.Response.{Response}
-use Rattle.oc2_targets.specs.Features.{has}
-use Rattle.oc2_targets.specs.Parts.{present, object_of, whole_data, texts, unless_empty, one_member, one_text}
+use Rattle.oc2_msg_targets.specs.Features.{has}
+use Rattle.oc2_msg_targets.specs.Parts.{present, object_of, whole_data, texts, unless_empty, one_member, one_text}
 use Rattle.oc2_msg.specs.Reasons.{reason_text}
 use Rattle.oc2_msg.specs.Responses.{flow_kinds, feature_value, value_part, rule_part, results_part, text_part, response_text}
 

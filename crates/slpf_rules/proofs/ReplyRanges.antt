@@ -7,7 +7,7 @@ use Rattle.std.proofs.lemmas.Bool.Decides.{nat_tests}
 use Rattle.cacao_json.specs.Reading.{tree}
 use Rattle.serde_json.specs.Data.{Data, null}
 use Rattle.serde_json.specs.Find.{get, as_bool, as_integer, as_number}
-use Rattle.oc2_targets.specs.declared.actions.Action.{Action}
+use Rattle.oc2_msg_targets.specs.declared.actions.Action.{Action}
 use Rattle.oc2_msg.specs.declared.arguments.Args.{Args}
 use Rattle.oc2_msg.specs.declared.arguments.FilterArgs.{FilterArgs}
 use Rattle.oc2_msg.specs.declared.commands.Command.{Command}
@@ -16,12 +16,12 @@ use Rattle.oc2_msg.specs.declared.reasons.Reason.{Reason}
 use Rattle.oc2_msg.specs.declared.reasons.Reason.TheVariants as reason
 use Rattle.oc2_msg.specs.declared.refusals.Refusal.{Refusal}
 use Rattle.oc2_msg.specs.declared.responses.Response.{Response}
-use Rattle.oc2_targets.specs.declared.targets.Target.{Target}
-use Rattle.oc2_targets.specs.declared.targets.Target.TheVariants as target
-use Rattle.oc2_targets.specs.Parts.{has_only, optional, provided, whole, natural}
+use Rattle.oc2_msg_targets.specs.declared.targets.Target.{Target}
+use Rattle.oc2_msg_targets.specs.declared.targets.Target.TheVariants as target
+use Rattle.oc2_msg_targets.specs.Parts.{has_only, optional, provided, whole, natural}
 use Rattle.oc2_msg.specs.Args.{time, drop_in, direction_in, rule_number, filter_parts, filter_args_in, filter_values, request_in, are_times, arg_parts, arg_values, with_times, args_in}
 use Rattle.oc2_msg.specs.Commands.{refusal, first_row, rows, answered, command_of, command_with, action_of, target_of, args_of, answer_to}
-use Rattle.oc2_targets.specs.Ranges.{Each, IsRuleNumber}
+use Rattle.oc2_msg_targets.specs.Ranges.{Each, IsRuleNumber}
 use Rattle.oc2_msg.specs.Ranges.{IsStatus}
 use Rattle.slpf_rules.specs.declared.rules.Rule.{Rule}
 use Rattle.slpf_rules.specs.Rules.{is_held, greatest}

@@ -20,13 +20,6 @@ same_option : (b : Bool) (o : Option (Option ℕ)) → o ≡ cond b o o
 same_option true o = refl
 same_option false o = refl
 
--- ---- an edit of an IPv4 net, by its key
-
-pub after_hold : (net : Net4) (other : AnyNet) (old new : AnyNet → Option (Option ℕ)) → ((m : Net4) → new (V4 m) ≡ cond (key4 net == key4 m) (Some None) (old (V4 m)))
-    → ((m : AnyNet) → is_at (net_cmp (V4 net)) m ≡ false → new m ≡ old m) → new other ≡ cond (is_at (net_cmp (V4 net)) other) (Some None) (old other)
-after_hold net (V4 m) old new h apart = h m ∙ ap (λ b. cond b (Some None) (old (V4 m))) (sym (same_keys net m))
-after_hold net (V6 m) old new h apart = apart (V6 m) refl
-
 -- ---- what is known still holds
 
 pub still_sole : (b : Bool) (o new : Option (Option ℕ)) (before after : Option (List ℕ)) → IsSole o before → new ≡ cond b (Some None) o → after ≡ before → IsSole new after
@@ -45,15 +38,6 @@ sole_added true net number o mid new before after h is_mid is_new is =
 sole_added false net number o mid new before after h is_mid is_new is =
     subst (λ s. IsSole s after) (sym (is_new ∙ is_mid)) (subst (λ l. IsSole o l) (sym is) h)
 
--- a number was put under a net
-pub sole_put : (b : Bool) (o new : Option (Option ℕ)) (before after list : Option (List ℕ)) → IsSole o before → new ≡ cond b (Some None) o → after ≡ cond b list before → IsSole new after
-sole_put true o new before after list h is same = subst (λ s. IsSole s after) (sym is) tt
-sole_put false o new before after list h is same = subst (λ s. IsSole s after) (sym is) (subst (λ l. IsSole o l) (sym same) h)
-
-kept_none : (net : AnyNet) → kept net None ≡ None
-kept_none (V4 net) = refl
-kept_none (V6 net) = refl
-
 unheld_sole : (other : AnyNet) (list : Option (List ℕ)) → list ≡ None → IsSole (unheld other) list
 unheld_sole (V4 net) list h = h
 unheld_sole (V6 net) list h = tt
@@ -67,9 +51,3 @@ forgotten : (net : AnyNet) (o : Option (Option ℕ)) (before after : Option (Lis
 forgotten net None before after h none = none h
 forgotten (V4 net) (Some s) before after h none = tt
 forgotten (V6 net) (Some s) before after h none = tt
-
--- a number was taken from under a net
-pub sole_taken : (b : Bool) (net : AnyNet) (o new : Option (Option ℕ)) (before after list : Option (List ℕ)) → IsSole o before → new ≡ cond b (option_map (λ _. kept net None) o) o
-    → (b ≡ true → before ≡ None → list ≡ None) → after ≡ cond b list before → IsSole new after
-sole_taken true net o new before after list h is none same = subst (λ s. IsSole s after) (sym is) (forgotten net o before after h (λ e. same ∙ none refl e))
-sole_taken false net o new before after list h is none same = subst (λ s. IsSole s after) (sym is) (subst (λ l. IsSole o l) (sym same) h)

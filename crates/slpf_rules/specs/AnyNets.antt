@@ -1,4 +1,4 @@
--- Nets of either family, and their order.
+-- Promise: Nets of either family, and their order.
 use Rattle.std.specs.Prelude.{ℕ}
 use Rattle.std.specs.Ordering.{nat_cmp, on, then_cmp}
 use Rattle.std.specs.declared.cmp.Ordering.{Ordering}

@@ -1,4 +1,4 @@
--- The least number among the rules that pass a test.
+-- Scaffold: The least number among the rules that pass a test.
 use Rattle.std.specs.Prelude.{ℕ, min, Bool, false, ◌&&◌, nat_lt, List, [], ◌∷◌, Option, Some, None, if◌then◌else◌}
 use Rattle.std.specs.Option.{option_map_or}
 use Rattle.oc2_nets.specs.declared.flows.Flow.{Flow}

@@ -1,4 +1,4 @@
--- Under which nets a rule is filed.
+-- Promise: Under which nets a rule is filed.
 use Rattle.std.specs.Prelude.{ℕ, Bool, false, ◌&&◌, List, [], ◌∷◌, filter, Option, Some, None, option_map, is_none}
 use Rattle.std.specs.Ordering.{eq_by_cmp}
 use Rattle.oc2_nets.specs.declared.flows.Flow.{Flow}

@@ -1,4 +1,4 @@
--- The index beside the rules.
+-- Promise: The index beside the rules.
 use Rattle.std.specs.Prelude.{◌≡◌, ℕ, List, Option}
 use Rattle.oc2_nets.specs.declared.flows.Flow.{Flow}
 use Rattle.slpf_rules.specs.declared.any_nets.AnyNet.{AnyNet}

@@ -1,4 +1,4 @@
--- Rules that are found by their number.
+-- Promise: Rules that are found by their number.
 use Rattle.std.specs.Prelude.{◌≡◌, ℕ, nat_eq, List}
 use Rattle.std.specs.BTreeMap.{is_at}
 use Rattle.std.specs.HashMap.{HashMap, get}

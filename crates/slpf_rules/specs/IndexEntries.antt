@@ -1,4 +1,4 @@
--- The entries of an index: numbers by net.
+-- Promise: The entries of an index: numbers by net.
 use Rattle.std.specs.Prelude.{◌≡◌, ℕ, List, [], Option, Some, unwrap_or, if◌then◌else◌}
 use Rattle.std.specs.Map.{lookup}
 use Rattle.std.specs.Set.{remove_key}

@@ -1,4 +1,4 @@
--- What an index keeps beside its entries.
+-- Promise: What an index keeps beside its entries.
 use Rattle.std.specs.Prelude.{ℕ, List}
 use Rattle.std.specs.Map.{keys_of}
 use Rattle.slpf_rules.specs.declared.any_nets.AnyNet.{AnyNet}

@@ -1,4 +1,4 @@
--- What holds of every reply.
+-- Promise: What holds of every reply.
 use Rattle.std.specs.Prelude.{◌≡◌, ◌≢◌, ◌≤◌, ℕ, List, length, Some}
 use Rattle.oc2_msg.specs.declared.responses.Response.{Response}
 use Rattle.oc2_msg.specs.Ranges.{IsStatus}

@@ -1,4 +1,4 @@
--- What a filter answers, and which rules it then has.
+-- Promise: What a filter answers, and which rules it then has.
 use Rattle.std.specs.Prelude.{ℕ, ◌+◌, ◌-◌, Bool, nat_le, List, [], length, fold, Option, Some, None, Result, Ok, Err, bytes_eq, codes, if◌then◌else◌}
 use Rattle.oc2_msg.specs.declared.commands.Command.{Command}
 use Rattle.oc2_msg.specs.declared.commands.Command.TheVariants as command

@@ -1,4 +1,4 @@
--- Lists of rules.
+-- Promise: Lists of rules.
 use Rattle.std.specs.Prelude.{ℕ, max, Bool, not, ◌==◌, nat_lt, List, [], ◌∷◌, map, filter, find, Option, if◌then◌else◌}
 use Rattle.std.specs.List.{list_any}
 use Rattle.slpf_rules.specs.declared.rules.Rule.{Rule}

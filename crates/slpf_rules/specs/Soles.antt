@@ -1,4 +1,4 @@
--- What is known at once of the numbers under a net.
+-- Promise: What is known at once of the numbers under a net.
 use Rattle.std.specs.Prelude.{◌≡◌, ℕ, ◌+◌, ◌*◌, nat_eq, List, [], ◌∷◌, Option, Some, None, ⊤}
 use Rattle.std.specs.HashMap.{get}
 use Rattle.oc2_nets.specs.declared.ipv4_nets.Net4.{Net4}

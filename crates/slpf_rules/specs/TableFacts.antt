@@ -1,4 +1,4 @@
--- What a table keeps.
+-- Promise: What a table keeps.
 use Rattle.std.specs.Prelude.{◌≤◌, List, length}
 use Rattle.slpf_rules.specs.declared.filing.Filing.{Filing}
 use Rattle.slpf_rules.specs.declared.rules.Rule.{Rule}

@@ -1,4 +1,4 @@
--- The verdict for a packet.
+-- Promise: The verdict for a packet.
 use Rattle.std.specs.Prelude.{ℕ, Bool, true, false, not, ◌&&◌, nat_lt, nat_le, List, [], ◌∷◌, filter, Option, Some, None, if◌then◌else◌}
 use Rattle.oc2_nets.specs.declared.packets.Packet.{Packet}
 use Rattle.oc2_nets.specs.Flows.{covers}

@@ -1,4 +1,4 @@
--- How many nets of each width there are.
+-- Promise: How many nets of each width there are.
 use Rattle.std.specs.Prelude.{◌≡◌, ℕ, Bool, ◌==◌, ◌&&◌, List, count_by, slice_index}
 use Rattle.slpf_rules.specs.declared.any_nets.AnyNet.{AnyNet}
 use Rattle.slpf_rules.specs.declared.any_nets.AnyNet.TheVariants.{V4, V6}

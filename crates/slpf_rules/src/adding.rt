@@ -1,7 +1,7 @@
 // What a rule that is added gets: its number and its times.
-ghost use Rattle.std.specs.Prelude.{◌≡◌, ◌+◌, ◌<◌, ◌≤◌, ◌^◌, false, length, IsTrue, IfOk, OnOk};
+ghost use Rattle.std.specs.Prelude.{◌≡◌, ◌+◌, ◌<◌, ◌≤◌, false, length, IsTrue, IfOk, OnOk};
 ghost use Rattle.oc2_msg.specs.Args.{are_times};
-ghost use Rattle.oc2_targets.specs.Ranges.{Each};
+ghost use Rattle.oc2_msg_targets.specs.Ranges.{Each};
 ghost use Rattle.oc2_msg.specs.Ranges.{IsTime};
 ghost use Rattle.slpf_rules.specs.Rules.{is_held};
 ghost use Rattle.slpf_rules.specs.Replies.{is_full, number_for, start_of, stop_of};

@@ -1,5 +1,5 @@
 // What a filter answers to a command.
-ghost use Rattle.std.specs.Prelude.{◌≡◌, ◌≤◌, ℕ, [], IfOk, OnOk, OnErr};
+ghost use Rattle.std.specs.Prelude.{◌≡◌, ◌≤◌, ℕ, IfOk, OnOk, OnErr};
 ghost use Rattle.slpf_rules.specs.declared.rules.Rule.{Rule};
 ghost use Rattle.oc2_msg.specs.declared.commands.Command.TheVariants as command;
 ghost use Rattle.oc2_msg.specs.declared.reasons.Reason.TheVariants as reason;

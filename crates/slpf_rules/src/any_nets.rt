@@ -1,5 +1,5 @@
 // Nets of either family, in the order of the index.
-ghost use Rattle.std.specs.Prelude.{◌≡◌, refl};
+ghost use Rattle.std.specs.Prelude.{refl};
 ghost use Rattle.std.specs.Cmp;
 ghost use Rattle.std.specs.Ordering.{as_partial_cmp, eq_by_cmp};
 ghost use Rattle.slpf_rules.specs.AnyNets.{net_cmp};

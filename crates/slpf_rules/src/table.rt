@@ -1,15 +1,13 @@
 // The rule table.
-ghost use Rattle.std.specs.Prelude.{◌≡◌, ◌<◌, ◌≤◌, false, [], length, IfOk, OnOk, OnErr};
+ghost use Rattle.std.specs.Prelude.{◌≡◌, ◌<◌, ◌≤◌, false, [], length, OnOk, OnErr};
 ghost use Rattle.std.specs.Bool.{OnFalse};
 ghost use Rattle.std.specs.BTreeMap.{get};
-ghost use Rattle.oc2_msg.specs.Ranges.{InRange};
 ghost use Rattle.slpf_rules.specs.declared.any_nets.AnyNet.{AnyNet};
 ghost use Rattle.slpf_rules.specs.AnyNets.{net_cmp};
 ghost use Rattle.slpf_rules.specs.Rules.{is_held, place, without};
 ghost use Rattle.slpf_rules.specs.Order.{IsRising};
 ghost use Rattle.slpf_rules.specs.Filed.{by_source, by_destination, unfiled};
 ghost use Rattle.slpf_rules.specs.Verdicts.{verdict};
-ghost use Rattle.slpf_rules.specs.Replies.{answer_command};
 
 use crate::any_nets::AnyNet;
 use crate::deciding::{Query, first_of, least, sooner};

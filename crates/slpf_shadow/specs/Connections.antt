@@ -1,4 +1,4 @@
--- Connections of either family. A net that is not stated is that of all addresses.
+-- Scaffold: Connections of either family. A net that is not stated is that of all addresses.
 use Rattle.std.specs.Prelude.{ℕ, Bool, true, false, ◌==◌, ◌&&◌, ◌||◌, Option, Some, None, is_some}
 use Rattle.oc2_nets.specs.declared.packets.Protocol.{Protocol}
 use Rattle.oc2_nets.specs.Flows.{is_protocol}

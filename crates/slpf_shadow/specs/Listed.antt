@@ -1,4 +1,4 @@
--- What is listed of the rules that others shadow.
+-- Promise: What is listed of the rules that others shadow.
 use Rattle.std.specs.Prelude.{◌≡◌, ◌≤◌, ℕ, List, map, Contains}
 use Rattle.slpf_rules.specs.declared.rules.Rule.{Rule}
 use Rattle.slpf_shadow.specs.declared.shadow_lists.Shadow.{Shadow}

@@ -1,4 +1,4 @@
--- Nets of either family by one test.
+-- Scaffold: Nets of either family by one test.
 use Rattle.std.specs.Prelude.{ℕ, Bool, ◌&&◌, nat_le}
 use Rattle.oc2_nets.specs.declared.packets.Address.{Address}
 use Rattle.oc2_nets.specs.declared.packets.Address.TheVariants as address

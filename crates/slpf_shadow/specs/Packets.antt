@@ -1,4 +1,4 @@
--- What packets there are.
+-- Promise: What packets there are.
 use Rattle.std.specs.Prelude.{◌<◌, ◌≤◌, ◌^◌, IsTrue}
 use Rattle.oc2_nets.specs.declared.flows.Flow.{Flow}
 use Rattle.oc2_nets.specs.declared.packets.Address.{Address}

@@ -1,4 +1,4 @@
--- Numbers that fit their types.
+-- Scaffold: Numbers that fit their types.
 use Rattle.std.specs.Prelude.{◌≡◌, ℕ, ◌<◌, ◌≤◌, ◌^◌, Option, Some, None}
 use Rattle.oc2_nets.specs.Families.{is_v4}
 use Rattle.slpf_rules.specs.declared.rules.Rule.{Rule}

@@ -1,4 +1,4 @@
--- The least number of a rule that shadows, as it is looked up.
+-- Scaffold: The least number of a rule that shadows, as it is looked up.
 use Rattle.std.specs.Prelude.{ℕ, ◌+◌, Bool, false, ◌&&◌, List, [], ◌∷◌, ◌++◌, Option, Some, None}
 use Rattle.std.specs.Option.{option_map_or}
 use Rattle.oc2_nets.specs.declared.flows.Flow.{Flow}

@@ -1,4 +1,4 @@
--- Which rules a rule shadows.
+-- Promise: Which rules a rule shadows.
 use Rattle.std.specs.Prelude.{ℕ, ◌<◌, ◌^◌, IsTrue}
 use Rattle.oc2_nets.specs.declared.packets.Packet.{Packet}
 use Rattle.slpf_rules.specs.declared.rules.Rule.{Rule}

@@ -1,4 +1,4 @@
--- Flows by two shapes, a net and a connection, of either family.
+-- Scaffold: Flows by two shapes, a net and a connection, of either family.
 use Rattle.std.specs.Prelude.{Bool, false, ◌&&◌, ◌||◌, Option, Some, None}
 use Rattle.oc2_nets.specs.declared.flows.Flow.{Flow}
 use Rattle.oc2_nets.specs.declared.flows.Flow.TheVariants as flow

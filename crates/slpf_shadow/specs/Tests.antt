@@ -1,4 +1,4 @@
--- Whether a rule shadows another, as a test.
+-- Scaffold: Whether a rule shadows another, as a test.
 use Rattle.std.specs.Prelude.{ℕ, Bool, true, false, ◌&&◌, ◌||◌, nat_lt, nat_le, Option, Some, None}
 use Rattle.oc2_msg.specs.declared.directions.Direction.{Direction}
 use Rattle.oc2_msg.specs.declared.directions.Direction.TheVariants.{Both, Ingress, Egress}

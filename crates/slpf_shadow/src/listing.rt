@@ -1,5 +1,5 @@
 // Which rules of a table are shadowed.
-ghost use Rattle.std.specs.Prelude.{◌≡◌, ◌↔◌, IfOk, All, Contains};
+ghost use Rattle.std.specs.Prelude.{◌↔◌, IfOk, All, Contains};
 ghost use Rattle.std.specs.List.Sorted.{IsStrictlyIncreasing};
 ghost use Rattle.slpf_rules.specs.declared.rules.Rule.{Rule};
 ghost use Rattle.slpf_shadow.specs.Listed.{shadowed_numbers, IsShadowed, IsLeastShadow};

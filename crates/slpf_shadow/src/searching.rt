@@ -1,7 +1,6 @@
 // The least number of a rule that shadows another.
 ghost use Rattle.std.specs.Prelude.{◌≡◌, Option, option_map, unwrap_or, [], find};
 ghost use Rattle.std.specs.BTreeMap.{get};
-ghost use Rattle.std.specs.Option.{option_copied};
 ghost use Rattle.oc2_nets.specs.declared.flows.Flow.{Flow};
 ghost use Rattle.slpf_rules.specs.declared.any_nets.AnyNet.{AnyNet};
 ghost use Rattle.slpf_rules.specs.AnyNets.{net_cmp};

@@ -1,5 +1,5 @@
 // Whether a rule shadows another.
-ghost use Rattle.std.specs.Prelude.{◌≡◌, ◌<◌, ◌^◌};
+ghost use Rattle.std.specs.Prelude.{◌≡◌, ◌<◌};
 ghost use Rattle.slpf_shadow.specs.Ranges.{IsMoment, IsRule};
 ghost use Rattle.slpf_shadow.specs.Tests.{is_over, never_decides, stop_within, moments_within, direction_within, rule_within, shadows};
 

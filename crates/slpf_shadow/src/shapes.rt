@@ -1,5 +1,5 @@
 // Flows by their two shapes, of either family.
-ghost use Rattle.std.specs.Prelude.{◌≡◌, ◌↔◌, ◌≤◌, true, false, IsTrue};
+ghost use Rattle.std.specs.Prelude.{◌≡◌, ◌↔◌, true, false, IsTrue};
 ghost use Rattle.oc2_nets.specs.Families.{is_v4};
 ghost use Rattle.slpf_shadow.specs.Packets.{IsAddress, IsWithin};
 ghost use Rattle.slpf_shadow.specs.Nets.{first_address};

@@ -1,7 +1,6 @@
 // Entries appended to a journal, with what the calls require.
 ghost use Rattle.std.specs.Prelude.{◌≡◌, ◌<◌, ◌≤◌, false, length};
 ghost use Rattle.cacao_site.specs.DiskCalls.{AllLeft};
-ghost use Rattle.run_journal.specs.JournalView.{JournalView};
 ghost use Rattle.run_journal.specs.Layout.{Stands};
 
 use cacao_site::{Bytes, Disk};

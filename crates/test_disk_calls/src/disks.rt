@@ -1,7 +1,7 @@
 // What rows are played on.
 use crate::commands::Command;
 use crate::plans::{plan, small_plan};
-use memory_site::{MemoryShelf, MemorySite};
+use cacao_site_memory::{MemoryShelf, MemorySite};
 use std::alloc::{AllocError, Global};
 use std::mem;
 use test_rows::Row;

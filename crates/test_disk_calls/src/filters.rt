@@ -1,13 +1,13 @@
 // Rows about filters.
 ghost use Rattle.std.specs.Prelude.{◌≡◌, ◌≤◌, length, false, IfOk, IfSome};
-ghost use Rattle.slpf_actuator.specs.ActuatorView.{ActuatorView, IsReady};
+ghost use Rattle.slpf_actuator.specs.ActuatorView.{IsReady};
 
 use crate::bounds::bounded;
 use crate::commands::Command;
 use crate::disks::{Disks, small_site};
 use crate::plans::{failing_plan, small_plan};
 use cacao_site::{Bytes, Disk, Parcel, Site};
-use memory_site::MemorySite;
+use cacao_site_memory::MemorySite;
 use slpf_actuator::{ActError, Actuator};
 use std::alloc::{AllocError, Global};
 use std::mem;

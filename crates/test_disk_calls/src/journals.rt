@@ -7,7 +7,7 @@ use crate::disks::{Disks, small_site};
 use crate::images::{image_count, image_entries};
 use crate::plans::failing_plan;
 use cacao_site::{Bytes, Disk};
-use memory_site::MemorySite;
+use cacao_site_memory::MemorySite;
 use run_journal::{Journal, JournalError};
 use std::alloc::{AllocError, Global};
 use test_rows::Row;

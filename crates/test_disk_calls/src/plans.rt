@@ -1,7 +1,7 @@
 // The plan of a site, as a row gives it.
 ghost use Rattle.std.specs.Prelude.{◌≤◌};
 
-use memory_site::{CallList, SitePlan, Weather, WeatherList};
+use cacao_site_memory::{CallList, SitePlan, Weather, WeatherList};
 use std::alloc::{AllocError, Global};
 use test_rows::Row;
 use test_site_calls::number;

@@ -1,6 +1,6 @@
 // The outside over the system, called by rows.
 use crate::folder::folder_answer;
-use file_site::{FileShelf, FileSite};
+use cacao_site_files::{FileShelf, FileSite};
 use std::alloc::{AllocError, Global};
 use std::fs::File;
 use std::io::Print;

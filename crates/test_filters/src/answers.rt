@@ -102,14 +102,14 @@ impl Answers {
         row: &Row,
     ) -> Result<String, AllocError> {
         match file {
-            "decimals" => numbers::answer(alloc, row),
+            "base_decimals" => numbers::answer(alloc, row),
             "oc2_nets" => nets::answer(alloc, row),
             "oc2_msg" => messages::answer(alloc, row),
             "slpf_rules" => rules::answer(alloc, &mut self.filter, row),
             "slpf_shadow" => shadows::answer(alloc, row),
             "run_records" => records::answer(alloc, row),
-            "reachability" => graphs::answer(alloc, row),
-            "flow_dues" => self.queue.answer(alloc, row),
+            "base_graphs" => graphs::answer(alloc, row),
+            "base_dues" => self.queue.answer(alloc, row),
             _ => unknown(alloc),
         }
     }

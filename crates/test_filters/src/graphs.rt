@@ -5,7 +5,7 @@ use crate::answers::{place_of, text_or_none, unknown};
 use crate::guarded::{Guarded, MOST, turned};
 use crate::marks::{marked, marked_below, marked_of};
 use crate::tables::{are_below, is_within, places, table, table_text};
-use reachability::{Bits, Nests, reached};
+use base_graphs::{Bits, Nests, reached};
 use std::alloc::{AllocError, Global};
 use test_rows::Row;
 

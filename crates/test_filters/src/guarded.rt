@@ -2,7 +2,7 @@
 use crate::answers::unknown;
 use crate::marks::marked_below;
 use crate::tables::{are_below, is_within, table};
-use reachability::{Bits, Nests, Places, may_return, nests_of, reached_past_guards, reversed};
+use base_graphs::{Bits, Nests, Places, may_return, nests_of, reached_past_guards, reversed};
 use std::alloc::{AllocError, Global};
 
 /// More places than a graph of a row has.

@@ -39,14 +39,14 @@ fn play(rt: &(impl Files + Print + AllocGlobal), name: &str) -> io::Result<bool>
 fn main(rt: HostRuntime) -> io::Result<ExitCode> {
     let mut agree = true;
     for name in [
-        "decimals",
+        "base_decimals",
         "oc2_nets",
         "oc2_msg",
         "slpf_rules",
         "slpf_shadow",
         "run_records",
-        "reachability",
-        "flow_dues",
+        "base_graphs",
+        "base_dues",
     ] {
         agree = play(&rt, name)? && agree;
     }

@@ -1,7 +1,7 @@
 // Sets of places from texts, and their texts.
 ghost use Rattle.std.specs.Prelude.{◌≡◌, length};
 
-use reachability::Bits;
+use base_graphs::Bits;
 use std::alloc::{AllocError, Global};
 
 /// Puts a place below the count into a set over so many.

@@ -1,6 +1,6 @@
 // Rows of whole numbers: `number TEXT MOST` and `integer TEXT BELOW ABOVE`.
 use crate::answers::{none, number_of, unknown};
-use decimals::{read_integer, read_number};
+use base_decimals::{read_integer, read_number};
 use std::alloc::{AllocError, Global};
 use test_rows::Row;
 

@@ -1,6 +1,6 @@
 // Rows of a set of dues, each on what the rows before left: `new`, `put MOMENT NUMBER`, `take NUMBER`, `count` and `many COUNT`.
 use crate::answers::{number_of, place_of, unknown};
-use flow_dues::{Dues, dues_are_one};
+use base_dues::{Dues, dues_are_one};
 use std::alloc::{AllocError, Global};
 use test_rows::Row;
 

@@ -1,9 +1,9 @@
 // Tables of edges from texts: `0>1 0>2 3>` are the edges from 0 to 1 and to 2, in a table whose last row is that of 3, which is empty.
 ghost use Rattle.std.specs.Prelude.{◌<◌, All, IsTrue};
-ghost use Rattle.reachability.specs.Tables.{IsWithin};
+ghost use Rattle.base_graphs.specs.Tables.{IsWithin};
 
 use crate::answers::{place_of, words};
-use reachability::Places;
+use base_graphs::Places;
 use std::alloc::{AllocError, Global};
 
 /// Adds an edge to a place, or none, in the row of another one, and the rows up to that.

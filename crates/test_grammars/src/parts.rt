@@ -1,5 +1,5 @@
 // What is known of a playbook that was checked.
-ghost use Rattle.std.specs.Prelude.{◌≤◌, length, IfOk, IfSome};
+ghost use Rattle.std.specs.Prelude.{◌≤◌, length};
 
 use crate::checks::{book, mode};
 use crate::samples::Samples;

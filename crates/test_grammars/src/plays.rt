@@ -28,7 +28,7 @@ impl Subject {
             Subject::Ids => "cacao_ids",
             Subject::Vars => "cacao_vars",
             Subject::Conds => "cacao_cond",
-            Subject::Shapes => "cacao_shape",
+            Subject::Shapes => "cacao_book_shape",
             Subject::Books => "cacao_book",
             Subject::Checks => "cacao_check",
         }
@@ -42,7 +42,7 @@ impl Subject {
             Subject::Ids => "cacao_ids.rows",
             Subject::Vars => "cacao_vars.rows",
             Subject::Conds => "cacao_cond.rows",
-            Subject::Shapes => "cacao_shape.rows",
+            Subject::Shapes => "cacao_book_shape.rows",
             Subject::Books => "cacao_book.rows",
             Subject::Checks => "cacao_check.rows",
         }

@@ -1,8 +1,8 @@
 // The rules of shape.
 use crate::samples::Samples;
 use crate::words::word;
+use cacao_book_shape::{BookError, test_shape};
 use cacao_json::{Text, Tree, find_tree};
-use cacao_shape::{BookError, test_shape};
 use std::alloc::{AllocError, Global};
 use test_rows::Row;
 

@@ -1,9 +1,9 @@
 // What is shown of an answer.
 use cacao_site::Parcel;
-use program_plays::{Answer, Program};
-use session_plays::{cut, spelled_out};
 use std::alloc::{AllocError, Global};
 use std::str::from_utf8;
+use test_program_plays::{Answer, Program};
+use test_session_plays::{cut, spelled_out};
 
 /// A text with each identifier cut to its type and its last two digits. One that would not come back so is left whole, and says so.
 fn short(alloc: Global, text: &str) -> Result<String, AllocError> {

@@ -32,8 +32,8 @@
 use crate::answers::{records, shown};
 use crate::loops::{answer_cuts, count_fronts, count_levels};
 use crate::player::Player;
-use program_plays::{Answer, Rehearsed, count_rehearsed, text_rehearsed};
 use std::alloc::{AllocError, Global};
+use test_program_plays::{Answer, Rehearsed, count_rehearsed, text_rehearsed};
 use test_rows::Row;
 
 /// What came of a row.

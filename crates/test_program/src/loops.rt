@@ -2,8 +2,8 @@
 use crate::answers::shown;
 use crate::pieces::front;
 use crate::player::{Player, disk_file};
-use program_plays::Scene;
 use std::alloc::{AllocError, Global};
+use test_program_plays::Scene;
 use test_rows::Row;
 
 /// How many fronts of a text that lack its end are answered so, where a file of this name has them.

@@ -1,8 +1,8 @@
 // How a site does, as the fields of a row say it: `room 8192`, `calls 4`, `failing 0`, `stop 100`, `weather lose twice hold:3005`. What no
 // field says is as it is where nothing fails.
-use memory_site::Weather;
-use session_plays::{Outside, fair};
+use cacao_site_memory::Weather;
 use test_rows::Row;
+use test_session_plays::{Outside, fair};
 
 /// The number that a text is in decimal.
 fn number(text: &str) -> Option<u64> {

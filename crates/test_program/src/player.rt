@@ -3,12 +3,12 @@ use crate::answers::{commands, parcel};
 use crate::pieces::joined;
 use crate::plans::outside;
 use crate::texts::Texts;
-use program_plays::{Answer, Program, Scene};
-use session_plays::{fair, spelled_out};
 use std::alloc::{AllocError, Global};
 use std::mem;
 use std::str::from_utf8;
+use test_program_plays::{Answer, Program, Scene};
 use test_rows::Row;
+use test_session_plays::{fair, spelled_out};
 
 /// The texts that were named, the program, and what a new one is called on.
 #[derive(Drop)]

@@ -1,12 +1,12 @@
 // Rows of what operators answer.
 use crate::texts::no_row;
-use operator_answers::AnswerError;
-use session_plays::answers;
+use flow_engine_answers::AnswerError;
 use std::alloc::{AllocError, Global};
 use std::io;
 use std::rt::Files;
 use std::str::from_utf8;
 use test_rows::{Row, Tally, read_file};
+use test_session_plays::answers;
 
 /// The text with these bytes; the empty text where they are no UTF-8.
 fn text_of(bytes: &[u8]) -> &str {

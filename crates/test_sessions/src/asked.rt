@@ -1,5 +1,5 @@
 // What a row asks of a session.
-use session_plays::{Asked, Book, whole};
+use test_session_plays::{Asked, Book, whole};
 
 /// Takes a word with a number; false where there is no such word.
 fn take(asked: &mut Asked<'_>, word: &str) -> bool {

@@ -1,12 +1,12 @@
 // Rows of engines.
 use crate::faults::faults;
 use crate::texts::{engine_error, no_row};
-use engine_plays::{Answer, Call, EnginePlay, Life, Played};
-use session_plays::{Book, cut, text};
 use std::alloc::{AllocError, Global};
 use std::io;
 use std::rt::Files;
+use test_engine_plays::{Answer, Call, EnginePlay, Life, Played};
 use test_rows::{Row, Tally, read_file};
+use test_session_plays::{Book, cut, text};
 
 /// The number that a text is.
 fn number(text: &str) -> Option<u64> {

@@ -1,11 +1,11 @@
 // Device calls of an engine that fail, and crashes behind them.
 use crate::engines::add_calls;
 use crate::texts::no_row;
-use engine_plays::{Answer, Call, EnginePlay, Life, Played};
 use flow_engine::EngineError;
-use session_plays::{Book, text};
 use std::alloc::{AllocError, Global};
+use test_engine_plays::{Answer, Call, EnginePlay, Life, Played};
 use test_rows::Row;
+use test_session_plays::{Book, text};
 
 /// How a run goes.
 #[derive(Clone, Copy)]

@@ -2,10 +2,10 @@
 use crate::asked::asked_of;
 use crate::texts::{close, no_row, session_error};
 use cacao_site::Parcel;
-use session_plays::{Book, Came, Files, Play, cut, fair, whole};
 use std::alloc::{AllocError, Global};
 use std::str::from_utf8;
 use test_rows::Row;
+use test_session_plays::{Book, Came, Files, Play, cut, fair, whole};
 
 /// What came of a session.
 fn came_text(alloc: Global, came: Came) -> Result<String, AllocError> {

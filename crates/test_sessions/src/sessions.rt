@@ -4,11 +4,11 @@ use crate::sites::{is_site, play_at};
 use crate::stops::{failures, stops};
 use crate::texts::no_row;
 use crate::weathers::weathers;
-use session_plays::{Play, fair};
 use std::alloc::{AllocError, Global};
 use std::io;
 use std::rt::Files;
 use test_rows::{Row, Tally, read_file};
+use test_session_plays::{Play, fair};
 
 /// What came of a row that is played on a site, or tells of it.
 fn came_at(alloc: Global, play: &mut Play, row: &Row) -> Result<String, AllocError> {

@@ -1,7 +1,7 @@
 // Where a row is played.
-use memory_site::Weather;
-use session_plays::{Outside, Play, fair};
+use cacao_site_memory::Weather;
 use std::alloc::{AllocError, Global};
+use test_session_plays::{Outside, Play, fair};
 
 /// The files on which a row is played.
 #[derive(Clone, Copy)]

@@ -1,8 +1,8 @@
 // Device calls that fail, devices that stop, and crashes behind them.
 use crate::said::{has, whole_files};
 use flow_world::{Close, WorldError};
-use session_plays::{Book, Came, Files, Outside, Play, fair, whole};
 use std::alloc::{AllocError, Global};
+use test_session_plays::{Book, Came, Files, Outside, Play, fair, whole};
 
 /// What came of a session.
 #[derive(Clone, Copy)]

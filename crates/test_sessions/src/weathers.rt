@@ -1,10 +1,10 @@
 // Each weather of three parcels.
 use crate::texts::no_row;
+use cacao_site_memory::Weather;
 use flow_world::Close;
-use memory_site::Weather;
-use session_plays::{Book, Came, Outside, Play, fair, whole};
 use std::alloc::{AllocError, Global};
 use test_rows::Row;
+use test_session_plays::{Book, Came, Outside, Play, fair, whole};
 
 /// The weathers of a parcel.
 const WEATHERS: [Weather; 4] = [

@@ -1,6 +1,5 @@
 // Commands that are measured.
-ghost use Rattle.std.specs.Prelude.{◌≤◌};
-ghost use Rattle.oc2_targets.specs.Ranges.{Each, IsRuleNumber};
+ghost use Rattle.oc2_msg_targets.specs.Ranges.{Each, IsRuleNumber};
 ghost use Rattle.oc2_msg.specs.Ranges.{InRange};
 
 use oc2_msg::{Command, Direction, Drop3};

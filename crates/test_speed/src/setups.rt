@@ -1,5 +1,5 @@
 // Setups of runs.
-ghost use Rattle.std.specs.Prelude.{◌≤◌, IfOk};
+ghost use Rattle.std.specs.Prelude.{IfOk};
 ghost use Rattle.flow_core.specs.Setups.{IsReadable};
 
 use cacao_site::Bytes;

@@ -2,8 +2,8 @@
 //! call of `say` that fails, if one does, and in the last field the status and the lines that are to come.
 #![tactic(auto)]
 
+use cacao_site_memory::{CallList, MemoryShelf, MemorySite, SitePlan, WeatherList};
 use cacao_view::view;
-use memory_site::{CallList, MemoryShelf, MemorySite, SitePlan, WeatherList};
 use std::alloc::{AllocError, Global};
 use std::io;
 use std::process::ExitCode;

@@ -1,9 +1,9 @@
 use Rattle.std.proofs.Common.{sym, subst}
 use Rattle.std.specs.Prelude.{All}
 use Rattle.cacao_json.specs.Tree.{data_of}
-use Rattle.cacao_shape.specs.Members.{TextFits}
-use Rattle.cacao_shape.specs.Shape.{IsArgument}
-use Rattle.cacao_shape.proofs.ListLemmas.{fits_at}
+use Rattle.cacao_book_shape.specs.Members.{TextFits}
+use Rattle.cacao_book_shape.specs.Shape.{IsArgument}
+use Rattle.cacao_book_shape.proofs.ListLemmas.{fits_at}
 use Rattle.cacao_book.proofs.arguments.read_arguments.Goals as goal
 
 pub read_name-requires : goal.read_name-requires

@@ -1,6 +1,6 @@
 use Rattle.std.proofs.Common.{◌≡◌, map, take}
 use Rattle.cacao_json.specs.Tree.{data_of}
-use Rattle.cacao_shape.specs.Members.{text_of}
+use Rattle.cacao_book_shape.specs.Members.{text_of}
 use Rattle.cacao_book.specs.Books.{argument}
 use Rattle.cacao_book.proofs.arguments.read_arguments.Given as goal
 

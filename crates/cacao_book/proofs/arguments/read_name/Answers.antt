@@ -2,8 +2,8 @@ use Rattle.std.proofs.Common.{sym, subst, ap, ◌∙◌}
 use Rattle.serde_json.specs.Find.{as_str}
 use Rattle.cacao_json.specs.Tree.{data_of}
 use Rattle.cacao_vars.specs.Names.{IsName}
-use Rattle.cacao_shape.specs.Shape.{IsArgument}
-use Rattle.cacao_shape.specs.Members.{text_of}
+use Rattle.cacao_book_shape.specs.Shape.{IsArgument}
+use Rattle.cacao_book_shape.specs.Members.{text_of}
 use Rattle.cacao_book.specs.Books.{argument}
 use Rattle.cacao_book.proofs.ArgumentLemmas.{IsName-argument, text_fits}
 use Rattle.cacao_book.proofs.arguments.read_name.Goals as goal

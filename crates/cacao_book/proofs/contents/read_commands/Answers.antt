@@ -1,8 +1,8 @@
 use Rattle.std.proofs.Common.{sym, subst, codes}
 use Rattle.std.specs.Prelude.{All}
 use Rattle.cacao_json.specs.Tree.{data_of}
-use Rattle.cacao_shape.specs.Shape.{OnType, HasContent}
-use Rattle.cacao_shape.proofs.ListLemmas.{fits_at}
+use Rattle.cacao_book_shape.specs.Shape.{OnType, HasContent}
+use Rattle.cacao_book_shape.proofs.ListLemmas.{fits_at}
 use Rattle.cacao_book.proofs.contents.read_commands.Goals as goal
 
 pub read_command-requires : goal.read_command-requires

@@ -4,10 +4,10 @@ use Rattle.serde_json.specs.Find.{get}
 use Rattle.cacao_json.specs.Tree.{data_of, pair_data}
 use Rattle.cacao_vars.specs.Names.{IsName}
 use Rattle.cacao_vars.specs.Declarations.{IsInNameOrder}
-use Rattle.cacao_shape.specs.Orders.{IsRising}
-use Rattle.cacao_shape.specs.Shape.{IsDeclaration}
+use Rattle.cacao_book_shape.specs.Orders.{IsRising}
+use Rattle.cacao_book_shape.specs.Shape.{IsDeclaration}
 use Rattle.cacao_book.specs.Books.{var_of}
-use Rattle.cacao_shape.proofs.ListLemmas.{fits_at, members_fit, made_all}
+use Rattle.cacao_book_shape.proofs.ListLemmas.{fits_at, members_fit, made_all}
 use Rattle.cacao_book.proofs.OrderLemmas.{vars_in_order}
 use Rattle.cacao_book.proofs.dictionaries.read_vars.Goals as goal
 

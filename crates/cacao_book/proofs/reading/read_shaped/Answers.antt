@@ -3,7 +3,7 @@ use Rattle.serde_json.specs.Find.{get}
 use Rattle.cacao_json.specs.Tree.{data_of}
 use Rattle.cacao_ids.specs.Ids.{IsId, HasObjectType}
 use Rattle.cacao_ids.specs.Stamps.{IsStamp}
-use Rattle.cacao_shape.specs.Shape.{k2, k3}
+use Rattle.cacao_book_shape.specs.Shape.{k2, k3}
 use Rattle.cacao_book.proofs.LimitLemmas.{text_there}
 use Rattle.cacao_book.proofs.reading.read_shaped.Goals as goal
 

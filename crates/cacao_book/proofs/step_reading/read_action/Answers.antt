@@ -1,9 +1,9 @@
 use Rattle.std.proofs.Common.{codes}
 use Rattle.serde_json.specs.Find.{get}
 use Rattle.cacao_json.specs.Tree.{data_of}
-use Rattle.cacao_shape.specs.Members.{TextFits}
-use Rattle.cacao_shape.specs.Shape.{IsArgument, OnType, HasContent}
-use Rattle.cacao_shape.proofs.ListLemmas.{items_fit, items_each}
+use Rattle.cacao_book_shape.specs.Members.{TextFits}
+use Rattle.cacao_book_shape.specs.Shape.{IsArgument, OnType, HasContent}
+use Rattle.cacao_book_shape.proofs.ListLemmas.{items_fit, items_each}
 use Rattle.cacao_book.proofs.step_reading.read_action.Goals as goal
 
 pub read_commands-requires : goal.read_commands-requires

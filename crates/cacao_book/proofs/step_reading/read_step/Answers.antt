@@ -1,4 +1,4 @@
-use Rattle.cacao_shape.specs.Shape.{k6, k7, k9, k10, k11}
+use Rattle.cacao_book_shape.specs.Shape.{k6, k7, k9, k10, k11}
 use Rattle.cacao_book.proofs.step_reading.read_step.Goals as goal
 
 pub read_vars-requires : goal.read_vars-requires

@@ -3,12 +3,12 @@ use Rattle.std.specs.Prelude.{All}
 use Rattle.serde_json.specs.Find.{get}
 use Rattle.cacao_json.specs.Tree.{data_of, pair_data}
 use Rattle.cacao_ids.specs.Ids.{IsId}
-use Rattle.cacao_shape.specs.Members.{IsObject}
-use Rattle.cacao_shape.specs.Shape.{k4}
+use Rattle.cacao_book_shape.specs.Members.{IsObject}
+use Rattle.cacao_book_shape.specs.Shape.{k4}
 use Rattle.cacao_book.specs.Books.{step_of}
 use Rattle.cacao_book.specs.Steps.{AreSteps}
-use Rattle.cacao_shape.proofs.ListLemmas.{fits_at, members_fit, may_have, made_more, made_all}
-use Rattle.cacao_shape.proofs.ShapeLemmas.{read_mapped, step_shaped}
+use Rattle.cacao_book_shape.proofs.ListLemmas.{fits_at, members_fit, may_have, made_more, made_all}
+use Rattle.cacao_book_shape.proofs.ShapeLemmas.{read_mapped, step_shaped}
 use Rattle.cacao_book.proofs.LimitLemmas.{are_steps}
 use Rattle.cacao_book.proofs.step_reading.read_steps.Goals as goal
 

@@ -1,8 +1,8 @@
 use Rattle.std.proofs.Common.{◌≡◌, ◌<◌, Some, length, slice_get, subst, refl, arith}
 use Rattle.std.proofs.lemmas.Option.{slice_get_read}
-use Rattle.cacao_regions.specs.declared.surveys.Survey.{Survey}
-use Rattle.cacao_regions.specs.Charts.{IsChartOf, AreRegionsOf}
-use Rattle.cacao_steps.proofs.PairLemmas.{Pairs-more}
+use Rattle.cacao_check_regions.specs.declared.surveys.Survey.{Survey}
+use Rattle.cacao_check_regions.specs.Charts.{IsChartOf, AreRegionsOf}
+use Rattle.cacao_check_steps.proofs.PairLemmas.{Pairs-more}
 use Rattle.cacao_check.proofs.checking.regions_of_all.Goals as goal
 
 pub regions_of-requires : goal.regions_of-requires

@@ -1,9 +1,9 @@
 use Rattle.std.proofs.Common.{◌⊎◌, ℕ, List, take, IsSome}
 use Rattle.std.specs.Prelude.{All}
-use Rattle.cacao_steps.specs.Links.{declares}
-use Rattle.cacao_regions.specs.Regions.{IsPlaced}
+use Rattle.cacao_check_steps.specs.Links.{declares}
+use Rattle.cacao_check_regions.specs.Regions.{IsPlaced}
 use Rattle.cacao_check.specs.Rules.{IsDeclaredAlike}
-use Rattle.cacao_regions.specs.Memories.{Remembers}
+use Rattle.cacao_check_regions.specs.Memories.{Remembers}
 use Rattle.cacao_check.proofs.sight_rules.are_alike.Given as goal
 
 abbrev pub invariant-loop-name : goal.invariant-loop-name

@@ -1,6 +1,6 @@
 use Rattle.std.proofs.Common.{◌≡◌, ℕ, ◌<◌, List, Some, slice_get}
-use Rattle.cacao_regions.specs.Flaws.{SeesFlaw, result_flaw}
-use Rattle.cacao_regions.specs.Memories.{Remembers}
+use Rattle.cacao_check_regions.specs.Flaws.{SeesFlaw, result_flaw}
+use Rattle.cacao_check_regions.specs.Memories.{Remembers}
 use Rattle.cacao_check.proofs.sight_rules.keeps_k23.Given as goal
 
 abbrev pub invariant-loop-at : goal.invariant-loop-at

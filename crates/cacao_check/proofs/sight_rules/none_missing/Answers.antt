@@ -1,7 +1,7 @@
 use Rattle.std.proofs.Common.{ℕ, List, sym, ◌∙◌}
 use Rattle.std.proofs.lemmas.Bool.{false≢true}
-use Rattle.cacao_regions.specs.declared.flaws.Flaw.TheVariants as flaw
-use Rattle.cacao_regions.specs.Flaws.{SeesFlaw}
+use Rattle.cacao_check_regions.specs.declared.flaws.Flaw.TheVariants as flaw
+use Rattle.cacao_check_regions.specs.Flaws.{SeesFlaw}
 use Rattle.cacao_check.proofs.RuleLemmas.{all_more, all_done, fails_at}
 use Rattle.cacao_check.proofs.sight_rules.none_missing.Goals as goal
 

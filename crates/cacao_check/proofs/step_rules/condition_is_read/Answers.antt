@@ -1,7 +1,7 @@
 use Rattle.std.proofs.Common.{List, ℕ, Bor, Option, Some, None, IfSome, IfNone}
 use Rattle.cacao_cond.specs.Trees.{AnyTree}
 use Rattle.cacao_cond.specs.Grammar.{Spells}
-use Rattle.cacao_steps.specs.Uses.{condition_of}
+use Rattle.cacao_check_steps.specs.Uses.{condition_of}
 use Rattle.cacao_check.proofs.RuleLemmas.{unread_iff}
 use Rattle.cacao_check.proofs.step_rules.condition_is_read.Goals as goal
 

@@ -1,9 +1,9 @@
 use Rattle.std.proofs.Common.{◌∙◌, sym, ap, map, option_map, subst, refl}
 use Rattle.std.specs.Prelude.{All}
 use Rattle.cacao_json.specs.Tree.{data_of}
-use Rattle.cacao_steps.specs.Uses.{content_tree}
+use Rattle.cacao_check_steps.specs.Uses.{content_tree}
 use Rattle.cacao_check.specs.Rules.{CanBeSent}
-use Rattle.cacao_steps.proofs.PairLemmas.{mapped_at}
+use Rattle.cacao_check_steps.proofs.PairLemmas.{mapped_at}
 use Rattle.cacao_check.proofs.RuleLemmas.{all_more, all_done}
 use Rattle.cacao_check.proofs.step_rules.keeps_k13.Goals as goal
 

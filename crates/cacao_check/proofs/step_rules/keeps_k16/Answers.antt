@@ -2,7 +2,7 @@ use Rattle.std.proofs.Common.{◌∙◌, sym, List, ℕ, is_some, ap}
 use Rattle.std.specs.List.{list_all}
 use Rattle.cacao_book.specs.Steps.{place_of}
 use Rattle.cacao_book.specs.declared.steps.Step.{Step}
-use Rattle.cacao_steps.specs.Links.{next_keys, head_keys}
+use Rattle.cacao_check_steps.specs.Links.{next_keys, head_keys}
 use Rattle.cacao_check.proofs.RuleLemmas.{all_appended, none_appended}
 use Rattle.cacao_check.proofs.step_rules.keeps_k16.Goals as goal
 

@@ -1,6 +1,6 @@
 use Rattle.std.proofs.Common.{◌≡◌, ◌<◌, Some, length, slice_get, sym, ◌∙◌, refl, arith}
 use Rattle.std.proofs.lemmas.Option.{slice_get_read}
-use Rattle.cacao_steps.specs.Calls.{LeadsTo}
+use Rattle.cacao_check_steps.specs.Calls.{LeadsTo}
 use Rattle.cacao_check.proofs.RuleLemmas.{k19_then, k19_else, not_iff, marked_iff}
 use Rattle.cacao_check.proofs.step_rules.keeps_k19.Goals as goal
 

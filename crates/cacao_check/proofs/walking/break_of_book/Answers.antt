@@ -1,6 +1,6 @@
 use Rattle.std.proofs.Common.{subst, sym, ap, length, arith, ◌<◌}
 use Rattle.cacao_check.proofs.WalkLemmas.{found_at, PlacesKept, PlacesKept-all}
-use Rattle.cacao_shape.specs.Shape.{place_rank}
+use Rattle.cacao_book_shape.specs.Shape.{place_rank}
 use Rattle.cacao_check.proofs.walking.break_of_book.Goals as goal
 
 pub loop-rank-init : goal.loop-rank-init

@@ -1,4 +1,4 @@
-use Rattle.cacao_regions.specs.Memories.{Remembers}
+use Rattle.cacao_check_regions.specs.Memories.{Remembers}
 use Rattle.cacao_check.proofs.WalkLemmas.{PlacesKept}
 use Rattle.cacao_check.proofs.walking.break_of_book.Given as goal
 

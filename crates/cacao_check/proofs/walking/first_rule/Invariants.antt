@@ -1,4 +1,4 @@
-use Rattle.cacao_regions.specs.Memories.{Remembers}
+use Rattle.cacao_check_regions.specs.Memories.{Remembers}
 use Rattle.cacao_check.proofs.WalkLemmas.{RulesKept}
 use Rattle.cacao_check.proofs.walking.first_rule.Given as goal
 

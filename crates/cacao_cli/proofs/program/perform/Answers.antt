@@ -2,7 +2,7 @@
 use Rattle.std.proofs.Common.{◌≡◌, ◌∙◌, sym, ap, refl, subst, Option, map, string_bytes}
 use Rattle.std.specs.Prelude.{option_and_then, option_map}
 use Rattle.cacao_cli_ends.specs.Asked.{Asked, asked, built}
-use Rattle.cacao_words.specs.Commands.{request_by}
+use Rattle.cacao_cli_words.specs.Commands.{request_by}
 use Rattle.cacao_cli_status_laws.specs.Commands.{asked_by}
 use Rattle.cacao_cli_ends.specs.Told.{end_of}
 use Rattle.cacao_cli_status_laws.specs.Ended.{Performed}

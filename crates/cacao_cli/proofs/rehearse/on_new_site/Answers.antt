@@ -1,6 +1,6 @@
 -- The rehearsal has a summary, or the end says why it has none.
 use Rattle.std.proofs.Common.{sym, subst}
-use Rattle.rehearsal.specs.Sites.{inside}
+use Rattle.cacao_cli_rehearsal.specs.Sites.{inside}
 use Rattle.cacao_cli_ends.specs.Ends.{End}
 use Rattle.cacao_cli_status_laws.specs.Rehearsing.{TellsRehearsal}
 use Rattle.cacao_cli_status_laws.proofs.RehearseLemmas.{has-failed, has-summary}

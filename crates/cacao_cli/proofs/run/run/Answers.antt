@@ -3,9 +3,9 @@ use Rattle.std.proofs.Common.{◌≡◌, ◌∙◌, refl, sym, ap, subst, arith,
 use Rattle.std.specs.Prelude.{Some}
 use Rattle.std.proofs.lemmas.List.{length-map}
 use Rattle.cacao_site.specs.View.{SiteView}
-use Rattle.cacao_words.specs.Commands.{run_request}
-use Rattle.cacao_words.specs.Requests.{RunRequest}
-use Rattle.cacao_words.specs.Words.{Text}
+use Rattle.cacao_cli_words.specs.Commands.{run_request}
+use Rattle.cacao_cli_words.specs.Requests.{RunRequest}
+use Rattle.cacao_cli_words.specs.Words.{Text}
 use Rattle.cacao_cli_ends.specs.Asked.{runs}
 use Rattle.cacao_cli_ends.specs.Told.{end_of}
 use Rattle.cacao_cli_looks.specs.Command.{text_of}

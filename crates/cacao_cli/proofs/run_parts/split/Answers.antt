@@ -1,6 +1,6 @@
 -- The texts are those of the files.
 use Rattle.std.proofs.Common.{◌∙◌, sym}
-use Rattle.cacao_words.specs.Commands.{run_request}
+use Rattle.cacao_cli_words.specs.Commands.{run_request}
 use Rattle.cacao_cli.proofs.SplitLemmas.{mapped-some, split-start}
 use Rattle.cacao_cli.proofs.run_parts.split.Goals as goal
 

@@ -1,7 +1,7 @@
 -- The first bad line.
 use Rattle.std.proofs.Common.{inl, ap, refl, subst, ℕ, List}
 use Rattle.std.specs.Prelude.{Err, option_map}
-use Rattle.operator_answers.specs.Answers.{IsFirstBadLine}
+use Rattle.flow_engine_answers.specs.Answers.{IsFirstBadLine}
 use Rattle.cacao_cli_looks.specs.Command.{text_of}
 use Rattle.cacao_cli.proofs.start.answers_of.Goals as goal
 

@@ -3,8 +3,8 @@ use Rattle.std.proofs.Common.{subst, ℕ, List}
 use Rattle.cacao_check.specs.Fits.{FitsKind}
 use Rattle.flow_core.specs.SetupReading.{BreaksBindRule}
 use Rattle.flow_core.specs.Setups.{AreAccepted}
-use Rattle.flow_rules.specs.Accepted.{Accepted}
-use Rattle.cacao_words.specs.Commands.{run_request}
+use Rattle.flow_core_rules.specs.Accepted.{Accepted}
+use Rattle.cacao_cli_words.specs.Commands.{run_request}
 use Rattle.cacao_cli_ends.specs.Told.{end_of}
 use Rattle.cacao_cli.proofs.BeginLemmas.{begins-bind, begins-held, bind-lacking}
 use Rattle.cacao_cli.proofs.start.start.Goals as goal

@@ -2,7 +2,7 @@
 use Rattle.std.proofs.Common.{inl, inr, ap, sym, subst, ℕ, ◌≤◌, List, length, Bor}
 use Rattle.std.proofs.lemmas.List.{length-map}
 use Rattle.std.specs.Prelude.{option_map}
-use Rattle.cacao_words.specs.Words.{Text}
+use Rattle.cacao_cli_words.specs.Words.{Text}
 use Rattle.cacao_cli.proofs.start.unreadable_end.Goals as goal
 
 pub returns-in-Some : goal.returns-in-Some

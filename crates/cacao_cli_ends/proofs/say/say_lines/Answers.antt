@@ -1,7 +1,7 @@
 -- The lines so far were said.
 use Rattle.std.proofs.Common.{◌≡◌, ◌∙◌, sym, ap, subst, ℕ, ◌+◌, List, map, take, take_all, drop, get_or, String, Global, string_bytes}
 use Rattle.cacao_site.specs.View.{SiteView}
-use Rattle.cacao_words.specs.Words.{Text}
+use Rattle.cacao_cli_words.specs.Words.{Text}
 use Rattle.cacao_cli_ends.specs.Lines.{SaysAll, SaysLine}
 use Rattle.cacao_cli_ends.proofs.ReadLemmas.{map-more, map-split}
 use Rattle.cacao_cli_ends.proofs.UnsaidLemmas.{says-more}

@@ -1,6 +1,6 @@
 -- The files were read, and then compared.
 use Rattle.std.proofs.Common.{map}
-use Rattle.cacao_words.specs.Commands.{filter_of}
+use Rattle.cacao_cli_words.specs.Commands.{filter_of}
 use Rattle.cacao_cli_ends.specs.Told.{end_of}
 use Rattle.cacao_cli_ends.specs.Files.{ShelfCall}
 use Rattle.cacao_cli_looks.proofs.PerformLemmas.{audit-read}

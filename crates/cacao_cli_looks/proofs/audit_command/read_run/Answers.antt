@@ -2,9 +2,9 @@
 use Rattle.std.proofs.Common.{◌≡◌, ◌∙◌, refl, sym, ap, subst, ℕ, ◌+◌, List, [], ◌∷◌, ◌++◌, length, map, take, drop, take_all, Err}
 use Rattle.std.specs.Prelude.{slice_set}
 use Rattle.std.proofs.lemmas.List.{length-set}
-use Rattle.cacao_words.specs.Commands.{filter_of}
-use Rattle.cacao_words.specs.Words.{Text}
-use Rattle.cacao_words.specs.declared.filter_file.FilterFile.{FilterFile}
+use Rattle.cacao_cli_words.specs.Commands.{filter_of}
+use Rattle.cacao_cli_words.specs.Words.{Text}
+use Rattle.cacao_cli_words.specs.declared.filter_file.FilterFile.{FilterFile}
 use Rattle.cacao_cli_ends.specs.Told.{end_of}
 use Rattle.cacao_cli_ends.specs.Ends.{End}
 use Rattle.cacao_cli_ends.specs.Files.{ShelfCall, File, ReadsTo, journal_file}

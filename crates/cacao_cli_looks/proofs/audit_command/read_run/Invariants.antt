@@ -1,5 +1,5 @@
 use Rattle.std.proofs.Common.{◌≡◌, map, take, length}
-use Rattle.cacao_words.specs.Commands.{filter_of}
+use Rattle.cacao_cli_words.specs.Commands.{filter_of}
 use Rattle.cacao_cli_looks.proofs.RunFileLemmas.{IsRunSoFar}
 use Rattle.cacao_cli_looks.proofs.audit_command.read_run.Given as goal
 

@@ -5,7 +5,7 @@ use Rattle.serde_json.specs.Data.{Data}
 use Rattle.cacao_json.specs.Tree.{data_of}
 use Rattle.cacao_site.specs.View.{SiteView}
 use Rattle.cacao_check.specs.declared.breaks.Mode.TheVariants.{Read as Reading}
-use Rattle.cacao_words.specs.Words.{Text}
+use Rattle.cacao_cli_words.specs.Words.{Text}
 use Rattle.cacao_cli_ends.specs.Told.{end_of}
 use Rattle.cacao_cli_looks.specs.Command.{text_of, IsJudgement}
 use Rattle.cacao_cli_ends.specs.Ends.{End, no_memory}

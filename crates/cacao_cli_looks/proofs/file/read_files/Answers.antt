@@ -1,7 +1,7 @@
 -- The files read so far are those before the one that is read.
 use Rattle.std.proofs.Common.{◌≡◌, ◌∙◌, refl, sym, ap, subst, arith, ℕ, ◌+◌, Bor, List, [], ◌∷◌, ◌++◌, length, map, take, drop, get_or, take_all, Ok}
 use Rattle.std.proofs.lemmas.List.{map-append, length-append}
-use Rattle.cacao_words.specs.Words.{Text}
+use Rattle.cacao_cli_words.specs.Words.{Text}
 use Rattle.cacao_cli_ends.specs.Told.{end_of}
 use Rattle.cacao_cli_looks.specs.Command.{text_of}
 use Rattle.cacao_cli_ends.specs.Ends.{no_memory}

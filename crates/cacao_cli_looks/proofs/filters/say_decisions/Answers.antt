@@ -1,6 +1,6 @@
 -- The filter was not opened.
 use Rattle.std.proofs.Common.{◌∙◌, inl, sym, ap, subst, Err, List, map, String, Global, string_bytes}
-use Rattle.filter_reports.specs.Lines.{decision_lines}
+use Rattle.cacao_cli_filters.specs.Lines.{decision_lines}
 use Rattle.cacao_cli_ends.specs.Told.{end_of}
 use Rattle.cacao_cli_ends.specs.Lines.{SaysWork}
 use Rattle.cacao_site.specs.View.{SiteView}

@@ -3,7 +3,7 @@ use Rattle.std.proofs.Common.{◌≡◌, ◌∙◌, sym, ap, subst, arith, ℕ, 
 use Rattle.std.proofs.lemmas.List.{map-append, length-map, length-take-le}
 use Rattle.serde_json.specs.Data.{Data}
 use Rattle.cacao_book.specs.Books.{book}
-use Rattle.cacao_shape.specs.Refusals.{RefusesTree}
+use Rattle.cacao_book_shape.specs.Refusals.{RefusesTree}
 use Rattle.cacao_json.specs.Tree.{data_of}
 use Rattle.cacao_json.specs.declared.tree.Tree.{Tree}
 use Rattle.cacao_cli_looks.specs.Command.{IsJudgement}

@@ -1,8 +1,8 @@
 -- The lines so far were said.
 use Rattle.std.proofs.Common.{◌∙◌, sym, ap, List, [], ◌∷◌, ◌++◌, append_assoc}
 use Rattle.cacao_site.specs.View.{SiteView}
-use Rattle.cacao_words.specs.Words.{Text}
-use Rattle.run_reports.specs.RunLines.{lines_of}
+use Rattle.cacao_cli_words.specs.Words.{Text}
+use Rattle.flow_engine_reports.specs.RunLines.{lines_of}
 use Rattle.cacao_cli_ends.specs.Lines.{SaysLine}
 use Rattle.cacao_cli_ends.proofs.UnsaidLemmas.{says-more}
 use Rattle.cacao_cli_looks.proofs.say_text.say_each.Goals as goal

@@ -1,6 +1,6 @@
 use Rattle.std.proofs.Common.{◌≡◌, ◌++◌, List, length}
-use Rattle.cacao_words.specs.Words.{Text}
-use Rattle.run_reports.specs.RunLines.{lines_of}
+use Rattle.cacao_cli_words.specs.Words.{Text}
+use Rattle.flow_engine_reports.specs.RunLines.{lines_of}
 use Rattle.cacao_cli_ends.specs.Lines.{SaysAll}
 use Rattle.cacao_cli_looks.proofs.say_text.say_each.Given as goal
 

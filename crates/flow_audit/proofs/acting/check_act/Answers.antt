@@ -4,7 +4,7 @@ use Rattle.std.proofs.lemmas.Option.{slice_get_read}
 use Rattle.run_records.specs.declared.act.Act.{Act}
 use Rattle.slpf_rules.specs.declared.rules.Rule.{Rule}
 use Rattle.slpf_rules.specs.Replies.{reply}
-use Rattle.slpf_acts.specs.Acts.{IsOther, reply_text, table_of}
+use Rattle.slpf_rules_acts.specs.Acts.{IsOther, reply_text, table_of}
 use Rattle.flow_laws.specs.Journals.{IsSent, run_of}
 use Rattle.flow_audit.specs.Breaks.{FitsAct}
 use Rattle.flow_audit.specs.Index.{ArePlacesOf}

@@ -1,5 +1,5 @@
 use Rattle.std.proofs.Common.{◌≡◌, take}
-use Rattle.slpf_acts.specs.Acts.{table_of}
+use Rattle.slpf_rules_acts.specs.Acts.{table_of}
 use Rattle.flow_audit.specs.Breaks.{ActsFit}
 use Rattle.flow_audit.specs.Index.{ArePlacesOf}
 use Rattle.flow_audit.proofs.acting.check_acts.Given as goal

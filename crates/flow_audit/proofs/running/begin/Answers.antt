@@ -2,9 +2,9 @@ use Rattle.std.proofs.Common.{◌≡◌, true, false, [], ◌∷◌, ℕ, List, 
 use Rattle.cacao_check.specs.Fits.{FitsKind}
 use Rattle.run_records.specs.declared.record.Record.{Record}
 use Rattle.run_records.specs.declared.record.Record.TheVariants.{Begin}
-use Rattle.flow_rules.specs.Accepted.{Accepted}
-use Rattle.flow_rules.specs.Givens.{Given}
-use Rattle.flow_rules.specs.State.{Shown}
+use Rattle.flow_core_rules.specs.Accepted.{Accepted}
+use Rattle.flow_core_rules.specs.Givens.{Given}
+use Rattle.flow_core_rules.specs.State.{Shown}
 use Rattle.flow_core.specs.SetupReading.{RefusesTexts}
 use Rattle.flow_core.specs.Views.{taken}
 use Rattle.flow_laws.specs.Journals.{AreAccepted, IsJournalRun}

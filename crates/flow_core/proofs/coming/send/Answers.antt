@@ -1,7 +1,7 @@
 use Rattle.std.proofs.Common.{Some, ap, sym, ◌∙◌}
 use Rattle.std.specs.Prelude.{option_map}
-use Rattle.flow_plans.specs.RunFacts.{shown_of}
-use Rattle.flow_plans.specs.Issuings.{made_of}
+use Rattle.flow_core_plans.specs.RunFacts.{shown_of}
+use Rattle.flow_core_plans.specs.Issuings.{made_of}
 use Rattle.flow_core.proofs.ComingLemmas.{sent}
 use Rattle.flow_core.proofs.coming.send.Goals as goal
 

@@ -1,6 +1,6 @@
 use Rattle.std.proofs.Common.{◌≡◌, ◌≤◌, take}
 use Rattle.std.specs.Prelude.{count_by}
-use Rattle.flow_plans.specs.Planned.{edit_of}
+use Rattle.flow_core_plans.specs.Planned.{edit_of}
 use Rattle.flow_core.specs.Views.{is_makes}
 use Rattle.flow_core.proofs.limits.tasks_made.Given as goal
 

@@ -1,7 +1,7 @@
 use Rattle.std.proofs.Common.{◌++◌, List, length, refl}
 use Rattle.std.proofs.lemmas.Option.{slice_get_read}
-use Rattle.flow_rules.specs.declared.issues.Issue.{Issue}
-use Rattle.flow_rules.specs.Lines.{issue_lines}
+use Rattle.flow_core_rules.specs.declared.issues.Issue.{Issue}
+use Rattle.flow_core_rules.specs.Lines.{issue_lines}
 use Rattle.flow_core.proofs.ReportLemmas.{issue_more, issues_end}
 use Rattle.flow_core.proofs.report.add_issues.Goals as goal
 

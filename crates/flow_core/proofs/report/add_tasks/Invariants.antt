@@ -1,6 +1,6 @@
 use Rattle.std.proofs.Common.{◌≡◌, ◌++◌, drop}
-use Rattle.flow_rules.specs.Lines.{task_lines}
-use Rattle.flow_plans.specs.RunFacts.{shown_of}
+use Rattle.flow_core_rules.specs.Lines.{task_lines}
+use Rattle.flow_core_plans.specs.RunFacts.{shown_of}
 use Rattle.flow_core.proofs.report.add_tasks.Given as goal
 
 -- what is written, and what is left to write

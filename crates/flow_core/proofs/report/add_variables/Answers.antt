@@ -1,5 +1,5 @@
 use Rattle.std.proofs.Common.{[], ◌∷◌, ◌++◌, codes, sym, ap, ◌∙◌, append_assoc, append-nil}
-use Rattle.flow_rules.specs.Lines.{line_from, maybe_text, variable_lines}
+use Rattle.flow_core_rules.specs.Lines.{line_from, maybe_text, variable_lines}
 use Rattle.flow_core.proofs.report.add_variables.Goals as goal
 
 pub loop-name-preserved : goal.loop-name-preserved

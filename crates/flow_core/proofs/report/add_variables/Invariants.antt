@@ -1,5 +1,5 @@
 use Rattle.std.proofs.Common.{◌≡◌, ◌++◌}
-use Rattle.flow_rules.specs.Lines.{variable_lines}
+use Rattle.flow_core_rules.specs.Lines.{variable_lines}
 use Rattle.flow_core.proofs.report.add_variables.Given as goal
 
 -- what is written, and what is left to write

@@ -1,7 +1,7 @@
 use Rattle.std.proofs.Common.{ℕ, subst, sym, refl}
 use Rattle.run_records.specs.declared.record.Record.{Record}
 use Rattle.flow_engine.specs.EngineCalls.{Appends, IsBeginning, Refused}
-use Rattle.flow_steps.specs.Worlds.{rests}
+use Rattle.flow_world_steps.specs.Worlds.{rests}
 use Rattle.flow_world_parts.specs.Leads.{EngineRefuses, MayAppend}
 use Rattle.flow_world_parts.specs.declared.error.WorldError.{WorldError}
 use Rattle.flow_world_parts.proofs.EngineSide.{append_said, append_unsaid, begin_step, engine_is, no_records}

@@ -1,7 +1,7 @@
 use Rattle.std.proofs.Common.{◌≡◌, length, refl, ◌∙◌, ap, arith}
-use Rattle.engine_history.specs.HistoryView.{HistoryView}
-use Rattle.flow_rules.specs.State.{Shown}
-use Rattle.flow_steps.specs.Worlds.{rests}
+use Rattle.flow_engine_history.specs.HistoryView.{HistoryView}
+use Rattle.flow_core_rules.specs.State.{Shown}
+use Rattle.flow_world_steps.specs.Worlds.{rests}
 use Rattle.flow_world_parts.specs.Leads.{AnyNotes}
 use Rattle.flow_world_parts.proofs.EngineSide.{all_put, none_put}
 use Rattle.flow_world_parts.proofs.EngineSteps.{goes_refuses, goes_then, stays_there}

@@ -1,6 +1,6 @@
 use Rattle.flow_world_parts.proofs.EngineSteps.{last_line, line_said, line_unsaid, wants}
 use Rattle.flow_world_parts.proofs.Standing.{filters_kept, work_stays}
-use Rattle.flow_steps.specs.Worlds.{owes}
+use Rattle.flow_world_steps.specs.Worlds.{owes}
 use Rattle.flow_world_parts.specs.Leads.{AnyNotes}
 use Rattle.flow_world_parts.proofs.engine_side.say_last.Goals as goal
 

@@ -1,7 +1,7 @@
 use Rattle.std.proofs.Common.{ℕ, ◌∙◌, Ok, subst, sym, refl, ap}
 use Rattle.flow_engine.specs.EngineCalls.{Appends, IsReply, Refused}
-use Rattle.flow_steps.specs.Worlds.{holds}
-use Rattle.flow_steps.proofs.AllPuts.{put_after_reply}
+use Rattle.flow_world_steps.specs.Worlds.{holds}
+use Rattle.flow_world_steps.proofs.AllPuts.{put_after_reply}
 use Rattle.flow_world_parts.specs.Leads.{EngineRefuses, MayAppend}
 use Rattle.flow_world_parts.specs.declared.error.WorldError.{WorldError}
 use Rattle.flow_world_parts.proofs.EngineSide.{append_said, append_unsaid, engine_is, reply_step}

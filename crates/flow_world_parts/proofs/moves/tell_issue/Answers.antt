@@ -1,6 +1,6 @@
 use Rattle.run_records.specs.declared.record.Record.TheVariants as entry
-use Rattle.engine_history.specs.HistoryCalls.{Is}
-use Rattle.flow_steps.proofs.AllPuts.{put_after_told}
+use Rattle.flow_engine_history.specs.HistoryCalls.{Is}
+use Rattle.flow_world_steps.proofs.AllPuts.{put_after_told}
 use Rattle.flow_world_parts.proofs.MoveSteps.{appended_then, on_ok, refused_so, try_told}
 use Rattle.flow_world_parts.proofs.moves.tell_issue.Goals as goal
 use Rattle.flow_world_parts.proofs.Standing.{filters_beside, keeps_if}

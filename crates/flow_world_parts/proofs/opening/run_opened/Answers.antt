@@ -1,6 +1,6 @@
 use Rattle.std.proofs.Common.{ℕ, sym, subst, refl}
 use Rattle.std.specs.Prelude.{Ok}
-use Rattle.flow_steps.specs.Worlds.{opened}
+use Rattle.flow_world_steps.specs.Worlds.{opened}
 use Rattle.flow_world_parts.specs.Clock.{IsTooLate}
 use Rattle.flow_world_parts.specs.Leads.{EndedAt, RefusesAt, at}
 use Rattle.flow_world_parts.specs.declared.close.Close.TheVariants as close

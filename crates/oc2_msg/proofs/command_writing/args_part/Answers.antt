@@ -1,8 +1,8 @@
 use Rattle.std.proofs.Common.{List, [], ◌∷◌, codes, option_map, refl, ap, ◌∙◌}
 use Rattle.cacao_json.specs.Tree.{data_of}
-use Rattle.oc2_targets.specs.Parts.{whole_data, unless_empty}
-use Rattle.oc2_targets.proofs.PresentLemmas.{Part}
-use Rattle.oc2_targets.proofs.PutLemmas.{one_more}
+use Rattle.oc2_msg_targets.specs.Parts.{whole_data, unless_empty}
+use Rattle.oc2_msg_targets.proofs.PresentLemmas.{Part}
+use Rattle.oc2_msg_targets.proofs.PutLemmas.{one_more}
 use Rattle.oc2_msg.proofs.command_writing.args_part.Goals as goal
 
 pub returns : goal.returns

@@ -2,7 +2,7 @@ use Rattle.std.proofs.Common.{◌≡◌, Ok, ap, ◌∙◌}
 use Rattle.cacao_json.specs.Tree.{data_of}
 use Rattle.cacao_text.specs.Canon.{canon}
 use Rattle.oc2_msg.specs.Commands.{answer_of}
-use Rattle.oc2_targets.proofs.PutLemmas.{holds_if_ok}
+use Rattle.oc2_msg_targets.proofs.PutLemmas.{holds_if_ok}
 use Rattle.oc2_msg.proofs.LawLemmas.{commands_read_back}
 use Rattle.oc2_msg.proofs.command_writing.write_command.Goals as goal
 

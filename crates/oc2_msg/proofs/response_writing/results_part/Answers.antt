@@ -1,9 +1,9 @@
 use Rattle.std.proofs.Common.{List, [], ◌∷◌, codes, refl, ap, ◌∙◌}
-use Rattle.oc2_targets.specs.declared.features.Feature.TheVariants as feature
-use Rattle.oc2_targets.specs.Parts.{unless_empty}
+use Rattle.oc2_msg_targets.specs.declared.features.Feature.TheVariants as feature
+use Rattle.oc2_msg_targets.specs.Parts.{unless_empty}
 use Rattle.oc2_msg.specs.Responses.{value_part, rule_part}
-use Rattle.oc2_targets.proofs.PresentLemmas.{Part}
-use Rattle.oc2_targets.proofs.PutLemmas.{one_more}
+use Rattle.oc2_msg_targets.proofs.PresentLemmas.{Part}
+use Rattle.oc2_msg_targets.proofs.PutLemmas.{one_more}
 use Rattle.oc2_msg.proofs.response_writing.results_part.Goals as goal
 
 pub returns-clause-value : goal.returns-clause-value

@@ -3,7 +3,7 @@ use Rattle.cacao_json.specs.Tree.{data_of}
 use Rattle.cacao_text.specs.Canon.{canon}
 use Rattle.oc2_msg.specs.Reasons.{reason_text}
 use Rattle.oc2_msg.specs.Responses.{response_object, answer}
-use Rattle.oc2_targets.proofs.PutLemmas.{holds_if_ok}
+use Rattle.oc2_msg_targets.proofs.PutLemmas.{holds_if_ok}
 use Rattle.oc2_msg.proofs.ResponseLemmas.{responses_read_back}
 use Rattle.oc2_msg.proofs.response_writing.write_response.Goals as goal
 

@@ -1,5 +1,5 @@
 use Rattle.std.proofs.Common.{arith, ap, sym, ◌∙◌}
-use Rattle.decimals.specs.Numbers.{number}
+use Rattle.base_decimals.specs.Numbers.{number}
 use Rattle.oc2_nets.proofs.NetTexts.{width_read, width_not_read}
 use Rattle.oc2_nets.proofs.nets.split_width.Goals as goal
 

@@ -2,7 +2,7 @@ use Rattle.std.proofs.Common.{◌≡◌, ◌∙◌, ℕ, List, Some, true, false
 use Rattle.std.specs.Prelude.{is_some}
 use Rattle.run_records.specs.Reading.{act_of}
 use Rattle.slpf_rules.specs.declared.rules.Rule.{Rule}
-use Rattle.slpf_acts.specs.Acts.{reply_text, table_of}
+use Rattle.slpf_rules_acts.specs.Acts.{reply_text, table_of}
 use Rattle.slpf_actuator.proofs.OpenLemmas.{entries_pushed}
 use Rattle.slpf_actuator.proofs.OpenLemmas.{bad_again, may_follow}
 use Rattle.slpf_actuator.proofs.opening.add_entry.Goals as goal

@@ -1,8 +1,8 @@
 use Rattle.std.proofs.Common.{◌≡◌, ◌<◌, ℕ, zero, suc, List, [], ◌∷◌, length, Some, slice_get, refl, sym, ap, subst, arith}
 use Rattle.std.proofs.lemmas.Option.{slice_get_read}
 use Rattle.cacao_book.specs.declared.books.Book.{Book}
-use Rattle.cacao_regions.specs.Surveys.{IsSurveyOf}
-use Rattle.cacao_steps.specs.Parts.{ReadsStep}
+use Rattle.cacao_check_regions.specs.Surveys.{IsSurveyOf}
+use Rattle.cacao_check_steps.specs.Parts.{ReadsStep}
 use Rattle.cacao_check.proofs.checked.Checked.parts.Goals as goal
 
 some_at : (books : List Book) (n : ℕ) → n < length books → (b : Book) × (slice_get books n ≡ Some b)

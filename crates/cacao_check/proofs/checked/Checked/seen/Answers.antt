@@ -1,8 +1,8 @@
 use Rattle.std.proofs.Common.{◌≡◌, ◌<◌, List, length, Some, slice_get, refl, sym, ◌∙◌, ap, subst, arith}
 use Rattle.std.proofs.lemmas.Option.{slice_get_read}
 use Rattle.cacao_book.specs.declared.books.Book.{Book}
-use Rattle.cacao_regions.specs.Surveys.{IsSurveyOf}
-use Rattle.cacao_regions.specs.Looking.{ListsSights}
+use Rattle.cacao_check_regions.specs.Surveys.{IsSurveyOf}
+use Rattle.cacao_check_regions.specs.Looking.{ListsSights}
 use Rattle.cacao_check.proofs.checked.Checked.seen.Goals as goal
 
 one : (a b : Book) → Some a ≡ Some b → a ≡ b

@@ -1,6 +1,6 @@
 use Rattle.std.proofs.Common.{◌+◌, arith, refl, sym, ◌∙◌}
 use Rattle.flow_core.specs.declared.flow.Flow.TheInside.{Inside}
-use Rattle.flow_plans.specs.RunTypes.{Run}
+use Rattle.flow_core_plans.specs.RunTypes.{Run}
 use Rattle.flow_core.proofs.HeldLemmas.{held_taken, held_moment, held_fits, applied_shown, applied_sound}
 use Rattle.flow_core.proofs.flow.Flow.apply.Goals as goal
 

@@ -1,6 +1,6 @@
 use Rattle.std.proofs.Common.{◌≡◌, subst}
-use Rattle.flow_rules.specs.Moves.{asks}
-use Rattle.flow_plans.specs.RunFacts.{shown_of}
+use Rattle.flow_core_rules.specs.Moves.{asks}
+use Rattle.flow_core_plans.specs.RunFacts.{shown_of}
 use Rattle.flow_core.specs.Views.{View}
 use Rattle.flow_core.proofs.TableReads.{asks_table}
 use Rattle.flow_core.proofs.flow.Flow.asks.Goals as goal

@@ -1,7 +1,7 @@
 use Rattle.std.proofs.Common.{◌≡◌, subst}
-use Rattle.flow_dues.specs.Pairs.{rising}
-use Rattle.flow_rules.specs.Moves.{deadlines}
-use Rattle.flow_plans.specs.RunFacts.{shown_of}
+use Rattle.base_dues.specs.Pairs.{rising}
+use Rattle.flow_core_rules.specs.Moves.{deadlines}
+use Rattle.flow_core_plans.specs.RunFacts.{shown_of}
 use Rattle.flow_core.specs.Views.{View}
 use Rattle.flow_core.proofs.TableReads.{deadline_table}
 use Rattle.flow_core.proofs.flow.Flow.deadlines.Goals as goal

@@ -1,11 +1,11 @@
 use Rattle.std.proofs.Common.{◌≡◌, ◌==◌, ℕ, not, true, false, ap, subst, ◌∙◌}
 use Rattle.std.specs.Prelude.{option_map, slice_get}
-use Rattle.flow_dues.specs.Least.{sooner}
-use Rattle.flow_rules.specs.Moves.{due}
-use Rattle.flow_rules.specs.Sane.{IsNotStuck}
-use Rattle.flow_rules.specs.Waiting.{AlwaysWaits}
-use Rattle.flow_rules.proofs.WaitingLemmas.{always_waits}
-use Rattle.flow_plans.specs.RunFacts.{shown_of}
+use Rattle.base_dues.specs.Least.{sooner}
+use Rattle.flow_core_rules.specs.Moves.{due}
+use Rattle.flow_core_rules.specs.Sane.{IsNotStuck}
+use Rattle.flow_core_rules.specs.Waiting.{AlwaysWaits}
+use Rattle.flow_core_rules.proofs.WaitingLemmas.{always_waits}
+use Rattle.flow_core_plans.specs.RunFacts.{shown_of}
 use Rattle.flow_core.specs.Views.{View, has_begun}
 use Rattle.flow_core.proofs.TableReads.{due_table}
 use Rattle.flow_core.proofs.FlowLemmas.{sane_now}

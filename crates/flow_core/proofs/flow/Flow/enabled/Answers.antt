@@ -1,7 +1,7 @@
 use Rattle.std.proofs.Common.{Some, None, ap, sym, subst, ◌∙◌}
-use Rattle.flow_dues.specs.Pairs.{at, IsFirstBy}
-use Rattle.flow_rules.specs.Moves.{enabled_move}
-use Rattle.flow_plans.specs.RunFacts.{shown_of}
+use Rattle.base_dues.specs.Pairs.{at, IsFirstBy}
+use Rattle.flow_core_rules.specs.Moves.{enabled_move}
+use Rattle.flow_core_plans.specs.RunFacts.{shown_of}
 use Rattle.flow_core.specs.Views.{View}
 use Rattle.flow_core.proofs.FlowLemmas.{sane_now}
 use Rattle.flow_core.proofs.TableReads.{enabled_table, ready_task}

@@ -1,6 +1,6 @@
 use Rattle.std.proofs.Common.{◌<◌, refl, ap, sym, subst, ◌∙◌}
-use Rattle.flow_plans.specs.RunFacts.{shown_of}
-use Rattle.flow_plans.specs.Planned.{edits_of}
+use Rattle.flow_core_plans.specs.RunFacts.{shown_of}
+use Rattle.flow_core_plans.specs.Planned.{edits_of}
 use Rattle.flow_core.specs.Views.{View, passed}
 use Rattle.flow_core.proofs.HeldLemmas.{reserved_kept, reserved_held, is_held}
 use Rattle.flow_core.proofs.flow.Flow.hold.Goals as goal

@@ -1,5 +1,5 @@
 use Rattle.std.proofs.Common.{sym}
-use Rattle.flow_plans.specs.Planned.{edits_of}
+use Rattle.flow_core_plans.specs.Planned.{edits_of}
 use Rattle.flow_core.proofs.HeldLemmas.{ready_held, on_ok}
 use Rattle.flow_core.proofs.flow.Flow.ready.Goals as goal
 

@@ -1,4 +1,4 @@
-use Rattle.flow_plans.specs.Planned.{edits_of}
+use Rattle.flow_core_plans.specs.Planned.{edits_of}
 use Rattle.flow_core.proofs.ComingLemmas.{taken_made}
 use Rattle.flow_core.proofs.HeldLemmas.{ready_held}
 use Rattle.flow_core.proofs.flow.Flow.ready_coming.Goals as goal

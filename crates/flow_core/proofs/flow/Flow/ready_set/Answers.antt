@@ -1,7 +1,7 @@
 use Rattle.std.proofs.Common.{◌≡◌, subst}
-use Rattle.flow_dues.specs.Pairs.{rising}
-use Rattle.flow_rules.specs.Moves.{ready_set}
-use Rattle.flow_plans.specs.RunFacts.{shown_of}
+use Rattle.base_dues.specs.Pairs.{rising}
+use Rattle.flow_core_rules.specs.Moves.{ready_set}
+use Rattle.flow_core_plans.specs.RunFacts.{shown_of}
 use Rattle.flow_core.specs.Views.{View}
 use Rattle.flow_core.proofs.TableReads.{ready_table}
 use Rattle.flow_core.proofs.flow.Flow.ready_set.Goals as goal

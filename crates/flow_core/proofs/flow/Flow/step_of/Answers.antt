@@ -1,7 +1,7 @@
 use Rattle.std.proofs.Common.{◌<◌, List, length, refl, ap, sym, subst, ◌∙◌}
 use Rattle.std.proofs.lemmas.Option.{slice_get_read}
-use Rattle.flow_rules.specs.declared.tasks.Task.{Task}
-use Rattle.flow_rules.specs.Lines.{key_of}
+use Rattle.flow_core_rules.specs.declared.tasks.Task.{Task}
+use Rattle.flow_core_rules.specs.Lines.{key_of}
 use Rattle.flow_core.specs.Views.{View}
 use Rattle.flow_core.proofs.flow.Flow.step_of.Goals as goal
 

@@ -1,8 +1,8 @@
 use Rattle.std.proofs.Common.{◌≡◌, Some, refl, subst, sym}
-use Rattle.flow_rules.specs.Moves.{enabled_move}
-use Rattle.engine_history.specs.HistoryCalls.{IsOfMove, MayMove}
-use Rattle.engine_history.specs.HistoryView.{flow_of}
-use Rattle.engine_history.proofs.KindLemmas.{refuses_as}
+use Rattle.flow_core_rules.specs.Moves.{enabled_move}
+use Rattle.flow_engine_history.specs.HistoryCalls.{IsOfMove, MayMove}
+use Rattle.flow_engine_history.specs.HistoryView.{flow_of}
+use Rattle.flow_engine_history.proofs.KindLemmas.{refuses_as}
 use Rattle.flow_engine.specs.EngineCalls.{IsMove, Refused}
 use Rattle.flow_engine.specs.EngineView.{EngineView}
 use Rattle.flow_engine.proofs.CallLemmas.{appends_made, done_as, is_move, puts_kept}

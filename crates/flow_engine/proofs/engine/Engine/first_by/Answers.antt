@@ -1,7 +1,7 @@
 use Rattle.std.proofs.Common.{List, None, Some, Option, IsSome, sym, subst, ap, ◌∙◌}
-use Rattle.flow_dues.specs.Pairs.{Due, at, rising, IsFirstBy}
-use Rattle.flow_rules.specs.Moves.{deadlines}
-use Rattle.flow_rules.specs.State.{Shown}
+use Rattle.base_dues.specs.Pairs.{Due, at, rising, IsFirstBy}
+use Rattle.flow_core_rules.specs.Moves.{deadlines}
+use Rattle.flow_core_rules.specs.State.{Shown}
 use Rattle.flow_engine.specs.EngineView.{EngineView}
 use Rattle.flow_engine.specs.OpenIssues.{puts_of}
 use Rattle.flow_engine.specs.declared.puts.Puts.{Puts}

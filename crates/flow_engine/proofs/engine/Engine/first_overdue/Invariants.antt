@@ -1,5 +1,5 @@
 use Rattle.std.proofs.Common.{◌≡◌, ◌<◌, ℕ, false}
-use Rattle.flow_dues.specs.Pairs.{is_by}
+use Rattle.base_dues.specs.Pairs.{is_by}
 use Rattle.flow_engine.specs.EngineCalls.{put_deadline}
 use Rattle.flow_engine.proofs.engine.Engine.first_overdue.Given as goal
 

@@ -1,13 +1,13 @@
 use Rattle.std.proofs.Common.{◌≡◌, ℕ, false, Option, Some, IsSome, sym, subst, ap, ◌∙◌}
 use Rattle.std.specs.Prelude.{nat_le, slice_get, option_map}
 use Rattle.std.specs.Option.{option_map_or}
-use Rattle.flow_dues.specs.Pairs.{is_by}
-use Rattle.flow_rules.specs.Changes.{is_waiting}
-use Rattle.flow_rules.specs.Moves.{deadline_of}
-use Rattle.flow_rules.specs.State.{Shown}
-use Rattle.flow_rules.specs.declared.issues.Issue.{Issue}
-use Rattle.flow_rules.proofs.RunLemmas.{some_inner}
-use Rattle.engine_history.proofs.HistoryLemmas.{get_within}
+use Rattle.base_dues.specs.Pairs.{is_by}
+use Rattle.flow_core_rules.specs.Changes.{is_waiting}
+use Rattle.flow_core_rules.specs.Moves.{deadline_of}
+use Rattle.flow_core_rules.specs.State.{Shown}
+use Rattle.flow_core_rules.specs.declared.issues.Issue.{Issue}
+use Rattle.flow_core_rules.proofs.RunLemmas.{some_inner}
+use Rattle.flow_engine_history.proofs.HistoryLemmas.{get_within}
 use Rattle.flow_engine.specs.EngineView.{EngineView}
 use Rattle.flow_engine.specs.OpenIssues.{OpenIssues, puts_of, ArePut, IsPut}
 use Rattle.flow_engine.specs.declared.puts.Puts.{Puts}

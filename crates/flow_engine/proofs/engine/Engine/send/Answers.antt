@@ -1,9 +1,9 @@
 use Rattle.std.proofs.Common.{◌≡◌, false, sym, subst, ap, ap₂, ◌∙◌, arith}
 use Rattle.cacao_site.specs.declared.parcel.Parcel.{Parcel}
 use Rattle.cacao_site.specs.SiteCalls.{Puts as PutsParcel}
-use Rattle.engine_history.specs.HistoryView.{HistoryView, IsReady}
-use Rattle.engine_history.specs.Histories.{IsHistory}
-use Rattle.engine_history.proofs.HistoryLemmas.{get_within}
+use Rattle.flow_engine_history.specs.HistoryView.{HistoryView, IsReady}
+use Rattle.flow_engine_history.specs.Histories.{IsHistory}
+use Rattle.flow_engine_history.proofs.HistoryLemmas.{get_within}
 use Rattle.flow_engine.specs.EngineCalls.{IsWaiting}
 use Rattle.flow_engine.specs.EngineView.{EngineView}
 use Rattle.flow_engine.specs.OpenIssues.{OpenIssues, with_put}

@@ -1,6 +1,6 @@
 use Rattle.std.proofs.Common.{◌≡◌, arith}
-use Rattle.flow_steps.specs.Turns.{most_ignored}
-use Rattle.flow_steps.specs.Worlds.{holds, rests}
+use Rattle.flow_world_steps.specs.Turns.{most_ignored}
+use Rattle.flow_world_steps.specs.Worlds.{holds, rests}
 use Rattle.flow_world_parts.specs.declared.close.Close.TheVariants as close
 use Rattle.flow_world_parts.proofs.SessionSteps.{flooded, then_closes}
 use Rattle.flow_world_parts.proofs.turns.Session.deliver.Goals as goal

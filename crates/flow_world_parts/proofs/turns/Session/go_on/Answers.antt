@@ -1,6 +1,6 @@
 use Rattle.std.proofs.Common.{◌∙◌, ◌-◌, Ok, refl, sym, ap, subst, arith}
-use Rattle.flow_steps.specs.Turns.{IsIdle}
-use Rattle.flow_steps.specs.Worlds.{looked, rests}
+use Rattle.flow_world_steps.specs.Turns.{IsIdle}
+use Rattle.flow_world_steps.specs.Worlds.{looked, rests}
 use Rattle.flow_world_parts.specs.Leads.{EngineTried, MayAnswer, WhereLooked}
 use Rattle.flow_world_parts.proofs.SessionSteps.{engine_goes, engine_refuses, may_answer}
 use Rattle.flow_world_parts.proofs.TurnSteps.{same_session, turned_same}

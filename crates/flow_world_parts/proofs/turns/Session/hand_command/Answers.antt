@@ -1,5 +1,5 @@
 use Rattle.std.proofs.Common.{◌∙◌, ◌+◌, Ok, [], refl, sym, ap, subst, arith}
-use Rattle.flow_steps.specs.Worlds.{holds, rests}
+use Rattle.flow_world_steps.specs.Worlds.{holds, rests}
 use Rattle.flow_world_parts.specs.Leads.{FilterDid}
 use Rattle.flow_world_parts.proofs.FilterSteps.{has_begun}
 use Rattle.flow_world_parts.proofs.SessionSteps.{filters_go}

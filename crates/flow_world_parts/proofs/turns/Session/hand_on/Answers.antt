@@ -1,5 +1,5 @@
 use Rattle.std.proofs.Common.{sym, subst}
-use Rattle.flow_steps.specs.Worlds.{holds, rests}
+use Rattle.flow_world_steps.specs.Worlds.{holds, rests}
 use Rattle.flow_world_parts.specs.Leads.{Goes}
 use Rattle.flow_world_parts.specs.declared.turns.Session.{Session}
 use Rattle.flow_world_parts.proofs.SessionSteps.{dropped, lacking}

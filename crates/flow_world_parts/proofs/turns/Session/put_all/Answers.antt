@@ -1,5 +1,5 @@
 use Rattle.std.proofs.Common.{◌∙◌, [], refl, sym, arith}
-use Rattle.flow_steps.specs.Worlds.{rests}
+use Rattle.flow_world_steps.specs.Worlds.{rests}
 use Rattle.flow_world_parts.specs.Leads.{AnyNotes}
 use Rattle.flow_world_parts.specs.declared.turns.Session.{Session}
 use Rattle.flow_world_parts.proofs.SessionSteps.{any_notes, engine_goes, then_ended}

@@ -1,5 +1,5 @@
 use Rattle.std.proofs.Common.{◌≢◌, ◌∙◌, ◌-◌, [], Ok, refl, sym, ap, subst, arith}
-use Rattle.flow_steps.specs.Worlds.{rests}
+use Rattle.flow_world_steps.specs.Worlds.{rests}
 use Rattle.flow_world_parts.specs.Leads.{EngineTried, Goes, MayAppend}
 use Rattle.flow_world_parts.specs.declared.turns.Session.{Session}
 use Rattle.flow_world_parts.proofs.SessionSteps.{engine_goes, may_append, then_ended}

@@ -1,7 +1,7 @@
 use Rattle.std.proofs.Common.{◌∙◌, sym, ap, subst, arith}
 use Rattle.std.specs.Prelude.{Ok}
-use Rattle.flow_rules.specs.Changes.{outcome}
-use Rattle.flow_steps.specs.Worlds.{rests}
+use Rattle.flow_core_rules.specs.Changes.{outcome}
+use Rattle.flow_world_steps.specs.Worlds.{rests}
 use Rattle.flow_world_parts.specs.Leads.{Turned}
 use Rattle.flow_world_parts.specs.declared.close.Close.TheVariants as close
 use Rattle.flow_world_parts.proofs.SessionSteps.{stays_so, then_closes, then_goes, then_refuses}

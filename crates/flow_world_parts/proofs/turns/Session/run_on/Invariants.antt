@@ -1,6 +1,6 @@
 use Rattle.std.proofs.Common.{◌-◌}
-use Rattle.flow_steps.specs.Spent.{most_spent}
-use Rattle.flow_steps.specs.Worlds.{rests}
+use Rattle.flow_world_steps.specs.Spent.{most_spent}
+use Rattle.flow_world_steps.specs.Worlds.{rests}
 use Rattle.flow_world_parts.specs.Leads.{Goes, IsBetweenTurns}
 use Rattle.flow_world_parts.specs.Used.{used}
 use Rattle.flow_world_parts.proofs.turns.Session.run_on.Given as goal

@@ -1,5 +1,5 @@
 use Rattle.std.proofs.Common.{◌∙◌, refl, sym, arith}
-use Rattle.flow_steps.specs.Worlds.{looked, rests}
+use Rattle.flow_world_steps.specs.Worlds.{looked, rests}
 use Rattle.flow_world_parts.specs.Leads.{MayAnswer}
 use Rattle.flow_world_parts.proofs.SessionSteps.{engine_goes, engine_refuses, may_answer}
 use Rattle.flow_world_parts.proofs.turns.Session.send_again.Goals as goal

@@ -1,7 +1,7 @@
 use Rattle.std.proofs.Common.{arith}
 use Rattle.cacao_site.specs.SiteCalls.{TakesNone, TakesSome}
 use Rattle.cacao_site.specs.declared.parcel.Parcel.{Parcel}
-use Rattle.flow_steps.specs.Worlds.{holds, looked, rests}
+use Rattle.flow_world_steps.specs.Worlds.{holds, looked, rests}
 use Rattle.flow_world_parts.proofs.SessionSteps.{then_turned, took, took_none, took_nothing}
 use Rattle.flow_world_parts.proofs.Standing.{working_stays}
 use Rattle.flow_world_parts.proofs.TurnSteps.{more_used, went_on}

@@ -1,6 +1,6 @@
 use Rattle.std.proofs.Common.{◌∙◌, sym, ap, subst}
-use Rattle.flow_rules.specs.Moves.{asks, due}
-use Rattle.flow_steps.specs.Worlds.{looked}
+use Rattle.flow_core_rules.specs.Moves.{asks, due}
+use Rattle.flow_world_steps.specs.Worlds.{looked}
 use Rattle.flow_world_parts.specs.Clock.{FallsShort, IsReached}
 use Rattle.flow_world_parts.specs.Leads.{Refuses}
 use Rattle.flow_world_parts.specs.declared.error.WorldError.{WorldError}

@@ -1,0 +1,19 @@
+use Rattle.std.proofs.Common.{refl, sym, ◌∙◌, arith}
+use Rattle.std.proofs.lemmas.Bool.{false≢true}
+use Rattle.cacao_json.specs.Tree.{pair_data}
+use Rattle.cacao_ids.specs.Ids.{IsId}
+use Rattle.cacao_book_shape.specs.Members.{IsObject}
+use Rattle.cacao_book_shape.proofs.ListLemmas.{fits_more, fits_all, fits_at}
+use Rattle.cacao_book_shape.proofs.book_rules.are_steps.Goals as goal
+
+pub returns-then-not-branch : goal.returns-then-not-branch
+returns-then-not-branch c = (
+  λ e. absurd (false≢true e),
+  λ all. absurd (false≢true (sym c.if-not-branch.true ∙ c.in_ok-is_step.ensures.1 (fits_at pair_data (λ m. IsId m.0 × IsObject m.1) c.args.members.now c.loop-pair.pair-index c.pair-item.result c.loop-pair-test.true c.pair-item.is all))),
+)
+
+pub loop-pair-preserved : goal.loop-pair-preserved
+loop-pair-preserved c = fits_more pair_data (λ m. IsId m.0 × IsObject m.1) c.args.members.now c.loop-pair.pair-index c.pair-item.result c.loop-pair-test.true c.pair-item.is c.loop-pair.invariant (c.in_ok-is_step.ensures.0 c.if-not-branch.false)
+
+pub returns : goal.returns
+returns c = (λ _. fits_all pair_data (λ m. IsId m.0 × IsObject m.1) c.args.members.now c.loop-pair.pair-index (omega arith) c.loop-pair.invariant, λ _. refl)

@@ -1,0 +1,19 @@
+use Rattle.std.proofs.Common.{refl, sym, ◌∙◌, arith}
+use Rattle.std.proofs.lemmas.Bool.{false≢true}
+use Rattle.cacao_json.specs.Tree.{pair_data}
+use Rattle.cacao_vars.specs.Names.{IsName}
+use Rattle.cacao_book_shape.specs.Shape.{IsDeclaration}
+use Rattle.cacao_book_shape.proofs.ListLemmas.{fits_more, fits_all, fits_at}
+use Rattle.cacao_book_shape.proofs.dictionaries.each_declares.Goals as goal
+
+pub returns-then-not-declares : goal.returns-then-not-declares
+returns-then-not-declares c = (
+  λ e. absurd (false≢true e),
+  λ all. absurd (false≢true (sym c.if-not-declares.true ∙ c.declares.ensures.1 (fits_at pair_data (λ m. IsName m.0 × IsDeclaration m.1) c.args.members.now c.loop-pair.pair-index c.pair-item.result c.loop-pair-test.true c.pair-item.is all))),
+)
+
+pub loop-pair-preserved : goal.loop-pair-preserved
+loop-pair-preserved c = fits_more pair_data (λ m. IsName m.0 × IsDeclaration m.1) c.args.members.now c.loop-pair.pair-index c.pair-item.result c.loop-pair-test.true c.pair-item.is c.loop-pair.invariant (c.declares.ensures.0 c.if-not-declares.false)
+
+pub returns : goal.returns
+returns c = (λ _. fits_all pair_data (λ m. IsName m.0 × IsDeclaration m.1) c.args.members.now c.loop-pair.pair-index (omega arith) c.loop-pair.invariant, λ _. refl)

@@ -1,0 +1,66 @@
+// The links of a book by the places of its steps, both ways.
+ghost use Rattle.std.specs.Prelude.{IfOk};
+ghost use Rattle.cacao_check_regions.specs.Charts.{IsChartOf};
+
+use crate::declarers::{Declarers, declarers_of};
+use base_graphs::{Bits, Nests, Places, nests_of, reached_past_guards, reversed};
+use cacao_book::Book;
+use cacao_check_steps::{head_table, next_table, start_row};
+use std::alloc::{AllocError, Global};
+
+/// The links of a book. A row of a table has the places to which the step at its place goes on (`next`), at which its branches begin
+/// (`heads`), and the same backwards. `starts` has the places at which a run begins, `reach` those that a run reaches, `declarers`
+/// those of the steps that declare a name, and `nests` tells of steps through the branches of which each way to a place leads.
+#[derive(Drop)]
+pub struct Chart {
+    pub next: Vec<Places>,
+    pub heads: Vec<Places>,
+    pub back_next: Vec<Places>,
+    pub back_heads: Vec<Places>,
+    pub starts: Places,
+    pub reach: Bits,
+    pub declarers: Declarers,
+    pub nests: Nests,
+}
+
+/// The chart of a book.
+pub(crate) fn chart_of(alloc: Global, book: &Book) -> Result<Chart, AllocError>
+    ensures { IfOk result (IsChartOf book.now) }
+{
+    let steps = book.steps.as_slice();
+    let next = next_table(alloc, steps)?;
+    let heads = head_table(alloc, steps)?;
+    let back_next = reversed(alloc, &next)?;
+    let back_heads = reversed(alloc, &heads)?;
+    let starts = start_row(alloc, book)?;
+    let none = Bits::new(alloc);
+    let reach = reached_past_guards(
+        alloc,
+        steps.len(),
+        &next,
+        &heads,
+        &none,
+        &none,
+        starts.as_slice(),
+    )?;
+    let declarers = declarers_of(alloc, book)?;
+    let nests = nests_of(
+        alloc,
+        steps.len(),
+        &next,
+        &heads,
+        &back_next,
+        &back_heads,
+        starts.as_slice(),
+    )?;
+    Ok(Chart {
+        next,
+        heads,
+        back_next,
+        back_heads,
+        starts,
+        reach,
+        declarers,
+        nests,
+    })
+}

@@ -1,5 +1,0 @@
-use Rattle.cacao_regions.proofs.DeclarerLemmas.{DeclarersBelow}
-use Rattle.cacao_regions.proofs.declarers.declarers_of.Given as goal
-
-abbrev pub invariant-loop-place : goal.invariant-loop-place
-invariant-loop-place l = DeclarersBelow l.book l.place l.declarers

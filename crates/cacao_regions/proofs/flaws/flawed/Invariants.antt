@@ -1,6 +1,0 @@
-use Rattle.std.proofs.Common.{◌↔◌, ℕ, take, Contains}
-use Rattle.cacao_regions.specs.Flaws.{HasOwnFlaw}
-use Rattle.cacao_regions.proofs.flaws.flawed.Given as goal
-
-abbrev pub invariant-loop-place : goal.invariant-loop-place
-invariant-loop-place l = (p : ℕ) → Contains l.these p ↔ (Contains (take l.place-index l.places) p × HasOwnFlaw l.book l.name l.flaw p)

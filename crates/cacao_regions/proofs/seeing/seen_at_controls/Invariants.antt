@@ -1,6 +1,0 @@
-use Rattle.cacao_regions.specs.Seeing.{IsOnce}
-use Rattle.cacao_regions.proofs.SightLists.{SeesBelow}
-use Rattle.cacao_regions.proofs.seeing.seen_at_controls.Given as goal
-
-abbrev pub invariant-loop-control : goal.invariant-loop-control
-invariant-loop-control l = SeesBelow l.book l.name l.marks l.control l.items.items × IsOnce l.items.items

@@ -1,0 +1,321 @@
+// The files of a disk in the current folder, and those of them that are open.
+ghost use Rattle.std.specs.Prelude.{◌≡◌, ◌≤◌, length, drop, None, IfOk, OnOk, IfSome, IsSome, IsSomeAnd};
+ghost use Rattle.cacao_site_files.specs.Holding.{IsHeld, KeepsHeld};
+
+use crate::locks::Locks;
+use std::fs::{File, OpenFile, OpenOptions};
+use std::io::{Read, Seek, SeekFrom, Write};
+use std::rt::Files;
+use std::{array, fs, io};
+
+/// How many files a disk has.
+pub(crate) const FILES: usize = 32;
+
+/// The most bytes of a journal.
+const MOST_BYTES: u64 = 67_108_864;
+
+/// The names of the files in the current folder, by number.
+static NAMES: [&str; FILES] = [
+    "engine.journal",
+    "agent-01.journal",
+    "agent-02.journal",
+    "agent-03.journal",
+    "agent-04.journal",
+    "agent-05.journal",
+    "agent-06.journal",
+    "agent-07.journal",
+    "agent-08.journal",
+    "agent-09.journal",
+    "agent-10.journal",
+    "agent-11.journal",
+    "agent-12.journal",
+    "agent-13.journal",
+    "agent-14.journal",
+    "agent-15.journal",
+    "agent-16.journal",
+    "engine-01.journal",
+    "engine-02.journal",
+    "engine-03.journal",
+    "engine-04.journal",
+    "engine-05.journal",
+    "engine-06.journal",
+    "engine-07.journal",
+    "engine-08.journal",
+    "engine-09.journal",
+    "engine-10.journal",
+    "engine-11.journal",
+    "engine-12.journal",
+    "engine-13.journal",
+    "engine-14.journal",
+    "engine-15.journal",
+];
+
+/// A file that is open.
+#[derive(Drop)]
+struct OneFile {
+    file: File,
+    // Whether it is open for writing too.
+    writable: bool,
+}
+
+/// Files 0 to 31 in the current folder.
+///
+/// A file is opened by its first read or write, and stays open until a sync that is Ok, so that no error of an
+/// earlier write is lost to it. After a sync that failed each later sync of the file fails. No call takes memory.
+///
+/// Files that are to be written are written by no other program that keeps to the locks: the first call on a file takes
+/// its lock, and fails where it can't. Files that are to be read alone may be lengthened meanwhile. They are whole
+/// where they are read from the front to the first read that comes short.
+#[derive(Drop)]
+pub struct OpenFiles<'a, R> {
+    rt: &'a R,
+    // None where no file is to be written.
+    locks: Option<Locks>,
+    slots: [Option<OneFile>; FILES],
+    // Whether the folder is known to have the file, by its number.
+    in_folder: [bool; FILES],
+    // Whether a sync of the file failed. What was written before may be lost, and no later sync would tell.
+    spoilt: [bool; FILES],
+}
+
+impl<'a, R: Files<File = File>> OpenFiles<'a, R> {
+    /// Files that are to be read alone. None is open.
+    pub fn to_read(rt: &'a R) -> OpenFiles<'a, R>
+        ensures { result.locks ≡ None }
+    {
+        OpenFiles {
+            rt,
+            locks: None,
+            slots: array::from_fn(|_| None),
+            in_folder: [false; FILES],
+            spoilt: [false; FILES],
+        }
+    }
+
+    /// Files that are to be read and written. None is open, and no lock is held.
+    pub fn to_write(rt: &'a R) -> OpenFiles<'a, R>
+        ensures { IsSome result.locks }
+    {
+        OpenFiles {
+            locks: Some(Locks::new()),
+            ..OpenFiles::to_read(rt)
+        }
+    }
+
+    /// Removes the files of the locks that are held, as the last that a program does which writes.
+    pub fn remove_locks(&self) {
+        if let Some(locks) = &self.locks {
+            locks.remove_files(self.rt);
+        }
+    }
+
+    /// Where files are to be written, holds the lock of this one.
+    fn hold(&mut self, file: u8) -> io::Result<()>
+        requires { file ≤ 31 }
+        ensures holds { OnOk result (IfSome self.new.locks (λ locks. IsHeld locks.held file)) }
+        ensures keeps { IfSome self.old.locks (λ old. IsSomeAnd self.new.locks (λ new. KeepsHeld old.held new.held)) }
+        ensures reads { self.old.locks ≡ None → self.new.locks ≡ None }
+    {
+        match &mut self.locks {
+            Some(locks) => locks.hold(self.rt, file),
+            None => Ok(()),
+        }
+    }
+
+    /// The file's length in bytes; 0 for a file that is not there.
+    ///
+    /// Of a file that is to be read alone, and may grow meanwhile, it is the most that a journal can have, or more where
+    /// the file has more.
+    pub fn length(&mut self, file: u8) -> io::Result<u64>
+        requires { file ≤ 31 }
+        ensures holds { OnOk result (IfSome self.new.locks (λ locks. IsHeld locks.held file)) }
+        ensures keeps { IfSome self.old.locks (λ old. IsSomeAnd self.new.locks (λ new. KeepsHeld old.held new.held)) }
+        ensures reads { self.old.locks ≡ None → self.new.locks ≡ None }
+    {
+        self.hold(file)?;
+        let length = match self.length_now(file)? {
+            Some(length) => length,
+            None => return Ok(0),
+        };
+        if self.locks.is_some() {
+            Ok(length)
+        } else {
+            Ok(length.max(MOST_BYTES))
+        }
+    }
+
+    /// The length that the system tells, if the file is there.
+    fn length_now(&mut self, file: u8) -> io::Result<Option<u64>>
+        requires { file ≤ 31 }
+        ensures locks { self.new.locks ≡ self.old.locks }
+    {
+        if let Some(one) = &self.slots[file as usize] {
+            return Ok(Some(one.file.metadata()?.len()));
+        }
+        match self.rt.metadata(NAMES[file as usize]) {
+            Ok(metadata) => Ok(Some(metadata.len())),
+            Err(e) if e.kind() == io::ErrorKind::NotFound => Ok(None),
+            Err(e) => Err(e),
+        }
+    }
+
+    /// Fills the front of the buffer with what the file has from place `at` on, and answers how many bytes that is.
+    ///
+    /// It needs no right to write. Where a file that is to be read alone ends, it is synced: what was read, perhaps of another
+    /// program's last write, is durable before anything is told of it.
+    pub fn read(&mut self, file: u8, at: u64, into: &mut [u8]) -> io::Result<usize>
+        requires file { file ≤ 31 }
+        requires size { length into.old ≤ 4_096 }
+        ensures count { IfOk result (λ n. n ≤ length into.old) }
+        ensures behind { IfOk result (λ n. drop n into.new ≡ drop n into.old) }
+        ensures holds { OnOk result (IfSome self.new.locks (λ locks. IsHeld locks.held file)) }
+        ensures keeps { IfSome self.old.locks (λ old. IsSomeAnd self.new.locks (λ new. KeepsHeld old.held new.held)) }
+        ensures reads { self.old.locks ≡ None → self.new.locks ≡ None }
+    {
+        self.hold(file)?;
+        self.open_to_read(file)?;
+        let is_written = self.locks.is_some();
+        let Some(one) = &mut self.slots[file as usize] else {
+            return Ok(0);
+        };
+        one.file.seek(SeekFrom::Start(at))?;
+        let count = fill(&mut one.file, into)?;
+        if !is_written && count < into.len() {
+            one.file.sync_all()?;
+        }
+        Ok(count)
+    }
+
+    /// Writes the bytes at place `at`, and makes the file if it is not there. Fails where files are to be read alone.
+    ///
+    /// Where there is no byte, it makes the file at least that long. A file that was opened to read alone is opened
+    /// anew.
+    pub fn write(&mut self, file: u8, at: u64, bytes: &[u8]) -> io::Result<()>
+        requires { file ≤ 31 }
+        ensures holds { OnOk result (IfSome self.new.locks (λ locks. IsHeld locks.held file)) }
+        ensures keeps { IfSome self.old.locks (λ old. IsSomeAnd self.new.locks (λ new. KeepsHeld old.held new.held)) }
+        ensures reads { self.old.locks ≡ None → self.new.locks ≡ None }
+    {
+        if self.locks.is_none() {
+            return Err(io::Error::from(io::ErrorKind::Unsupported));
+        }
+        self.hold(file)?;
+        if let Some(one) = &mut self.slots[file as usize] {
+            if one.writable {
+                return write_at(&mut one.file, at, bytes);
+            }
+        }
+        let mut opened = OpenOptions::new()
+            .read(true)
+            .write(true)
+            .create(true)
+            .open(self.rt, NAMES[file as usize])?;
+        let done = write_at(&mut opened, at, bytes);
+        self.slots[file as usize] = Some(OneFile {
+            file: opened,
+            writable: true,
+        });
+        done
+    }
+
+    /// Makes the file durable, if it is there, and closes it. It needs no right to write.
+    ///
+    /// Of a file that is to be read alone nothing is to be made durable here: the read that comes to its end does that.
+    pub fn sync(&mut self, file: u8) -> io::Result<()>
+        requires { file ≤ 31 }
+        ensures holds { OnOk result (IfSome self.new.locks (λ locks. IsHeld locks.held file)) }
+        ensures keeps { IfSome self.old.locks (λ old. IsSomeAnd self.new.locks (λ new. KeepsHeld old.held new.held)) }
+        ensures reads { self.old.locks ≡ None → self.new.locks ≡ None }
+    {
+        if self.locks.is_none() {
+            return Ok(());
+        }
+        self.hold(file)?;
+        if self.spoilt[file as usize] {
+            return Err(io::Error::from(io::ErrorKind::Other));
+        }
+        self.open_to_read(file)?;
+        let Some(one) = &self.slots[file as usize] else {
+            return Ok(());
+        };
+        if let Err(error) = one.file.sync_all() {
+            self.spoilt[file as usize] = true;
+            return Err(error);
+        }
+        if let Err(error) = self.sync_folder(file) {
+            self.spoilt[file as usize] = true;
+            return Err(error);
+        }
+        self.slots[file as usize] = None;
+        Ok(())
+    }
+
+    /// Syncs the folder of the file, the first time.
+    fn sync_folder(&mut self, file: u8) -> io::Result<()>
+        requires { file ≤ 31 }
+        ensures locks { self.new.locks ≡ self.old.locks }
+    {
+        if !self.in_folder[file as usize] {
+            fs::open(self.rt, ".")?.sync_all()?;
+            self.in_folder[file as usize] = true;
+        }
+        Ok(())
+    }
+
+    /// Opens the file, if it is there and not open.
+    fn open_to_read(&mut self, file: u8) -> io::Result<()>
+        requires { file ≤ 31 }
+        ensures locks { self.new.locks ≡ self.old.locks }
+    {
+        if self.slots[file as usize].is_some() {
+            return Ok(());
+        }
+        match fs::open(self.rt, NAMES[file as usize]) {
+            Ok(opened) => {
+                self.slots[file as usize] = Some(OneFile {
+                    file: opened,
+                    writable: false,
+                });
+                Ok(())
+            }
+            Err(e) if e.kind() == io::ErrorKind::NotFound => Ok(()),
+            Err(e) => Err(e),
+        }
+    }
+}
+
+/// Writes the bytes at place `at`. Where there is no byte, it makes the file at least that long.
+fn write_at<F: Write + Seek + OpenFile>(file: &mut F, at: u64, bytes: &[u8]) -> io::Result<()> {
+    if bytes.is_empty() && file.metadata()?.len() < at {
+        return file.set_len(at);
+    }
+    file.seek(SeekFrom::Start(at))?;
+    file.write_all(bytes)
+}
+
+/// Fills the front of the buffer with what the reader has, and answers how many bytes that is.
+fn fill<F: Read>(reader: &mut F, into: &mut [u8]) -> io::Result<usize>
+    requires { length into.old ≤ 4_096 }
+    ensures count { IfOk result (λ n. n ≤ length into.old) }
+    ensures behind { IfOk result (λ n. drop n into.new ≡ drop n into.old) }
+{
+    let mut block = [0u8; 4096];
+    let count = fill_whole(reader, &mut block[..into.len()])?;
+    into[..count].copy_from_slice(&block[..count]);
+    Ok(count)
+}
+
+/// The same, where what lies behind may change.
+fn fill_whole<F: Read>(reader: &mut F, into: &mut [u8]) -> io::Result<usize>
+    ensures { IfOk result (λ n. n ≤ length into.old) }
+{
+    let mut count = 0usize;
+    for _ in 0..into.len() {
+        let more = reader.read(&mut into[count..])?;
+        if more == 0 {
+            break;
+        }
+        count += more;
+    }
+    Ok(count)
+}

@@ -1,0 +1,18 @@
+-- The greatest length after the first entries, and after one more.
+use Rattle.std.proofs.Common.{ap, sym, ◌∙◌}
+use Rattle.cacao_site_log.specs.Replay.{FileState, at_rest}
+use Rattle.cacao_site_log.proofs.ReplayLemmas.{file_at-zero, file_at-more, file_at-all}
+use Rattle.cacao_site_log.proofs.tear.longest_after.Goals as goal
+
+pub loop-entry-init : goal.loop-entry-init
+loop-entry-init c = ap (λ (s : FileState). s.longest) (sym (file_at-zero c.args.file (at_rest c.args.synced.now) c.args.bytes.now c.args.entries.now))
+
+pub loop-entry-preserved : goal.loop-entry-preserved
+loop-entry-preserved c =
+    sym (c.longer-longest.ensures _ (sym c.loop-entry.invariant))
+    ∙ ap (λ (s : FileState). s.longest) (sym (file_at-more c.args.file (at_rest c.args.synced.now) c.args.bytes.now c.args.entries.now c.loop-entry.entry-index _ c.loop-entry-test.true))
+
+pub returns : goal.returns
+returns c =
+    c.loop-entry.invariant
+    ∙ ap (λ (s : FileState). s.longest) (file_at-all c.args.file (at_rest c.args.synced.now) c.args.bytes.now c.args.entries.now c.loop-entry.entry-index c.loop-entry-test.false)

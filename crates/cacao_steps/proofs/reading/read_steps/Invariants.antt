@@ -1,7 +1,0 @@
-use Rattle.std.proofs.Common.{◌≡◌, length}
-use Rattle.cacao_steps.specs.Parts.{ReadsStep}
-use Rattle.cacao_steps.specs.Pairing.{EachPair}
-use Rattle.cacao_steps.proofs.reading.read_steps.Given as goal
-
-abbrev pub invariant-loop-step : goal.invariant-loop-step
-invariant-loop-step l = (length l.all.items ≡ l.step-index) × EachPair (ReadsStep l.books l.book) l.book.steps l.all.items

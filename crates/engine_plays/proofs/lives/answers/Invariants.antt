@@ -1,5 +1,0 @@
-use Rattle.engine_history.specs.HistoryView.{IsReady}
-use Rattle.engine_plays.proofs.lives.answers.Given as goal
-
-abbrev pub invariant-loop-call : goal.invariant-loop-call
-invariant-loop-call g l = IsReady l.engine.history (g.S.Disk.view l.site)

@@ -1,5 +1,0 @@
-use Rattle.engine_history.specs.HistoryView.{IsReady}
-use Rattle.engine_plays.proofs.lives.begin_and_move.Given as goal
-
-abbrev pub invariant-loop : goal.invariant-loop
-invariant-loop g l = IsReady l.engine.history (g.S.Disk.view l.site)

@@ -1,6 +1,0 @@
-use Rattle.std.proofs.Common.{◌≡◌, map, take, string_bytes}
-use Rattle.filter_reports.specs.Lines.{decision_lines}
-use Rattle.filter_reports.proofs.decisions.decision_lines.Given as goal
-
-abbrev pub invariant-loop-moment : goal.invariant-loop-moment
-invariant-loop-moment l = map string_bytes l.lines.items ≡ decision_lines (take l.moment-index l.packets) l.table

@@ -1,6 +1,0 @@
-use Rattle.std.proofs.Common.{◌≡◌, map, take, string_bytes}
-use Rattle.filter_reports.specs.Lines.{shadow_line}
-use Rattle.filter_reports.proofs.shadows.lines_of.Given as goal
-
-abbrev pub invariant-loop-shadow : goal.invariant-loop-shadow
-invariant-loop-shadow l = map string_bytes l.lines.items ≡ map shadow_line (take l.shadow-index l.shadows)

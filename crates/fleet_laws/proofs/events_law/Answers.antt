@@ -1,6 +1,0 @@
-use Rattle.fleet_laws.proofs.Events.{events_keep_both_forms, events_keep_each, events_keep_fleets}
-use Rattle.fleet_laws.proofs.Bystanders.{events_keep_bystanders}
-use Rattle.fleet_laws.proofs.events_law.Goals as goal
-
-pub returns : goal.returns
-returns c = record { each = events_keep_each; fleets = events_keep_fleets; both_forms = events_keep_both_forms; bystanders = events_keep_bystanders }

@@ -1,0 +1,15 @@
+pub mod Adding
+pub mod Begins
+pub mod Entered
+pub mod Issuings
+pub mod Joined
+pub mod RunTypes
+pub use Rattle.flow_core_values.specs.Fits
+pub use Rattle.flow_core_values.specs.Planned
+pub use Rattle.flow_core_values.specs.RunFacts
+pub use Rattle.flow_core_values.specs.SetupLaws
+pub use Rattle.flow_core_values.specs.SetupReading
+pub use Rattle.flow_core_values.specs.Setups
+pub use Rattle.flow_core_values.specs.Sizes
+pub use Rattle.flow_core_values.specs.TableFacts
+pub use Rattle.flow_core_values.specs.TableTypes

@@ -1,0 +1,19 @@
+use Rattle.std.specs.Prelude.{List, ℕ, IfSome}
+use Rattle.cacao_vars.specs.Declarations.{declared}
+use Rattle.cacao_check.specs.Fits.{FitsKind}
+use Rattle.std.proofs.Common.{refl, sym, ◌∙◌, arith}
+use Rattle.std.proofs.lemmas.Bool.{false≢true}
+use Rattle.flow_core_setup.proofs.SetupLists.{one_more, one_all, one_at}
+use Rattle.flow_core_setup.proofs.bindings.fit_variables.Goals as goal
+
+pub returns-then-not-fits_variable : goal.returns-then-not-fits_variable
+returns-then-not-fits_variable c = (
+  λ e. absurd (false≢true e),
+  λ all. absurd (false≢true (sym c.if-not-fits_variable.true ∙ c.fits_variable.ensures.1 (one_at (λ (entry : List ℕ × List ℕ). IfSome (declared c.args.vars.now entry.0) (λ var. FitsKind var.kind entry.1)) c.args.variables.now c.loop-bound.bound-index c.bound-item.result c.loop-bound-test.true c.bound-item.is all))),
+)
+
+pub loop-bound-preserved : goal.loop-bound-preserved
+loop-bound-preserved c = one_more (λ (entry : List ℕ × List ℕ). IfSome (declared c.args.vars.now entry.0) (λ var. FitsKind var.kind entry.1)) c.args.variables.now c.loop-bound.bound-index c.bound-item.result c.loop-bound-test.true c.bound-item.is c.loop-bound.invariant (c.fits_variable.ensures.0 c.if-not-fits_variable.false)
+
+pub returns : goal.returns
+returns c = (λ _. one_all (λ (entry : List ℕ × List ℕ). IfSome (declared c.args.vars.now entry.0) (λ var. FitsKind var.kind entry.1)) c.args.variables.now c.loop-bound.bound-index (omega arith) c.loop-bound.invariant, λ _. refl)

@@ -1,0 +1,15 @@
+pub mod Completed
+pub mod Heads
+pub mod PlaceViews
+pub mod RunFacts
+pub mod Sights
+pub mod Sizes
+pub mod Stands
+pub mod TableTypes
+pub mod Truths
+pub use Rattle.flow_core_tables.specs.Fits
+pub use Rattle.flow_core_tables.specs.Planned
+pub use Rattle.flow_core_tables.specs.SetupLaws
+pub use Rattle.flow_core_tables.specs.SetupReading
+pub use Rattle.flow_core_tables.specs.Setups
+pub use Rattle.flow_core_tables.specs.TableFacts

@@ -1,0 +1,250 @@
+// Names as they are seen from a scope: where they are declared, and what they are worth.
+ghost use Rattle.std.specs.Prelude.{◌≡◌, ◌<◌, IfSome, Some, is_some, length, slice_get, option_and_then};
+ghost use Rattle.std.specs.Option.{option_copied};
+ghost use Rattle.cacao_vars.specs.Declarations.{IsInNameOrder, declared};
+ghost use Rattle.cacao_vars.specs.Scopes.{HasParentsBefore, parent_of, declaration, home, home_declaration};
+ghost use Rattle.cacao_cond.specs.Worths.{worth_of};
+ghost use Rattle.flow_core_rules.specs.State.{value_shown, text_in};
+ghost use Rattle.flow_core_rules.specs.Values.{worth_at};
+ghost use Rattle.flow_core_rules.specs.Edits.{declared_texts};
+ghost use Rattle.flow_core_values.specs.RunFacts.{IsWell, lists_in};
+ghost use Rattle.flow_core_values.specs.Sights.{lists_seen, scope_seen};
+ghost use Rattle.flow_core_tables.specs.TableFacts.{lists_of};
+
+use crate::run::{Run, Sight};
+use cacao_cond::{Atom, value_of};
+use cacao_vars::{Name, Scope, Var, Vars, Word};
+
+// The declaration of a name.
+fn declared_in<'a>(vars: &'a [Var], name: &[u8]) -> Option<&'a Var>
+    requires { IsInNameOrder vars.now }
+    ensures { option_copied result ≡ declared vars.now name.now }
+{
+    match vars.binary_search_by(|var| var.name.text().as_bytes().cmp(name)) {
+        Ok(place) => Some(&vars[place]),
+        Err(_) => None,
+    }
+}
+
+// What declarations have of a name.
+fn find_in<'a>(vars: &'a Vars, name: &[u8]) -> Option<&'a Var>
+    ensures { option_copied result ≡ declared vars.now name.now }
+{
+    declared_in(vars.as_slice(), name)
+}
+
+// Whether a name is declared.
+fn is_declared(vars: &Vars, name: &[u8]) -> bool
+    ensures { result ≡ is_some (declared vars.now name.now) }
+{
+    find_in(vars, name).is_some()
+}
+
+// What a scope itself declares of a name.
+fn declaration_in<'a>(scopes: &'a [Scope], scope: u32, name: &[u8]) -> Option<&'a Var>
+    requires { scope < length scopes.now }
+    ensures { option_copied result ≡ declaration scopes.now scope name.now }
+{
+    find_in(&scopes[scope as usize].vars, name)
+}
+
+// Whether a scope itself declares a name.
+fn declares(scopes: &[Scope], scope: u32, name: &[u8]) -> bool
+    requires { scope < length scopes.now }
+    ensures { result ≡ is_some (declaration scopes.now scope name.now) }
+{
+    declaration_in(scopes, scope, name).is_some()
+}
+
+// The scope around a scope.
+fn parent_in(scopes: &[Scope], scope: u32) -> Option<u32>
+    requires { scope < length scopes.now }
+    ensures { result ≡ parent_of scopes.now scope }
+{
+    scopes[scope as usize].parent
+}
+
+// The first scope that declares a name, from this one along the parents.
+fn home_of(scopes: &[Scope], scope: u32, name: &[u8]) -> Option<u32>
+    requires scope { scope < length scopes.now }
+    requires parents { HasParentsBefore scopes.now }
+    ensures home { result ≡ home scopes.now scope name.now }
+    ensures exists { IfSome result (λ at. at < length scopes.now) }
+{
+    let mut at = scope;
+    loop {
+        if declares(scopes, at, name) {
+            return Some(at);
+        }
+        match parent_in(scopes, at) {
+            Some(parent) => at = parent,
+            None => return None,
+        }
+    }
+}
+
+// The text that a name is declared with.
+fn declared_text<'a>(vars: &'a Vars, name: &[u8]) -> Option<&'a Word>
+    ensures { option_copied result ≡ text_in (declared_texts vars.now) name.now }
+{
+    match find_in(vars, name) {
+        Some(var) => var.worth.as_ref(),
+        None => None,
+    }
+}
+
+impl Run {
+    // The home of a name once a scope with these declarations is open inside this one.
+    fn home_opened(&self, vars: &Vars, scope: u32, name: &[u8]) -> Option<u32>
+        requires well { IsWell self.now }
+        requires scope { scope < length self.now.tables.scopes.items }
+        ensures { result ≡ home (lists_in (lists_of self.now.tables) (Some vars.now) scope).scopes (length self.now.tables.scopes.items) name.now }
+    {
+        if is_declared(vars, name) {
+            return Some(self.tables.scopes.len() as u32);
+        }
+        home_of(self.tables.scopes.as_slice(), scope, name)
+    }
+
+    // The home of a name with these bytes.
+    fn home_of_bytes(&self, sight: Sight<'_>, name: &[u8]) -> Option<u32>
+        requires well { IsWell self.now }
+        requires scope { sight.scope < length self.now.tables.scopes.items }
+        ensures { result ≡ home (lists_seen self.now sight.entry).scopes (scope_seen self.now sight.entry) name.now }
+    {
+        match sight.opening {
+            Some(vars) => self.home_opened(vars, sight.scope, name),
+            None => home_of(self.tables.scopes.as_slice(), sight.scope, name),
+        }
+    }
+
+    /// The home of a name as it is seen: the first scope that declares it, along the parents. It takes no memory.
+    pub fn home(&self, sight: Sight<'_>, name: &Name) -> Option<u32>
+        requires well { IsWell self.now }
+        requires scope { sight.scope < length self.now.tables.scopes.items }
+        ensures { result ≡ home (lists_seen self.now sight.entry).scopes (scope_seen self.now sight.entry) name.now }
+    {
+        self.home_of_bytes(sight, name.text().as_bytes())
+    }
+
+    // What the scope with this number declares of a name.
+    fn declaration_in_scope(&self, at: u32, name: &[u8]) -> Option<&Var>
+        ensures { option_copied result ≡ declaration self.now.tables.scopes.items at name.now }
+    {
+        match self.tables.scopes.get(at as usize) {
+            Some(scope) => find_in(&scope.vars, name),
+            None => None,
+        }
+    }
+
+    // The same once a scope with these declarations is open inside another one.
+    fn declaration_opened<'a>(
+        &'a self,
+        vars: &'a Vars,
+        scope: u32,
+        at: u32,
+        name: &[u8],
+    ) -> Option<&'a Var>
+        ensures { option_copied result ≡ declaration (lists_in (lists_of self.now.tables) (Some vars.now) scope).scopes at name.now }
+    {
+        if at as usize == self.tables.scopes.len() {
+            return find_in(vars, name);
+        }
+        self.declaration_in_scope(at, name)
+    }
+
+    // What the scope with this number declares of a name, as it is seen.
+    fn declaration_at<'a>(&'a self, sight: Sight<'a>, at: u32, name: &[u8]) -> Option<&'a Var>
+        ensures { option_copied result ≡ declaration (lists_seen self.now sight.entry).scopes at name.now }
+    {
+        match sight.opening {
+            Some(vars) => self.declaration_opened(vars, sight.scope, at, name),
+            None => self.declaration_in_scope(at, name),
+        }
+    }
+
+    // The present text of a name in the scope with this number.
+    fn text_in_scope(&self, at: u32, name: &Name) -> Option<&Word>
+        ensures { option_copied result ≡ option_and_then (λ texts. text_in texts name.now) (slice_get self.now.tables.texts.items at) }
+    {
+        match self.tables.texts.get(at as usize) {
+            Some(texts) => texts.look(name),
+            None => None,
+        }
+    }
+
+    // The same once a scope with these declarations is open inside another one.
+    fn text_opened<'a>(
+        &'a self,
+        vars: &'a Vars,
+        scope: u32,
+        at: u32,
+        name: &Name,
+    ) -> Option<&'a Word>
+        ensures { option_copied result ≡ option_and_then (λ texts. text_in texts name.now) (slice_get (lists_in (lists_of self.now.tables) (Some vars.now) scope).texts at) }
+    {
+        if at as usize == self.tables.texts.len() {
+            return declared_text(vars, name.text().as_bytes());
+        }
+        self.text_in_scope(at, name)
+    }
+
+    // The present text of a name in the scope with this number, as it is seen.
+    fn text_at<'a>(&'a self, sight: Sight<'a>, at: u32, name: &Name) -> Option<&'a Word>
+        ensures { option_copied result ≡ option_and_then (λ texts. text_in texts name.now) (slice_get (lists_seen self.now sight.entry).texts at) }
+    {
+        match sight.opening {
+            Some(vars) => self.text_opened(vars, sight.scope, at, name),
+            None => self.text_in_scope(at, name),
+        }
+    }
+
+    /// The declaration of a name in its home; None where it has none. It takes no memory.
+    pub(crate) fn declaration<'a>(&'a self, sight: Sight<'a>, name: &Name) -> Option<&'a Var>
+        requires well { IsWell self.now }
+        requires scope { sight.scope < length self.now.tables.scopes.items }
+        ensures { option_copied result ≡ home_declaration (lists_seen self.now sight.entry).scopes (scope_seen self.now sight.entry) name.now }
+    {
+        let at = self.home(sight, name)?;
+        self.declaration_at(sight, at, name.text().as_bytes())
+    }
+
+    /// The text of a name in its home; None where it is unset, and where it has no home. It takes no memory.
+    pub fn value<'a>(&'a self, sight: Sight<'a>, name: &Name) -> Option<&'a Word>
+        requires well { IsWell self.now }
+        requires scope { sight.scope < length self.now.tables.scopes.items }
+        ensures { option_copied result ≡ value_shown (lists_seen self.now sight.entry) (scope_seen self.now sight.entry) name.now }
+    {
+        let at = self.home(sight, name)?;
+        self.text_at(sight, at, name)
+    }
+
+    /// The text of a name with these bytes, likewise. It takes no memory.
+    pub(crate) fn value_of_bytes<'a>(&'a self, sight: Sight<'a>, name: &[u8]) -> Option<&'a Word>
+        requires well { IsWell self.now }
+        requires scope { sight.scope < length self.now.tables.scopes.items }
+        ensures { option_copied result ≡ value_shown (lists_seen self.now sight.entry) (scope_seen self.now sight.entry) name.now }
+    {
+        let at = self.home_of_bytes(sight, name)?;
+        let var = self.declaration_at(sight, at, name)?;
+        self.text_at(sight, at, &var.name)
+    }
+
+    /// The value of a name by the kind that its home declares, as conditions compare it. It takes no memory.
+    pub(crate) fn worth<'a>(&'a self, sight: Sight<'a>, name: &Name) -> Atom<'a>
+        requires well { IsWell self.now }
+        requires scope { sight.scope < length self.now.tables.scopes.items }
+        ensures { worth_of result ≡ worth_at (lists_seen self.now sight.entry) (scope_seen self.now sight.entry) name.now }
+    {
+        let Some(at) = self.home(sight, name) else {
+            return Atom::Unset;
+        };
+        match self.declaration_at(sight, at, name.text().as_bytes()) {
+            Some(var) => value_of(
+                &var.kind,
+                self.text_at(sight, at, name).map(|word| word.text()),
+            ),
+            None => Atom::Unset,
+        }
+    }
+}

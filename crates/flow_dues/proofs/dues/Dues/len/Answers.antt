@@ -1,7 +1,0 @@
-use Rattle.std.proofs.Common.{sym, ap, ◌∙◌, length}
-use Rattle.flow_dues.specs.Pairs.{Queue}
-use Rattle.flow_dues.proofs.ListedLemmas.{length-listed}
-use Rattle.flow_dues.proofs.dues.Dues.len.Goals as goal
-
-pub returns : goal.returns
-returns c = c.self.invariant.counted ∙ sym (length-listed c.self.inside.moments.items) ∙ ap (λ (q : Queue). length q.pairs) c.self.view_is

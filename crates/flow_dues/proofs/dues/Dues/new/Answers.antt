@@ -1,5 +1,0 @@
-use Rattle.flow_dues.proofs.ListedLemmas.{listed_nil}
-use Rattle.flow_dues.proofs.dues.Dues.new.Goals as goal
-
-pub returns-clause-pairs : goal.returns-clause-pairs
-returns-clause-pairs c = listed_nil c.new.result.items c.new.ensures.items

@@ -1,0 +1,16 @@
+use Rattle.std.proofs.Common.{◌≡◌, Ok, Bool, false, refl, ap, subst, rules}
+use Rattle.flow_core.specs.Setups.{IsSetup}
+use Rattle.flow_engine_history.proofs.OpenLemmas.{first_late, first_refused, some_books}
+use Rattle.flow_engine_history.proofs.opening.take_first.Goals as goal
+
+pub returns-in-Ok-false-clause-refused : goal.returns-in-Ok-false-clause-refused
+returns-in-Ok-false-clause-refused c =
+    let v = c.args.flow.now in
+    let setup : IsSetup v.seen.given = subst IsSetup c.setup.ensures c.setup_law.ensures in
+    let some = some_books v.seen.given c.args.run c.args.item.now c.requires.in_range c.requires.begins setup.texts in
+    let bad : c.in-Ok-false.field-0 ≡ false = search rules in
+    (refl, first_late v c.args.item.now v.seen.given c.args.run c.requires.count c.requires.blank c.requires.begins some (c.in-Ok-false.ensures.bad (ap (λ (b : Bool). Ok b) bad)))
+
+pub returns-in-Err-clause-refused : goal.returns-in-Err-clause-refused
+returns-in-Err-clause-refused c =
+    first_refused c.args.flow.now c.args.item.now c.args.flow.now.seen.given c.args.run c.in-Err.error c.requires.count c.requires.blank c.in-Err.ensures.refused

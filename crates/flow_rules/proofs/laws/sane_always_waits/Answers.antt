@@ -1,5 +1,0 @@
-use Rattle.flow_rules.proofs.WaitingLemmas.{always_waits}
-use Rattle.flow_rules.proofs.laws.sane_always_waits.Goals as goal
-
-pub returns : goal.returns
-returns c = always_waits

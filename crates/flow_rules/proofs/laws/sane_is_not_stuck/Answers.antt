@@ -1,5 +1,0 @@
-use Rattle.flow_rules.proofs.NotStuck.{not_stuck}
-use Rattle.flow_rules.proofs.laws.sane_is_not_stuck.Goals as goal
-
-pub returns : goal.returns
-returns c = not_stuck

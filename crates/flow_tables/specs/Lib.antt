@@ -1,8 +1,0 @@
-pub mod Fits
-pub mod Planned
-pub mod Present
-pub mod TableFacts
-pub mod Waits
-pub use Rattle.flow_setup.specs.SetupLaws
-pub use Rattle.flow_setup.specs.SetupReading
-pub use Rattle.flow_setup.specs.Setups

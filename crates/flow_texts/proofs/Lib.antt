@@ -1,5 +1,0 @@
-pub mod ContentLemmas
-pub mod MemberLemmas
-pub mod PhraseLemmas
-pub mod UnitLemmas
-pub mod WholeLemmas

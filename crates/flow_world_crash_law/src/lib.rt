@@ -1,0 +1,21 @@
+//! A crash of a site in memory leaves a site where a session may go on.
+#![tactic(auto)]
+
+ghost use Rattle.std.specs.Prelude.{◌≡◌, ℕ, IfOk};
+ghost use Rattle.cacao_site.specs.DiskCalls.{IsDurable};
+ghost use Rattle.cacao_site.specs.View.{device_calls};
+ghost use Rattle.cacao_site_memory.specs.MemorySite.{view_of};
+ghost use Rattle.flow_laws.specs.Sessions.{IsRestart};
+
+use cacao_site_memory::MemorySite;
+use std::alloc::AllocError;
+
+/// The site after a crash at this moment, where `choice` picks what each file then holds: `MemorySite::crash`. It is one where a
+/// session may go on: each file holds one image, and no call of the device was made.
+pub fn crash(site: MemorySite, choice: u64) -> Result<MemorySite, AllocError>
+    ensures restart { IfOk result (λ left. IsRestart (view_of site) (view_of site).disk.beat (view_of left)) }
+    ensures durable { IfOk result (λ left. (file : ℕ) → IsDurable file (view_of left).disk) }
+    ensures calls { IfOk result (λ left. device_calls (view_of left) ≡ 0) }
+{
+    site.crash(choice)
+}

@@ -1,5 +1,0 @@
-use Rattle.oc2_targets.proofs.FeatureLemmas.{ReadSoFar}
-use Rattle.oc2_targets.proofs.feature_lists.read_items.Given as goal
-
-abbrev pub invariant-loop-tree : goal.invariant-loop-tree
-invariant-loop-tree l = ReadSoFar l.items l.tree-index l.list

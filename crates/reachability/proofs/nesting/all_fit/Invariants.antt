@@ -1,5 +1,0 @@
-use Rattle.reachability.proofs.NestLemmas.{AllFitBelow}
-use Rattle.reachability.proofs.nesting.all_fit.Given as goal
-
-abbrev pub invariant-loop-from : goal.invariant-loop-from
-invariant-loop-from l = AllFitBelow l.from l.is_guarded l.found l.nests l.table

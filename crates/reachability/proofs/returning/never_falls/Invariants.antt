@@ -1,5 +1,0 @@
-use Rattle.reachability.proofs.RankLemmas.{NeverFallsBelow}
-use Rattle.reachability.proofs.returning.never_falls.Given as goal
-
-abbrev pub invariant-loop-from : goal.invariant-loop-from
-invariant-loop-from l = NeverFallsBelow l.from l.ranks l.table

@@ -1,6 +1,0 @@
-use Rattle.std.proofs.Common.{◌≡◌, length}
-use Rattle.reachability.proofs.BackLemmas.{IsReverseTo}
-use Rattle.reachability.proofs.reversing.reversed.Given as goal
-
-abbrev pub invariant-loop-from : goal.invariant-loop-from
-invariant-loop-from l = (length l.back.items ≡ length l.rows) × IsReverseTo l.from l.rows l.back.items

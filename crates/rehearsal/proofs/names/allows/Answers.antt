@@ -1,7 +1,0 @@
-use Rattle.std.proofs.Common.{◌∙◌, ◌/◌, ◌%◌}
-use Rattle.std.specs.Prelude.{decimal}
-use Rattle.rehearsal.proofs.CommandTexts.{allowed}
-use Rattle.rehearsal.proofs.names.allows.Goals as goal
-
-pub returns : goal.returns
-returns c = c.in_ok-text.ensures.ok ∙ allowed (decimal (c.args.position / 256)) (decimal (c.args.position % 256)) (decimal c.args.branch)

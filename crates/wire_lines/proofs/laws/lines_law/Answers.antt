@@ -1,9 +1,0 @@
-use Rattle.wire_lines.proofs.LawLemmas.{lines_spell_one, lines_read_one_way, carried_read_back}
-use Rattle.wire_lines.proofs.laws.lines_law.Goals as goal
-
-pub returns : goal.returns
-returns c = record {
-  spell_one = lines_spell_one;
-  read_one_way = lines_read_one_way;
-  carried_read_back = carried_read_back;
-}
