@@ -1,0 +1,7 @@
+pub mod Somes
+mod OwnEdits
+mod OwnRecords
+pub mod OwnTask
+pub mod Children
+mod StaysEnabled
+mod ParallelExamples

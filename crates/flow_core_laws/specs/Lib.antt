@@ -1,0 +1,2 @@
+pub mod OwnTask
+pub mod StaysEnabled

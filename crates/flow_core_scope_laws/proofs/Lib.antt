@@ -1,0 +1,5 @@
+mod HomeLemmas
+mod LinkLemmas
+mod ScopedEdits
+mod ScopedRecords
+mod ScopedRuns

@@ -1,0 +1,5 @@
+use Rattle.flow_world_prefix_law.proofs.Prefixes.{each_close_goes_on, each_later_refusal_goes_on, each_refusal_goes_on}
+use Rattle.flow_world_prefix_law.proofs.prefix_law.Goals as goal
+
+pub returns : goal.returns
+returns c = record { closes = each_close_goes_on; refuses = each_refusal_goes_on; refuses_later = each_later_refusal_goes_on }
