@@ -7,7 +7,7 @@ ghost use Rattle.cacao_site.specs.View.{device_calls};
 ghost use Rattle.cacao_site_memory.specs.MemorySite.{view_of};
 ghost use Rattle.flow_laws.specs.Sessions.{IsRestart};
 
-use cacao_site_memory::MemorySite;
+use cacao_site_memory::{MemorySite, SitePlan};
 use std::alloc::AllocError;
 
 /// The site after a crash at this moment, where `choice` picks what each file then holds: `MemorySite::crash`. It is one where a
@@ -18,4 +18,13 @@ pub fn crash(site: MemorySite, choice: u64) -> Result<MemorySite, AllocError>
     ensures calls { IfOk result (λ left. device_calls (view_of left) ≡ 0) }
 {
     site.crash(choice)
+}
+
+/// The same under another plan: `MemorySite::crash_with`.
+pub fn crash_with(site: MemorySite, choice: u64, plan: SitePlan) -> Result<MemorySite, AllocError>
+    ensures restart { IfOk result (λ left. IsRestart (view_of site) (view_of site).disk.beat (view_of left)) }
+    ensures durable { IfOk result (λ left. (file : ℕ) → IsDurable file (view_of left).disk) }
+    ensures calls { IfOk result (λ left. device_calls (view_of left) ≡ 0) }
+{
+    site.crash_with(choice, plan)
 }

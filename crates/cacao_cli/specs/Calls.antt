@@ -1,0 +1,93 @@
+-- Promise: A call of the program, and what is promised of it.
+use Rattle.std.specs.Prelude.{◌≡◌, ◌≢◌, ℕ, List, [], ◌∷◌, IsTrue, Option, None}
+use Rattle.cacao_site.specs.View.{SiteView}
+use Rattle.flow_laws.specs.Good.{IsGood}
+use Rattle.cacao_cli_words.specs.Words.{Text}
+use Rattle.cacao_cli_ends.specs.Asked.{Asked, asked}
+use Rattle.cacao_cli_ends.specs.Comes.{ComesExactly, ComesFor, IfFilesTold, IfTold, IsOneOf, file_faults, reached_statuses}
+use Rattle.cacao_cli_ends.specs.Ends.{ended_failed, flooded, paused}
+use Rattle.cacao_cli_ends.specs.FileCauses.{IsMissing}
+use Rattle.cacao_cli_ends.specs.Files.{Files, files_of}
+use Rattle.cacao_cli_session_laws.specs.Completing.{Completes}
+use Rattle.cacao_cli_session_laws.specs.Returning.{TellsOnReturn}
+use Rattle.cacao_cli_status_laws.specs.Causes.{CanBeDone, EndsAs, EndsAsAnother, EndsAsAsked, EndsAsWaiting, FindsDisagreement, FindsItDamaged, IsPastLimit, IsRefused, IsUnreadable, NamesTooMuch}
+use Rattle.cacao_cli_status_laws.specs.Exact.{AnswersExactly}
+use Rattle.cacao_cli_status_laws.specs.Leaves.{CountsDisk, CountsUnsaid, Leaves, LeavesAll}
+use Rattle.cacao_cli_status_laws.specs.OwnSites.{StandsReached, StandsShort}
+use Rattle.cacao_cli_status_laws.specs.Statuses.{IsOwnStatus}
+use Rattle.cacao_cli_status_laws.specs.Usage.{UsesFew}
+use Rattle.cacao_cli_life.specs.Lives.{KeepsAll}
+
+-- what a call was given, and what came of it
+pub record Call : Type 0 where
+  pub wanted : Option Asked  -- what its words ask
+  pub files : Option Files  -- what the shelf holds, where it tells it
+  pub old : SiteView  -- the site when it began
+  pub new : SiteView  -- the site on return
+  pub status : ℕ
+
+abbrev pub call : List Text → Option Files → SiteView → SiteView → ℕ → Call
+call words files old new status = record { wanted = asked words; files = files; old = old; new = new; status = status }
+
+-- the headline: where all agrees when the call begins, all that a crash may leave agrees at each of its beats, whatever its status
+abbrev pub AgreesAtEachBeat : Call → Type 0
+AgreesAtEachBeat call = KeepsAll call.wanted call.old call.new
+
+-- where the files and the disk are told, this status comes of this cause, but for what may stand in its place
+abbrev pub ComesOf : Call → ℕ → (Files → Type 0) → Type 0
+ComesOf call status cause =
+    IfTold call.wanted call.files call.old (λ files. ComesFor call.wanted call.old call.new status (cause files) call.status)
+
+-- where the files are told, this status comes of this cause exactly, but for what reading them comes to
+abbrev pub ComesOfFiles : Call → ℕ → (Files → Type 0) → Type 0
+ComesOfFiles call status cause =
+    IfFilesTold (files_of call.wanted) call.files (λ files. ComesExactly status (file_faults (files_of call.wanted)) (cause files) call.status)
+
+-- Each status says why. Of the shelf's failures (3) and of want of memory (10) the contract speaks itself.
+pub record StatusesTell (call : Call) : Type 0 where
+  -- the status is the one that the words, the files and the disk call for, or a fault stands in its place
+  pub exactly : AnswersExactly call.wanted call.files call.old call.new call.status
+  -- each command answers its own statuses alone, whether files and disk are told or not
+  pub answers : IsOwnStatus call.wanted call.status
+  -- what the words and the files come to
+  pub done : ComesOf call 0 (λ files. CanBeDone call.wanted files call.old call.new)
+  pub refused : ComesOfFiles call 1 (λ files. IsRefused call.wanted files)
+  pub not_understood : ComesExactly 2 (9 ∷ 10 ∷ []) (call.wanted ≡ None) call.status
+  pub missing : ComesOfFiles call 4 (λ files. IsMissing files (files_of call.wanted))
+  pub unreadable : ComesOfFiles call 5 (λ files. IsUnreadable call.wanted files)
+  pub past_limit : ComesOf call 11 (λ files. IsPastLimit call.wanted files call.old call.new)
+  pub too_much : IfFilesTold (files_of call.wanted) call.files (λ files.
+      NamesTooMuch call.wanted files → IsOneOf call.status (11 ∷ file_faults (files_of call.wanted)))
+  pub damaged : ComesOf call 13 (λ files. FindsItDamaged call.wanted files call.old call.new)
+  pub disagreement : ComesOfFiles call 18 (λ files. FindsDisagreement call.wanted files)
+  -- how a run stands
+  pub failed : ComesOf call 6 (λ files. EndsAs call.wanted files ended_failed call.old call.new)
+  pub pauses : ComesOf call 7 (λ files. EndsAs call.wanted files paused call.old call.new)
+  pub another_run : ComesOf call 12 (λ files. EndsAsAnother call.wanted files call.old call.new)
+  pub waits : ComesOf call 14 (λ files. EndsAsWaiting call.wanted files call.old call.new)
+  pub floods : ComesOf call 15 (λ files. EndsAs call.wanted files flooded call.old call.new)
+  pub asks : ComesOf call 16 (λ files. EndsAsAsked call.wanted files call.old call.new)
+  -- what failed
+  pub disk_failed : call.status ≡ 8 → CountsDisk call.wanted call.old call.new
+  pub disk_steady : call.status ≢ 8 → call.status ≢ 9 → call.new.disk.faults ≡ call.old.disk.faults
+  pub unsaid : call.status ≡ 9 → CountsUnsaid call.wanted call.old call.new
+  pub said : call.status ≢ 9 → call.new.counts.unsaid ≡ call.old.counts.unsaid
+  -- Where the status says that the run waits, the clock stands before what it was asked for; where it says that the run ended,
+  -- paused, took too many parcels or asks, the clock came to that.
+  pub stands_short : call.status ≡ 14 → StandsShort call.wanted call.new
+  pub stands_reached : IsOneOf call.status reached_statuses → StandsReached call.wanted call.new
+
+-- what holds of the site on return
+pub record HoldsOnReturn (call : Call) : Type 0 where
+  -- what the status of `run` tells of what the files read as, of the clock and of the parcels taken, and they of it
+  pub on_return : TellsOnReturn call.wanted call.files call.old call.new call.status
+  -- where all agrees when the call begins, no file is told as damaged
+  pub undamaged : IsTrue call.old.disk.told → IsGood call.old call.old.disk.beat → call.status ≢ 13
+  -- A run that begins where all agrees and that nothing disturbs comes to its end, its budget or a question, unless a limit is
+  -- passed, too many parcels change nothing, a named file can't be read, or memory is wanted.
+  pub completes : Completes call.wanted call.files call.old call.new call.status
+  -- few device calls, and few bytes
+  pub uses_few : UsesFew call.wanted call.old call.new
+  -- what stays as it was, whatever is asked, and what stays besides by what is asked
+  pub stays : LeavesAll call.old call.new call.status
+  pub leaves : Leaves call.wanted call.old call.new call.status

@@ -1,0 +1,2 @@
+pub mod FirstSite
+pub mod LifeLemmas
