@@ -25,14 +25,14 @@ use Rattle.oc2_wire_laws.proofs.Kept.{Kept, events_kept, engine_new, filters_new
 
 -- ---- parcels with a number
 
-marked : (l : List Parcel) (p : Parcel) → Contains l p → Contains {X = ℕ × Parcel} (map (λ (parcel : Parcel). (0, parcel)) l) (0, p)
+pub marked : (l : List Parcel) (p : Parcel) → Contains l p → Contains {X = ℕ × Parcel} (map (λ (parcel : Parcel). (0, parcel)) l) (0, p)
 marked [] p has = none_in _ p has
 marked (x ∷ l) p (zero, lt, is) = (zero, omega arith, ap (λ (q : Parcel). (0, q)) is)
 marked (x ∷ l) p (suc k, lt, is) =
     let rest = marked l p (k, omega (arith, lt), is) in
     (suc rest.0, omega (arith, rest.1), rest.2)
 
-unmarked : (l : List Parcel) (at : ℕ) (p : Parcel) → Contains {X = ℕ × Parcel} (map (λ (parcel : Parcel). (0, parcel)) l) (at, p) → Contains l p
+pub unmarked : (l : List Parcel) (at : ℕ) (p : Parcel) → Contains {X = ℕ × Parcel} (map (λ (parcel : Parcel). (0, parcel)) l) (at, p) → Contains l p
 unmarked [] at p has = none_in _ (at, p) has
 unmarked (x ∷ l) at p (zero, lt, is) = (zero, omega arith, ap (λ (e : ℕ × Parcel). e.1) is)
 unmarked (x ∷ l) at p (suc k, lt, is) =
@@ -169,7 +169,7 @@ module _ (run : ℕ) (first : Ends) (starts : AreStarts run first) where
   files_start agent is_agent image left = file_first agent is_agent image
       (subst (λ (n : ℕ). IsLeft f.site.disk agent n image) (sym starts.filters.beat) (subst (λ (s : SiteView). IsLeft s.disk agent f.start.disk.beat image) (sym starts.filters.site) left))
 
-  kept_first : Kept first run e f
+  pub kept_first : Kept first run e f
   kept_first = record {
     only_commands = λ p has. starts.commands p (subst (λ (l : List Parcel). Contains l p) (sent_new e starts.engine) has);
     only_replies = λ p has. starts.replies p (subst (λ (l : List Parcel). Contains l p) (sent_new f starts.filters) has);

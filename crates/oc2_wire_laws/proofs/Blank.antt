@@ -1,30 +1,19 @@
 -- The first sessions of both ends may begin on blank files.
-use Rattle.std.proofs.Common.{◌≡◌, ◌⊎◌, inl, inr, ℕ, List, [], ◌++◌, refl, ◌∙◌, subst, ap}
+use Rattle.std.proofs.Common.{◌≡◌, ℕ, List, [], ◌++◌, ◌∙◌, subst, ap}
 use Rattle.std.specs.Prelude.{map, Contains}
-use Rattle.cacao_site.specs.DiskCalls.{IsLeft}
 use Rattle.cacao_site.specs.View.{SiteView}
 use Rattle.cacao_site.specs.declared.parcel.Parcel.{Parcel}
 use Rattle.run_records.specs.declared.record.Record.{Record}
 use Rattle.run_records.specs.declared.act.Act.{Act}
 use Rattle.slpf_rules_acts.proofs.Acts.{none_are_acts}
 use Rattle.flow_laws.specs.Held.{IsRunLine, plain}
-use Rattle.flow_laws.specs.Images.{IsAgent, up_to, told_list, puts_to}
 use Rattle.flow_laws.specs.Journals.{run_of}
 use Rattle.flow_laws.proofs.Basics.{not_begun}
 use Rattle.flow_laws.proofs.OneList.{empty_acts, empty_records, none_of_empty, same_acts}
-use Rattle.oc2_wire_laws.specs.Deliveries.{AreBlank, BlankEndsAreStarts, End, IsNew, at_first, sent_by}
-use Rattle.oc2_wire_laws.proofs.Lists.{agent_or_not, none_in, sent_new}
+use Rattle.oc2_wire_laws.specs.Deliveries.{AreBlank, BlankEndsAreStarts, End, at_first, sent_by}
+use Rattle.oc2_wire_laws.proofs.Begins.{have_images, is_new, never_put, only_before}
+use Rattle.oc2_wire_laws.proofs.Lists.{none_in}
 use Rattle.oc2_wire_laws.proofs.Starts.{none_of_none}
-
-never_put : (site : SiteView) → told_list site.link.puts ≡ [] → (P : Type 0) (at : ℕ) (p : Parcel) → Contains (puts_to site site.disk.beat) (at, p) → P
-never_put site none P at p has =
-    none_in P (at, p) (subst (λ (l : List (ℕ × Parcel)). Contains l (at, p)) (ap (λ (l : List (ℕ × Parcel)). up_to site.disk.beat l) none) has)
-
-is_new : (site : SiteView) → told_list site.link.puts ≡ [] → IsNew (at_first site)
-is_new site none = record { got = refl; site = refl; beat = refl; copies = λ at p has. never_put site none _ at p has }
-
-none_sent : (site : SiteView) → told_list site.link.puts ≡ [] → sent_by (at_first site) ≡ []
-none_sent site none = sent_new (at_first site) (is_new site none)
 
 module _ (engine filters : SiteView) (blank : AreBlank engine filters) where
   abbrev e : End
@@ -34,33 +23,19 @@ module _ (engine filters : SiteView) (blank : AreBlank engine filters) where
   f = at_first filters
 
   all_sent : sent_by e ++ sent_by f ≡ []
-  all_sent = ap (λ (l : List Parcel). l ++ sent_by f) (none_sent engine blank.no_commands) ∙ none_sent filters blank.no_replies
+  all_sent = ap (λ (l : List Parcel). l ++ sent_by f) (only_before [] engine blank.no_commands) ∙ only_before [] filters blank.no_replies
 
   never_sent : (P : Type 0) (at : ℕ) (p : Parcel) → Contains {X = ℕ × Parcel} (map (λ (parcel : Parcel). (0, parcel)) (sent_by e ++ sent_by f)) (at, p) → P
   never_sent P at p has =
       none_in P (at, p) (subst (λ (l : List Parcel). Contains {X = ℕ × Parcel} (map (λ (parcel : Parcel). (0, parcel)) l) (at, p)) all_sent has)
 
-  file_by : (agent : ℕ) → IsAgent agent ⊎ (IsAgent agent → ⊥) → List ℕ
-  file_by agent (inl a) = (blank.some_files agent a).image
-  file_by agent (inr isnt) = []
-
-  file_left : (agent : ℕ) → IsAgent agent → (d : IsAgent agent ⊎ (IsAgent agent → ⊥)) → IsLeft filters.disk agent filters.disk.beat (file_by agent d)
-  unfolding file_by
-  file_left agent a (inl b) = (blank.some_files agent b).left
-  file_left agent a (inr isnt) = absurd (isnt a)
-
 pub blank_ends_are_starts : BlankEndsAreStarts
 blank_ends_are_starts run engine filters blank = record {
-  engine = is_new engine blank.no_commands;
-  filters = is_new filters blank.no_replies;
+  engine = is_new [] engine blank.no_commands;
+  filters = is_new [] filters blank.no_replies;
   commands = λ p has. none_in _ p has;
   replies = λ p has. none_in _ p has;
-  some = record {
-    journal = blank.some_journal.image;
-    left = blank.some_journal.left;
-    files = λ agent. file_by engine filters blank agent (agent_or_not agent);
-    files_left = λ agent a. file_left engine filters blank agent a (agent_or_not agent);
-  };
+  some = have_images [] [] engine filters blank.some_journal blank.some_files;
   good = λ choice is. record {
     records = [];
     acts = λ agent. [];
@@ -87,6 +62,6 @@ blank_ends_are_starts run engine filters blank = record {
     acts = λ image left empty agent file acts act a there are has.
         let none : acts ≡ [] = same_acts file acts [] are (empty_acts file (blank.files agent file a there)) in
         none_in _ act (subst (λ (l : List Act). Contains l act) none has);
-    sent = λ image left empty p has. none_in _ p (subst (λ (l : List Parcel). Contains l p) (none_sent engine blank.no_commands) has);
+    sent = λ image left empty p has. none_in _ p (subst (λ (l : List Parcel). Contains l p) (only_before [] engine blank.no_commands) has);
   };
 }

@@ -11,9 +11,11 @@ use Rattle.run_records.specs.declared.act.Act.{Act}
 use Rattle.flow_laws.specs.Images.{AnyJournal, IsAgent, StandsFor, StandsForActs, puts_of}
 use Rattle.flow_laws.specs.Held.{LinesAreOfRecords, plain}
 use Rattle.oc2_wire_laws.specs.Ends.{EngineKeeps, FiltersKeep, HasGotCommand, IsOfReplies, IsRunFrom, AreActsFrom}
-use Rattle.oc2_wire_laws.specs.Deliveries.{Crashes, IsJournal, End, Ends, Event, Events, IsNew, TakesStep, put_by, sent_by}
+use Rattle.oc2_wire_laws.specs.Deliveries.{Crashes, IsJournal, IsSaidBefore, End, Ends, Event, Events, IsNew, TakesStep, put_by, sent_by}
 use Rattle.oc2_wire_laws.specs.Deliveries.Event.{engine_steps, filters_step, engine_crashes, filters_crash, engine_gets, filters_get}
 use Rattle.oc2_wire_laws.specs.Deliveries.Events.{nothing, and_then}
+use Rattle.oc2_wire_laws.specs.EngineBeats.{MoreIsGot}
+use Rattle.oc2_wire_laws.specs.FilterBeats.{MoreForFilters}
 use Rattle.oc2_wire_laws.proofs.Lists.{all_by, none_in, put_entry, in_puts, sent_new}
 use Rattle.oc2_wire_laws.proofs.Fits.{FileFits, JournalFits, file_more, file_now, fits_more, journal_now, of_more}
 use Rattle.oc2_wire_laws.proofs.Starts.{engine_keeps, filters_keep}
@@ -70,9 +72,8 @@ run_from_more start run got more records sub from = record {
   };
 }
 
-engine_more : (start : SiteView) (run : ℕ) (got more : List Parcel) (site : SiteView) (beat : ℕ) → ((p : Parcel) → Contains got p → Contains more p)
-    → EngineKeeps start run got site beat → EngineKeeps start run more site beat
-engine_more start run got more site beat sub keeps = record {
+pub more_is_got : MoreIsGot
+more_is_got start run got more site beat sub keeps = record {
   journal = λ image left.
       let s = keeps.journal image left in
       record { records = s.records; are = s.are; so = run_from_more start run got more s.records sub s.so };
@@ -107,9 +108,8 @@ acts_from_more start agent got more acts sub from = record {
   };
 }
 
-filters_more : (start : SiteView) (got more : List Parcel) (site : SiteView) (beat : ℕ) → ((p : Parcel) → Contains got p → Contains more p)
-    → FiltersKeep start got site beat → FiltersKeep start more site beat
-filters_more start got more site beat sub keeps = record {
+pub more_for_filters : MoreForFilters
+more_for_filters start got more site beat sub keeps = record {
   files = λ agent is_agent image left.
       let s = keeps.files agent is_agent image left in
       record { acts = s.acts; are = s.are; so = acts_from_more start agent got more s.acts sub s.so };
@@ -182,10 +182,10 @@ files_crashed first run e old new kept crash agent is_agent image left =
     let s = file_now first old (sent_by e) kept.filters kept.got_commands kept.files agent is_agent image (crash.images agent image is_agent left) in
     record { acts = s.acts; are = s.are; so = subst (λ (l : List Parcel). FileFits first agent (sent_by e) l s.acts) (sym crash.before) s.so }
 
-lines_crashed : (run : ℕ) (old new : End) → EngineKeeps old.start run old.got old.site old.beat → Crashes IsJournal old new
+lines_crashed : (run : ℕ) (old new : End) → EngineKeeps old.start run old.got old.site old.beat → Crashes IsJournal old new → IsSaidBefore old new
     → AnyJournal new.start new.start.disk.beat (LinesAreOfRecords plain new.start new.start.disk.beat)
-lines_crashed run old new keeps crash image records left are bytes said line =
-    keeps.held.lines image records (crash.images 0 image refl left) are bytes (crash.said bytes said) line
+lines_crashed run old new keeps crash before image records left are bytes said line =
+    keeps.held.lines image records (crash.images 0 image refl left) are bytes (before bytes said) line
 
 pushed : (P : Parcel → Type 0) (got : List Parcel) (parcel : Parcel) → ((p : Parcel) → Contains got p → P p) → P parcel → (p : Parcel) → Contains (got ++ parcel ∷ []) p → P p
 pushed P got parcel each is p has = elim (Contains-push_cases got parcel p has) [ inl old ↦ each p old | inr same ↦ subst P same is ]
@@ -215,7 +215,7 @@ event_kept first run old new (filters_step {e} {f} next step keeps) kept = recor
   engine = kept.engine;
   filters = keeps;
 }
-event_kept first run old new (engine_crashes {e} {f} next crash) kept =
+event_kept first run old new (engine_crashes {e} {f} next crash before) kept =
     let same : sent_by next ≡ sent_by e = sent_same IsJournal e next crash in
     let journal = journal_crashed first run e f next kept crash in
     record {
@@ -226,7 +226,7 @@ event_kept first run old new (engine_crashes {e} {f} next crash) kept =
       got_commands = λ p has. subst (λ (l : List Parcel). Contains l p) (sym same) (kept.got_commands p has);
       journal = journal;
       files = files_more first (sent_by e) (sent_by next) f.before f.start (λ p has. subst (λ (l : List Parcel). Contains l p) (sym same) has) kept.files;
-      engine = engine_new first run next (sent_by f) crash.is_new (lines_crashed run e next kept.engine crash) journal;
+      engine = engine_new first run next (sent_by f) crash.is_new (lines_crashed run e next kept.engine crash before) journal;
       filters = kept.filters;
     }
 event_kept first run old new (filters_crash {e} {f} next crash) kept =
@@ -251,7 +251,7 @@ event_kept first run old new (engine_gets {e} {f} parcel sent) kept = record {
   got_commands = kept.got_commands;
   journal = kept.journal;
   files = kept.files;
-  engine = engine_more e.start run e.got (e.got ++ parcel ∷ []) e.site e.beat (λ p has. Contains-append_left e.got (parcel ∷ []) p has) kept.engine;
+  engine = more_is_got e.start run e.got (e.got ++ parcel ∷ []) e.site e.beat (λ p has. Contains-append_left e.got (parcel ∷ []) p has) kept.engine;
   filters = kept.filters;
 }
 event_kept first run old new (filters_get {e} {f} parcel sent) kept = record {
@@ -263,7 +263,7 @@ event_kept first run old new (filters_get {e} {f} parcel sent) kept = record {
   journal = kept.journal;
   files = kept.files;
   engine = kept.engine;
-  filters = filters_more f.start f.got (f.got ++ parcel ∷ []) f.site f.beat (λ p has. Contains-append_left f.got (parcel ∷ []) p has) kept.filters;
+  filters = more_for_filters f.start f.got (f.got ++ parcel ∷ []) f.site f.beat (λ p has. Contains-append_left f.got (parcel ∷ []) p has) kept.filters;
 }
 
 pub events_kept : (first : Ends) (run : ℕ) (old new : Ends) → Events run old new → Kept first run old.engine old.filters → Kept first run new.engine new.filters

@@ -1,10 +1,10 @@
 -- Lists, and the parcels that an end sent.
 use Rattle.std.proofs.Common.{◌≡◌, ◌⊎◌, inl, inr, ℕ, zero, suc, ◌≤◌, nat_le, Bool, true, false, if◌then◌else◌, List, [], ◌∷◌, ◌++◌, length, refl, sym, ◌∙◌, subst, ap, arith}
-use Rattle.std.specs.Prelude.{map, Contains, Some, All}
+use Rattle.std.specs.Prelude.{map, filter, Contains, Some, All}
 use Rattle.std.proofs.lemmas.Bool.{leb-true}
 use Rattle.std.proofs.lemmas.Bool.Decides.{nat_tests}
 use Rattle.std.proofs.lemmas.List.{drop_all, append-nil}
-use Rattle.std.proofs.lemmas.List.Elements.{All-contains_itself, Contains-append_left}
+use Rattle.std.proofs.lemmas.List.Elements.{All-contains, All-contains_itself, All-filter, Contains-append_left, filter_passes}
 use Rattle.cacao_site.specs.View.{SiteView}
 use Rattle.cacao_site.specs.declared.parcel.Parcel.{Parcel}
 use Rattle.run_records.specs.declared.record.Record.{Record}
@@ -23,6 +23,13 @@ none_in P x has = absurd (omega (arith, has.1))
 pub none_left : {T : Type 0} (xs ys : List T) → xs ++ ys ≡ [] → xs ≡ []
 none_left [] ys e = refl
 none_left (x ∷ xs) ys e = cc
+
+-- what a test keeps of a list is of the list, and passes
+pub in_filter : {T : Type 0} (test : T → Bool) (xs : List T) (x : T) → Contains (filter test xs) x → Contains xs x
+in_filter test xs x has = All-contains (Contains xs) (filter test xs) x (All-filter test (Contains xs) xs (All-contains_itself xs)) has
+
+pub passes : {T : Type 0} (test : T → Bool) (xs : List T) (x : T) → Contains (filter test xs) x → test x ≡ true
+passes {T} test xs x has = All-contains (λ (y : T). test y ≡ true) (filter test xs) x (filter_passes test xs) has
 
 -- ---- the number of a run
 

@@ -9,7 +9,7 @@ use Rattle.run_journal.specs.Layout.{Stands}
 use Rattle.flow_laws.specs.Images.{IsAgent, IsRecords, IsActs, HasImage, WasSaid, told_list, puts_of, puts_to, session_puts}
 use Rattle.flow_laws.specs.Held.{IsHeldAs, IsRunLine, plain}
 use Rattle.flow_laws.specs.Agree.{Agree}
-use Rattle.oc2_wire_laws.specs.Ends.{EngineKeeps, FiltersKeep, IsEngineStart}
+use Rattle.oc2_wire_laws.specs.Ends.{EngineKeeps, FiltersKeep, IsEngineStart, IsFiltersStart}
 
 -- One end of a wire: the parcels that it sent before its session, the site on which that began, the parcels of the lines that it got
 -- since, and a beat of its site.
@@ -48,14 +48,17 @@ pub record IsNew (e : End) : Type 0 where
   pub beat : e.beat ≡ e.start.disk.beat
   pub copies : (at : ℕ) (parcel : Parcel) → Contains (puts_to e.start e.start.disk.beat) (at, parcel) → Contains e.before parcel
 
--- An end crashes and begins anew: each of its own files has images that the crash may leave, and lines of before may have been said.
--- Of the other end's files nothing is said: that one may have changed them.
+-- An end crashes and begins anew: each of its own files has images that the crash may leave. Of the other end's files nothing is
+-- said: that one may have changed them.
 pub record Crashes (IsOwn : ℕ → Type 0) (old new : End) : Type 0 where
   pub is_new : IsNew new
   pub before : new.before ≡ sent_by old
   pub images : (file : ℕ) (image : List ℕ) → IsOwn file → IsLeft new.start.disk file new.start.disk.beat image
       → IsLeft old.site.disk file old.beat image
-  pub said : (bytes : List ℕ) → WasSaid new.start new.start.disk.beat bytes → WasSaid old.site old.beat bytes
+
+-- what is told as said at the new start had been said before
+abbrev pub IsSaidBefore : End → End → Type 0
+IsSaidBefore old new = (bytes : List ℕ) → WasSaid new.start new.start.disk.beat bytes → WasSaid old.site old.beat bytes
 
 -- the engine's own file is the journal, and the filters' are those of the agents
 abbrev pub IsJournal : ℕ → Type 0
@@ -72,7 +75,7 @@ pub data Event (run : ℕ) : Ends → Ends → Type 0 where
       → Event run (record { engine = e; filters = f }) (record { engine = new; filters = f })
   filters_step : {e f : End} (new : End) → TakesStep f new → FiltersKeep new.start new.got new.site new.beat
       → Event run (record { engine = e; filters = f }) (record { engine = e; filters = new })
-  engine_crashes : {e f : End} (new : End) → Crashes IsJournal e new
+  engine_crashes : {e f : End} (new : End) → Crashes IsJournal e new → IsSaidBefore e new
       → Event run (record { engine = e; filters = f }) (record { engine = new; filters = f })
   filters_crash : {e f : End} (new : End) → Crashes IsAgent f new
       → Event run (record { engine = e; filters = f }) (record { engine = e; filters = new })
@@ -139,13 +142,17 @@ DeliveriesKeepAgreement = (run : ℕ) (first now : Ends) → AreStarts run first
 abbrev pub RestartsAreStarts : Type 0
 RestartsAreStarts = (run : ℕ) (first now : Ends) → AreStarts run first → Events run first now
     → (IsNew now.engine → IsEngineStart now.engine.start run)
-    × (IsNew now.filters → FiltersKeep now.filters.start [] now.filters.start now.filters.start.disk.beat)
+    × (IsNew now.filters → IsFiltersStart now.filters.start)
 
 -- ---- where there are such starts
 
--- an end at the start of its first session, on this site
+-- an end at the start of a session on this site, before which it sent these parcels
+abbrev pub begins_behind : List Parcel → SiteView → End
+begins_behind before site = record { before = before; start = site; got = []; site = site; beat = site.disk.beat }
+
+-- at the start of its first session
 abbrev pub at_first : SiteView → End
-at_first site = record { before = []; start = site; got = []; site = site; beat = site.disk.beat }
+at_first site = begins_behind [] site
 
 -- Two sites that no session used: each end's own files have images, all of which stand for the empty list, no parcel was put, and no
 -- line of a record was said.

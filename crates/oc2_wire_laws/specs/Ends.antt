@@ -101,3 +101,7 @@ pub record FiltersKeep (start : SiteView) (got : List Parcel) (site : SiteView) 
       → IsActedEverywhere site beat parcel
   pub only_replies : (at : ℕ) (parcel : Parcel) → Contains (session_puts (puts_of start) site beat) (at, parcel)
       → parcel.back ≡ true
+
+-- where such a session may begin: what it keeps holds
+abbrev pub IsFiltersStart : SiteView → Type 0
+IsFiltersStart site = FiltersKeep site [] site site.disk.beat

@@ -44,3 +44,9 @@ CommandIsKept = (parcel : Parcel) → IsKept (λ earlier early later late. PutsC
 
 abbrev pub LineIsKept : Type 0
 LineIsKept = (line : List ℕ) → IsKept (λ earlier early later late. SaysLine plain earlier early later late line)
+
+-- where more was got
+abbrev pub MoreIsGot : Type 0
+MoreIsGot = (start : SiteView) (run : ℕ) (got more : List Parcel) (site : SiteView) (beat : ℕ)
+    → ((parcel : Parcel) → Contains got parcel → Contains more parcel) → EngineKeeps start run got site beat
+    → EngineKeeps start run more site beat

@@ -1,5 +1,5 @@
 -- Promise: From beat to beat of a session of the filters alone: what keeps what it promises.
-use Rattle.std.specs.Prelude.{◌≡◌, ◌≢◌, ◌⊎◌, ℕ, true, List, [], ◌∷◌, ◌++◌}
+use Rattle.std.specs.Prelude.{◌≡◌, ◌≢◌, ◌⊎◌, ℕ, true, List, [], ◌∷◌, ◌++◌, Contains}
 use Rattle.cacao_site.specs.DiskCalls.{IsLeft}
 use Rattle.cacao_site.specs.View.{SiteView}
 use Rattle.cacao_site.specs.declared.parcel.Parcel.{Parcel}
@@ -14,7 +14,8 @@ pub record FiltersShrink (earlier : SiteView) (early : ℕ) (later : SiteView) (
   pub images : (agent : ℕ) → IsAgent agent → Among agent earlier early later late
   pub puts : puts_to later late ≡ puts_to earlier early
 
--- each image of one file stands for the acts, and later for them or for them and one more, on a command that was got
+-- Each image of one file stands for the acts, and later for them or for them and one more, on a command that was got. With it
+-- they are acts again.
 pub record FilterGains (got : List Parcel) (agent : ℕ) (acts : List Act) (act : Act) (earlier : SiteView) (early : ℕ)
     (later : SiteView) (late : ℕ) : Type 0 where
   pub images : (other : ℕ) → IsAgent other → other ≢ agent → Among other earlier early later late
@@ -47,3 +48,9 @@ ActIsKept = (agent : ℕ) (acts : List Act) (act : Act) → AreKept (λ got. Fil
 
 abbrev pub ReplyIsKept : Type 0
 ReplyIsKept = (parcel : Parcel) → AreKept (λ got. FilterReplies parcel)
+
+-- where more was got
+abbrev pub MoreForFilters : Type 0
+MoreForFilters = (start : SiteView) (got more : List Parcel) (site : SiteView) (beat : ℕ)
+    → ((parcel : Parcel) → Contains got parcel → Contains more parcel) → FiltersKeep start got site beat
+    → FiltersKeep start more site beat

@@ -1,0 +1,20 @@
+//! A site whose parcels go to another process, and come from it, as lines over a link.
+//!
+//! The end that asks puts commands and takes replies; the end that answers takes commands and puts replies. The disk, the
+//! lines that are said and the clock are those of the site beneath.
+#![tactic(auto)]
+
+mod entries;
+mod line_link;
+mod link_state;
+mod putting;
+mod reading;
+mod receiving;
+mod sending;
+mod taking;
+mod wire_calls;
+mod wire_disk;
+mod wire_site;
+
+pub use link_state::LinkState;
+pub use wire_site::WireSite;

@@ -1,0 +1,77 @@
+// A link over which lines come and go.
+ghost use Rattle.oc2_wire_site.specs.LineLinks.{IsLineLink, lines_view};
+
+use crate::link_state::LinkState;
+use oc2_wire_link::Link;
+use std::alloc::Global;
+
+// The bytes for which there is room at first.
+const FIRST_ROOM: usize = 4_096;
+
+/// A link, what came over it and is not read as lines yet, and what broke it first.
+#[derive(Drop)]
+pub struct LineLink<K: Link> {
+    pub(crate) link: K,
+    /// The bytes that were received and are not read as lines yet.
+    pub(crate) unread: Vec<u8>,
+    /// How many lines were passed over.
+    pub(crate) passed: u64,
+    pub(crate) state: LinkState,
+    ghost holds: { IsLineLink (lines_view (K.view link) unread.items passed state) },
+}
+
+impl<K: Link> LineLink<K> {
+    ghost use Rattle.std.specs.Prelude.{◌≡◌, ◌≢◌, [], true, false, IfOk, IfErr};
+    ghost use Rattle.oc2_wire_site.specs.WireOf.{lines_of};
+
+    /// A link over which nothing was read yet. Where memory is wanted, it gives the link back.
+    pub fn new(alloc: Global, link: K) -> Result<LineLink<K>, K>
+        ensures link { IfOk result (λ lines. lines.link ≡ link) }
+        ensures view { IfOk result (λ lines. lines_of K.view lines ≡ lines_view (K.view link) [] 0 LinkState.Whole) }
+        ensures refused { IfErr result (λ back. back ≡ link) }
+    {
+        match Vec::with_capacity(alloc, FIRST_ROOM) {
+            Ok(unread) => Ok(LineLink {
+                link,
+                unread,
+                passed: 0,
+                state: LinkState::Whole,
+            }),
+            Err(_) => Err(link),
+        }
+    }
+
+    /// Whether nothing broke the link yet.
+    pub fn is_whole(&self) -> bool
+        ensures whole { result ≡ true → self.now.state ≡ LinkState.Whole }
+        ensures broken { result ≡ false → self.now.state ≢ LinkState.Whole }
+    {
+        self.state == LinkState::Whole
+    }
+
+    /// Breaks the link for want of memory, if nothing broke it before.
+    pub fn want_memory(&mut self)
+        ensures link { self.new.link ≡ self.old.link }
+        ensures unread { self.new.unread.items ≡ self.old.unread.items }
+        ensures passed { self.new.passed ≡ self.old.passed }
+        ensures first { self.old.state ≢ LinkState.Whole → self.new.state ≡ self.old.state }
+        ensures now { self.old.state ≡ LinkState.Whole → self.new.state ≡ LinkState.NoMemory }
+    {
+        if self.state == LinkState::Whole {
+            self.state = LinkState::NoMemory;
+        }
+    }
+
+    /// The link, which is given up as one of lines.
+    pub fn into_link(self) -> K
+        ensures { result ≡ self.link }
+    {
+        let LineLink {
+            link,
+            unread: _,
+            passed: _,
+            state: _,
+        } = self;
+        link
+    }
+}

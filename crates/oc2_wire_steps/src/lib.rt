@@ -1,0 +1,12 @@
+//! What the engine's end of a wire keeps over all that happens in a session of its own, for any parcels that it gets. The
+//! definitions stand in `specs/`.
+#![tactic(auto)]
+
+ghost use Rattle.oc2_wire_steps.specs.Kept.{BeginsKept, StepsKeepEngine};
+
+/// A session without filters keeps what the engine's end of a wire promises, at each beat, whatever it takes. It holds where a
+/// session begins on a start of that end. The function does nothing; its contract is the law.
+pub fn engine_law()
+    ensures steps { StepsKeepEngine }
+    ensures begins { BeginsKept }
+{}
