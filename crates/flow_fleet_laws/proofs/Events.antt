@@ -1,32 +1,23 @@
 -- Calls in a row keep the agreement of each run that is watched: of those that take part, and of others.
-use Rattle.std.proofs.Common.{◌≡◌, ◌≢◌, inl, inr, ℕ, zero, suc, ◌<◌, ◌≤◌, ◌^◌, List, [], ◌∷◌, length, sym, ◌∙◌, subst, ap, arith}
+use Rattle.std.proofs.Common.{◌≡◌, ◌≢◌, inl, inr, ℕ, ◌<◌, ◌≤◌, ◌^◌, List, sym, ◌∙◌, subst, ap, arith}
 use Rattle.std.specs.Prelude.{Some}
 use Rattle.std.proofs.lemmas.Bool.{cases_eq}
 use Rattle.cacao_site.specs.View.{SiteView}
 use Rattle.cacao_site.specs.Sound.{IsSound}
+use Rattle.flow_laws.specs.Fresh.{IsFresh}
 use Rattle.flow_laws.specs.Since.{AgreedSince}
 use Rattle.flow_laws.proofs.Basics.{same_some}
 use Rattle.flow_laws.proofs.Calls.{since_start}
 use Rattle.flow_fleet_laws.specs.Events.{AllOwn, CommandBy, Event, EventsKeepBothForms, EventsKeepEach, LineBy, RecordBy, EventsKeepFleets}
-use Rattle.flow_fleet_laws.specs.Events.Event.{shrinks, keeps, record_by, line_by, command_by, act_by, reply_by}
+use Rattle.flow_fleet_laws.specs.Events.Event.{shrinks, record_by, line_by, other_line, command_by, act_by, reply_by}
 use Rattle.flow_fleet_laws.specs.Events.Events.{nothing, and_then}
 use Rattle.flow_fleet_laws.specs.Fleets.{AreRuns, IsAt, IsItsOwn}
 use Rattle.flow_fleet_laws.specs.Speeches.{Form, spoken}
 use Rattle.flow_fleet_laws.specs.Speeches.Form.{without_numbers, with_numbers}
 use Rattle.flow_fleet_laws.specs.Views.{seen_from}
 use Rattle.flow_fleet_laws.proofs.Lines.{Apart}
-use Rattle.flow_fleet_laws.proofs.Others.{act_kept, kept, others_command, others_line, others_record, own_command, own_line, own_record, reply_kept, shrunk}
-
--- ---- places
-
-pub below : (runs : List ℕ) (place run : ℕ) → IsAt runs place run → place < length runs
-below [] place run at = absurd (cc)
-below (x ∷ runs) zero run at = omega arith
-below (x ∷ runs) (suc place) run at = omega (arith, below runs place run at)
-
-pub low : (form : Form) (runs : List ℕ) → AreRuns form runs → (place run : ℕ) → IsAt runs place run → place ≤ 15
-low without_numbers runs are place run at = omega (arith, below runs place run at, are.few)
-low with_numbers runs are place run at = omega (arith, below runs place run at, are.few)
+use Rattle.flow_fleet_laws.proofs.Others.{act_kept, none_line, others_command, others_line, others_record, own_command, own_line, own_record, reply_kept, shrunk}
+use Rattle.flow_fleet_laws.proofs.Places.{below, low}
 
 only_first : (runs : List ℕ) → AreRuns without_numbers runs → (place run : ℕ) → IsAt runs place run → place ≡ 0
 only_first runs are place run at = omega (arith, below runs place run at, are.few)
@@ -76,6 +67,10 @@ watched_first form other runs are run at = record {
 
 -- ---- one call
 
+-- all agreed so far for a run that takes part, and its number was fresh
+abbrev pub IsAgreedAndFresh : Form → ℕ → ℕ → SiteView → SiteView → Type 0
+IsAgreedAndFresh form place run start old = AgreedSince (spoken form run) (seen_from place start) (seen_from place old) × IsFresh (seen_from place start) run start.disk.beat
+
 -- its own line, in its form or in the other
 line_here : (form other : Form) (place run : ℕ) (start old new : SiteView) → IsSound old → AgreedSince (spoken other run) (seen_from place start) (seen_from place old)
     → run < 2 ^ 64 → IsItsOwn old place run → LineBy form place run old new → AgreedSince (spoken other run) (seen_from place start) (seen_from place new)
@@ -88,7 +83,7 @@ line_here with_numbers without_numbers place run start old new sound so_far smal
 
 module _ (form other : Form) (runs : List ℕ) (are : AreRuns form runs) (place run : ℕ) (is : IsWatched form other runs place run) (start old new : SiteView) (sound : IsSound old)
     (mine : AllOwn runs old → IsItsOwn old place run)
-    (agreed : IsAt runs place run → AgreedSince (spoken form run) (seen_from place start) (seen_from place old))
+    (agreed : IsAt runs place run → IsAgreedAndFresh form place run start old)
     (so_far : AgreedSince (spoken other run) (seen_from place start) (seen_from place old)) where
   abbrev Next : Type 0
   Next = AgreedSince (spoken other run) (seen_from place start) (seen_from place new)
@@ -101,7 +96,8 @@ module _ (form other : Form) (runs : List ℕ) (are : AreRuns form runs) (place 
     | inl same ↦
         let here = at_place taken number there same in
         let number_is = is.takes_part number here in
-        own_record other place run start old new sound so_far form (agreed (subst (λ (n : ℕ). IsAt runs place n) number_is here))
+        let was = agreed (subst (λ (n : ℕ). IsAt runs place n) number_is here) in
+        own_record other place run start old new sound so_far form was.0 was.1
         (subst (λ (n : ℕ). RecordBy form place n start old new) number_is (subst (λ (p : ℕ). RecordBy form p number start old new) same by))
     | inr ne ↦ others_record other place run start old new sound so_far taken _ is.low (low form runs are taken number there) ne by.only
   ]
@@ -126,33 +122,35 @@ module _ (form other : Form) (runs : List ℕ) (are : AreRuns form runs) (place 
   ]
 
   event_kept : Event form runs start old new → Next
-  event_kept (shrinks file only) = shrunk other place run start old new sound so_far file only
-  event_kept (keeps disk puts said) = kept other place run start old new sound so_far disk puts said
+  event_kept (shrinks only) = shrunk other place run start old new sound so_far only
   event_kept (record_by taken number there by) = record_kept taken number there by
   event_kept (line_by taken number there own by) = line_kept taken number there own by
+  event_kept (other_line line none disk puts gained) = none_line other place run start old new sound so_far line none disk puts gained
   event_kept (command_by taken number there own by) = command_kept taken number there own by
   event_kept (act_by agent by) = act_kept other place run start old new sound so_far agent by
   event_kept (reply_by by) = reply_kept other place run start old new sound so_far by
 
 pub event_kept_by : (form other : Form) (runs : List ℕ) → AreRuns form runs → (place run : ℕ) → IsWatched form other runs place run → (start old new : SiteView) → IsSound old
-    → (AllOwn runs old → IsItsOwn old place run) → (IsAt runs place run → AgreedSince (spoken form run) (seen_from place start) (seen_from place old))
+    → (AllOwn runs old → IsItsOwn old place run) → (IsAt runs place run → IsAgreedAndFresh form place run start old)
     → AgreedSince (spoken other run) (seen_from place start) (seen_from place old) → Event form runs start old new → AgreedSince (spoken other run) (seen_from place start) (seen_from place new)
 event_kept_by form other runs are place run is start old new sound mine agreed so_far event = event_kept form other runs are place run is start old new sound mine agreed so_far event
 
 -- ---- calls in a row
 
 pub events_keep_each : EventsKeepEach
-events_keep_each form runs start site are told begins nothing place run at = since_start (spoken form run) (seen_from place start) told (begins place run at)
+events_keep_each form runs start site are told begins nothing place run at = since_start (spoken form run) (seen_from place start) told (begins place run at).0
 events_keep_each form runs start site are told begins (and_then {old} {new} before sound event) place run at =
     let so_far = events_keep_each form runs start old are told begins before place run at in
-    event_kept_by form form runs are place run (watched form runs are place run at) start old new sound (λ own. own place run at) (λ here. so_far) so_far event
+    event_kept_by form form runs are place run (watched form runs are place run at) start old new sound (λ own. own place run at)
+    (λ here. (so_far, (begins place run at).1)) so_far event
 
 pub events_keep_both_forms : EventsKeepBothForms
 events_keep_both_forms form other runs start site are told begins nothing run at is = since_start (spoken other run) (seen_from 0 start) told is
 events_keep_both_forms form other runs start site are told begins (and_then {old} {new} before sound event) run at is =
     let so_far = events_keep_both_forms form other runs start old are told begins before run at is in
     event_kept_by form other runs are 0 run (watched_first form other runs are run at) start old new sound (λ own. own 0 run at)
-    (λ here. events_keep_each form runs start old are told begins before 0 run at) so_far event
+    (λ here. (events_keep_each form runs start old are told begins before 0 run at, (begins 0 run at).1)) so_far event
 
 pub events_keep_fleets : EventsKeepFleets
-events_keep_fleets runs start site are begins events = events_keep_each with_numbers runs start site are begins.told begins.start events
+events_keep_fleets runs start site are begins events =
+    events_keep_each with_numbers runs start site are begins.told (λ place run at. (begins.start place run at, begins.fresh place run at)) events

@@ -1,7 +1,12 @@
-mod Seen
+pub mod Seen
+pub mod Shrinking
 mod Numbers
 mod Lines
+mod Places
+mod Choices
 mod Others
-mod Events
-mod Bystanders
-mod Racks
+pub mod Events
+pub mod Journals
+mod Commands
+pub mod Bystanders
+pub mod Racks

@@ -1,6 +1,6 @@
 -- Lines of records, with a number before them and without.
-use Rattle.std.proofs.Common.{◌≡◌, ◌≢◌, ℕ, ◌<◌, ◌^◌, ◌&&◌, Bool, true, false, List, [], ◌∷◌, ◌++◌, arith, refl, ap, sym, subst, ◌∙◌}
-use Rattle.std.specs.Prelude.{codes, nat_eq, Option, Some, None}
+use Rattle.std.proofs.Common.{◌≡◌, ◌≢◌, ℕ, ◌<◌, ◌^◌, ◌==◌, ◌&&◌, Bool, true, false, List, [], ◌∷◌, ◌++◌, length, arith, refl, ap, sym, subst, ◌∙◌}
+use Rattle.std.specs.Prelude.{codes, nat_eq, Option, Some, None, unwrap_or}
 use Rattle.std.specs.Fmt.{decimal}
 use Rattle.std.specs.List.{list_all, list_any}
 use Rattle.std.specs.Str.{bytes_eq}
@@ -14,9 +14,10 @@ use Rattle.flow_core_rules.specs.Laws.{is_digit, AreDigits, IsRecordLine, record
 use Rattle.flow_core_rules.proofs.LineLemmas.{others_are_no_records}
 use Rattle.flow_laws.specs.Held.{IsLineOf, IsRunLine}
 use Rattle.flow_laws.specs.Journals.{run_of}
+use Rattle.flow_fleet_laws.specs.Lines.{IsNoRecords, OtherLines}
 use Rattle.flow_fleet_laws.specs.Speeches.{Form, head_of, spoken}
 use Rattle.flow_fleet_laws.specs.Speeches.Form.{without_numbers, with_numbers}
-use Rattle.flow_fleet_laws.proofs.Numbers.{are_digits, same_number}
+use Rattle.flow_fleet_laws.proofs.Numbers.{are_digits, behind_head, same_digits, same_number}
 
 -- ---- the line of each record looks like one
 
@@ -105,3 +106,57 @@ unlike without_numbers without_numbers n run bytes small small' apart said heard
 unlike without_numbers with_numbers n run bytes small small' apart said heard = headed run heard.0 heard.1 (subst IsRecordLine heard.2 said)
 unlike with_numbers without_numbers n run bytes small small' apart said heard = headed n said.0 said.1 (subst IsRecordLine said.2 heard)
 unlike with_numbers with_numbers n run bytes small small' apart said heard = apart (same_number n run said.0 heard.0 small small' (sym said.2 ∙ heard.2))
+
+-- ---- lines that are no record's
+
+-- behind a run's number a line is one where what stands behind the first digits and a space is
+numbered_by : (first rest : List ℕ) (run : ℕ) (text : List ℕ) → list_all is_digit first ≡ true → IsRecordLine text
+    → first ++ 32 ∷ rest ≡ head_of run ++ text → IsRecordLine rest
+numbered_by first rest run text digits is e =
+    let same = same_digits first (decimal run) 32 32 rest text digits (are_digits run).1 refl refl (e ∙ behind_head run text) in
+    subst IsRecordLine (sym same.2) is
+
+-- and there is none where no space stands there
+not_numbered : (first : List ℕ) (c : ℕ) (rest : List ℕ) (run : ℕ) (text : List ℕ) → list_all is_digit first ≡ true → is_digit c ≡ false → (c == 32) ≡ false
+    → first ++ c ∷ rest ≡ head_of run ++ text → ⊥
+not_numbered first c rest run text digits other no_space e =
+    let same = same_digits first (decimal run) c 32 rest text digits (are_digits run).1 other refl (e ∙ behind_head run text) in
+    let f : true ≡ false = subst (λ (n : ℕ). (n == 32) ≡ false) same.1 no_space in
+    absurd (cc)
+
+pub other_lines : OtherLines
+other_lines = record {
+  no_number = λ c rest other. record {
+    bare = others_are_no_records.no_number c rest other;
+    numbered = λ run text is e. begins_so c rest run text other e;
+  };
+  no_space = λ first c rest digits other no_space. record {
+    bare = others_are_no_records.no_space first c rest digits other no_space;
+    numbered = λ run text is e. not_numbered first c rest run text digits other no_space e;
+  };
+  no_second_number = λ first c rest digits other. record {
+    bare = others_are_no_records.no_moment first c rest digits other;
+    numbered = λ run text is e. others_are_no_records.no_number c rest other (numbered_by first (c ∷ rest) run text digits is e);
+  };
+  no_second_space = λ first second c rest digits more other no_space. record {
+    bare = others_are_no_records.no_second_space first second c rest digits more other no_space;
+    numbered = λ run text is e.
+        others_are_no_records.no_space second c rest more other no_space (numbered_by first (second ++ c ∷ rest) run text digits is e);
+  };
+  no_word = λ first second c rest digits more other no_start. record {
+    bare = others_are_no_records.no_word first second c rest digits more no_start;
+    numbered = λ run text is e.
+        others_are_no_records.no_moment second c rest more other (numbered_by first (second ++ 32 ∷ c ∷ rest) run text digits is e);
+  };
+}
+  where
+    begins_so : (c : ℕ) (rest : List ℕ) (run : ℕ) (text : List ℕ) → is_digit c ≡ false → c ∷ rest ≡ head_of run ++ text → ⊥
+    begins_so c rest run text other e =
+        let same = same_digits [] (decimal run) c 32 rest text refl (are_digits run).1 other refl (e ∙ behind_head run text) in
+        let none : 0 < 0 = subst (λ (l : List ℕ). 0 < length l) (sym same.0) (are_digits run).0 in
+        absurd (omega (arith, none))
+
+-- no run has such a line
+pub not_heard : (form : Form) (run : ℕ) (held : Option ℕ) (bytes : List ℕ) → IsNoRecords bytes → IsRunLine (spoken form run) held bytes → ⊥
+not_heard without_numbers run held bytes none is = none.bare (subst IsRecordLine (sym is.is) is.looks)
+not_heard with_numbers run held bytes none is = none.numbered (unwrap_or held run) is.line is.looks is.is

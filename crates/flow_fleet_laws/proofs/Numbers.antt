@@ -44,21 +44,29 @@ both_true true true e = (refl, refl)
 both_true true false e = let f : false ≡ true = e in absurd (cc)
 both_true false b e = let f : false ≡ true = e in absurd (cc)
 
-apart : (y : ℕ) → is_digit y ≡ true → 32 ≡ y → ⊥
-apart y digit same = let a : is_digit y ≡ false = subst (λ (z : ℕ). is_digit z ≡ false) same refl in let b : true ≡ false = sym digit ∙ a in absurd (cc)
+apart : (x y : ℕ) → is_digit x ≡ false → is_digit y ≡ true → x ≡ y → ⊥
+apart x y other digit same = let a : is_digit y ≡ false = subst (λ (z : ℕ). is_digit z ≡ false) same other in let b : true ≡ false = sym digit ∙ a in absurd (cc)
 
--- digits up to a space are the same, however they are taken
-same_digits : (xs ys a b : List ℕ) → list_all is_digit xs ≡ true → list_all is_digit ys ≡ true → xs ++ 32 ∷ a ≡ ys ++ 32 ∷ b → xs ≡ ys
-same_digits [] [] a b dx dy e = refl
-same_digits [] (y ∷ ys) a b dx dy e = let f : 32 ≡ y = cc in absurd (apart y (both_true (is_digit y) (list_all is_digit ys) dy).0 f)
-same_digits (x ∷ xs) [] a b dx dy e = let f : 32 ≡ x = cc in absurd (apart x (both_true (is_digit x) (list_all is_digit xs) dx).0 f)
-same_digits (x ∷ xs) (y ∷ ys) a b dx dy e =
+-- digits up to a character that is none are the same, however they are taken, and so is what stands behind them
+pub same_digits : (xs ys : List ℕ) (a b : ℕ) (after_a after_b : List ℕ) → list_all is_digit xs ≡ true → list_all is_digit ys ≡ true → is_digit a ≡ false → is_digit b ≡ false
+    → xs ++ a ∷ after_a ≡ ys ++ b ∷ after_b → (xs ≡ ys) × (a ≡ b) × (after_a ≡ after_b)
+same_digits [] [] a b after_a after_b dx dy na nb e = (refl, cc, cc)
+same_digits [] (y ∷ ys) a b after_a after_b dx dy na nb e =
+    let f : a ≡ y = cc in absurd (apart a y na (both_true (is_digit y) (list_all is_digit ys) dy).0 f)
+same_digits (x ∷ xs) [] a b after_a after_b dx dy na nb e =
+    let f : b ≡ x = cc in absurd (apart b x nb (both_true (is_digit x) (list_all is_digit xs) dx).0 f)
+same_digits (x ∷ xs) (y ∷ ys) a b after_a after_b dx dy na nb e =
     let f : x ≡ y = cc in
-    let g : xs ++ 32 ∷ a ≡ ys ++ 32 ∷ b = cc in
-    let rest = same_digits xs ys a b (both_true (is_digit x) (list_all is_digit xs) dx).1 (both_true (is_digit y) (list_all is_digit ys) dy).1 g in
-    cc
+    let g : xs ++ a ∷ after_a ≡ ys ++ b ∷ after_b = cc in
+    let rest = same_digits xs ys a b after_a after_b (both_true (is_digit x) (list_all is_digit xs) dx).1 (both_true (is_digit y) (list_all is_digit ys) dy).1 na nb g in
+    let h : xs ≡ ys = rest.0 in
+    (cc, rest.1, rest.2)
+
+-- a run's number, its space and what stands behind it
+pub behind_head : (n : ℕ) (text : List ℕ) → head_of n ++ text ≡ decimal n ++ 32 ∷ text
+behind_head n text = append_assoc (decimal n) (32 ∷ []) text
 
 pub same_number : (n m : ℕ) (a b : List ℕ) → n < 2 ^ 64 → m < 2 ^ 64 → head_of n ++ a ≡ head_of m ++ b → n ≡ m
 same_number n m a b small small' e =
-    decimal_injective n m small small' (same_digits (decimal n) (decimal m) a b (are_digits n).1 (are_digits m).1
-    (sym (append_assoc (decimal n) (32 ∷ []) a) ∙ e ∙ append_assoc (decimal m) (32 ∷ []) b))
+    decimal_injective n m small small' (same_digits (decimal n) (decimal m) 32 32 a b (are_digits n).1 (are_digits m).1 refl refl
+    (sym (behind_head n a) ∙ e ∙ behind_head m b)).0

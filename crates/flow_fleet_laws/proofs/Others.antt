@@ -1,52 +1,30 @@
 -- What one call does to the agreement of a run, as it sees the rack.
-use Rattle.std.proofs.Common.{◌≡◌, ◌≢◌, ◌⊎◌, inl, inr, ℕ, ◌<◌, ◌≤◌, ◌^◌, ◌==◌, Bool, true, false, List, [], ◌∷◌, ◌++◌, refl, sym, ◌∙◌, subst, ap, IsTrue, arith}
-use Rattle.std.specs.Prelude.{Some, None, Contains}
-use Rattle.std.proofs.lemmas.Bool.{cases_eq, eqb-true}
+use Rattle.std.proofs.Common.{◌≡◌, ◌≢◌, ◌⊎◌, ℕ, ◌<◌, ◌≤◌, ◌^◌, ◌==◌, Bool, true, false, List, [], ◌∷◌, ◌++◌, refl, sym, ◌∙◌, subst, ap, IsTrue, arith}
+use Rattle.std.specs.Prelude.{Some, None}
+use Rattle.std.proofs.lemmas.Bool.{eqb-true}
 use Rattle.cacao_site.specs.View.{SiteView, LinkView}
-use Rattle.cacao_site.specs.declared.parcel.Parcel.{Parcel}
-use Rattle.cacao_site.specs.DiskCalls.{IsLeft, KeepsDisk, OnlyFile}
+use Rattle.cacao_site.specs.DiskCalls.{KeepsDisk, OnlyFile}
+use Rattle.cacao_site.specs.LinkCalls.{Gains}
 use Rattle.cacao_site.specs.Sound.{IsSound}
 use Rattle.run_records.specs.declared.record.Record.{Record}
 use Rattle.flow_laws.specs.Beats.{IsFurther, IsFurtherAct}
-use Rattle.flow_laws.specs.Good.{IsChoice, IsGood}
-use Rattle.flow_laws.specs.Images.{AnyJournal, IsActs, IsRecords, puts_to}
+use Rattle.flow_laws.specs.Fresh.{IsFresh}
+use Rattle.flow_laws.specs.Images.{IsActs}
 use Rattle.flow_laws.specs.Journals.{IsSent, run_of}
 use Rattle.flow_laws.specs.Since.{AgreedSince}
-use Rattle.flow_laws.proofs.Basics.{put_at, put_at-each, put_at-same, same_some}
-use Rattle.flow_laws.proofs.OneList.{same_records}
+use Rattle.flow_laws.proofs.Basics.{same_some}
 use Rattle.flow_laws.proofs.Calls.{since_quiet, since_record, since_act_put, since_command, since_foreign, since_line, since_other_line, since_reply_put}
 use Rattle.flow_fleet_laws.specs.Events.{ActBy, CommandBy, LineBy, RecordBy, ReplyBy}
 use Rattle.flow_fleet_laws.specs.Fleets.{IsItsOwn}
+use Rattle.flow_fleet_laws.specs.Lines.{IsNoRecords}
+use Rattle.flow_fleet_laws.specs.Shrinking.{OnlyShrinks}
 use Rattle.flow_fleet_laws.specs.Speeches.{Form, head_of, spoken}
 use Rattle.flow_fleet_laws.specs.Speeches.Form.{without_numbers, with_numbers}
 use Rattle.cacao_site.specs.RunViews.{file_of, rack_file}
 use Rattle.flow_fleet_laws.specs.Views.{seen_from}
-use Rattle.flow_fleet_laws.proofs.Lines.{Apart, Says, heard_line, says_line, unlike}
+use Rattle.flow_fleet_laws.proofs.Lines.{Apart, Says, heard_line, not_heard, says_line, unlike}
+use Rattle.flow_fleet_laws.proofs.Choices.{sent_by_good}
 use Rattle.flow_fleet_laws.proofs.Seen.{filter_file, goes_on-seen, keeps-seen, not_others, only-seen, puts-seen, sound-seen}
-
--- ---- a command that was put is a Send of each journal of its run
-
-module _ (site : SiteView) (sound : IsSound site) (told : IsTrue site.disk.told) (good : IsGood site site.disk.beat) where
-  some : ℕ → List ℕ
-  some file = (sound.images file site.disk.beat told (omega arith)).0
-
-  some_left : (file : ℕ) → IsLeft site.disk file site.disk.beat (some file)
-  unfolding some
-  some_left file = (sound.images file site.disk.beat told (omega arith)).1
-
-  with_image : (file : ℕ) (image : List ℕ) → IsLeft site.disk file site.disk.beat image → IsChoice site site.disk.beat (put_at file image some)
-  with_image file image left = λ other le. put_at-each (λ (n : ℕ) (l : List ℕ). IsLeft site.disk n site.disk.beat l) file image some other
-      (λ e. subst (λ (n : ℕ). IsLeft site.disk n site.disk.beat image) (sym e) left)
-      (λ ne. some_left other)
-
-  sent_by_good : (at : ℕ) (parcel : Parcel) → Contains (puts_to site site.disk.beat) (at, parcel) → parcel.back ≡ false
-      → AnyJournal site site.disk.beat (λ records. run_of records ≡ Some parcel.run → IsSent records parcel.issue parcel.agent parcel.bytes)
-  sent_by_good at parcel put command image records left stands of =
-      let g = good.each (put_at 0 image some) (with_image 0 image left) in
-      let here : IsRecords image g.records = subst (λ (l : List ℕ). IsRecords l g.records) (put_at-same 0 image some) g.are_records in
-      let one : g.records ≡ records = same_records image g.records records here stands in
-      subst (λ (l : List Record). IsSent l parcel.issue parcel.agent parcel.bytes) one
-      (g.agree.commands at parcel put command (subst (λ (l : List Record). run_of l ≡ Some parcel.run) (sym one) of))
 
 -- ---- a first record in each form
 
@@ -88,20 +66,17 @@ module _ (form : Form) (place run : ℕ) (start old new : SiteView) (sound : IsS
   abbrev After : Type 0
   After = AgreedSince (spoken form run) (seen_from place start) (seen_from place new)
 
-  pub shrunk : (file : ℕ) → OnlyFile file old new (IsLeft old.disk file old.disk.beat) → After
-  shrunk file only =
-      since_quiet (spoken form run) (seen_from place start) (seen_from place old) (seen_from place new) so_far (sound-seen place old sound) (goes_on-seen place only.each.goes_on)
-      (λ f le beat image from to left. elim (cases_eq (rack_file place f) file) [
-        | inl is ↦ subst (λ (n : ℕ). IsLeft old.disk n old.disk.beat image) (sym is)
-            (only.each.each so_far.told beat image from to (subst (λ (n : ℕ). IsLeft new.disk n beat image) is left))
-        | inr ne ↦ subst IsTrue ((only.others (rack_file place f) ne).images beat image from to) left
-      ])
-      (ap (λ (l : LinkView). l.puts) only.rest.link) (ap (λ (l : LinkView). l.said) only.rest.link)
+  pub shrunk : OnlyShrinks old new → After
+  shrunk only =
+      since_quiet (spoken form run) (seen_from place start) (seen_from place old) (seen_from place new) so_far (sound-seen place old sound) (goes_on-seen place only.goes_on)
+      (λ f le beat image from to left. only.images (rack_file place f) beat image from to left) only.puts only.said
 
-  pub kept : KeepsDisk old.disk new.disk → new.link.puts ≡ old.link.puts → new.link.said ≡ old.link.said → After
-  kept disk puts said =
-      since_quiet (spoken form run) (seen_from place start) (seen_from place old) (seen_from place new) so_far (sound-seen place old sound) (goes_on-seen place disk.goes_on)
-      (λ f le beat image from to left. subst IsTrue ((disk.stays (rack_file place f)).images beat image from to) left) puts said
+  -- a line that is no record's
+  pub none_line : (line : List ℕ) → IsNoRecords line → KeepsDisk old.disk new.disk → new.link.puts ≡ old.link.puts
+      → Gains old.link.said (new.disk.beat, line) new.link.said → After
+  none_line line none disk puts gained =
+      since_other_line (spoken form run) (seen_from place start) (seen_from place old) (seen_from place new) so_far (sound-seen place old sound)
+      line (keeps-seen place disk) puts gained (λ image records left are is. not_heard form run (run_of records) line none is)
 
   -- ---- of another run
 
@@ -132,10 +107,11 @@ module _ (form : Form) (place run : ℕ) (start old new : SiteView) (sound : IsS
 
   -- ---- its own
 
-  pub own_record : (how : Form) → AgreedSince (spoken how run) (seen_from place start) (seen_from place old) → RecordBy how place run start old new → After
-  own_record how agreed by =
+  pub own_record : (how : Form) → AgreedSince (spoken how run) (seen_from place start) (seen_from place old) → IsFresh (seen_from place start) run start.disk.beat
+      → RecordBy how place run start old new → After
+  own_record how agreed fresh by =
       let some = sound.images (file_of place) old.disk.beat so_far.told (omega arith) in
-      let further = by.further (agreed.each old.disk.beat agreed.later (omega arith)) in
+      let further = by.further fresh (agreed.each old.disk.beat agreed.later (omega arith)) in
       since_record (spoken form run) (seen_from place start) (seen_from place old) (seen_from place new) so_far (sound-seen place old sound) by.records by.next
       (only-seen place 0 _ by.only) (record { image = some.0; left = some.1 }) by.before
       (further_in how form run (seen_from place old) old.disk.beat by.records by.next by.begins further)
@@ -165,7 +141,7 @@ module _ (form : Form) (place run : ℕ) (start old new : SiteView) (sound : IsS
         other = by.other;
         replied = by.replied;
         sent = λ image records left stands of.
-            let sent = sent_by_good v (sound-seen place old sound) so_far.told now.good by.at by.parcel by.put by.command image records left stands (of ∙ ap Some by.run_is) in
+            let sent = sent_by_good v (sound-seen place old sound) so_far.told old.disk.beat (omega arith) now.good by.at by.parcel by.put by.command image records left stands (of ∙ ap Some by.run_is) in
             subst (λ (n : ℕ). IsSent records n agent by.act.command) (sym by.issue_is)
             (subst (λ (n : ℕ). IsSent records by.parcel.issue n by.act.command) by.agent_is
             (subst (λ (l : List ℕ). IsSent records by.parcel.issue by.parcel.agent l) (sym by.bytes_is) sent));

@@ -1,5 +1,5 @@
 -- Promise: What happens on a rack under runs that go on side by side, call by call, as far as agreement goes.
-use Rattle.std.specs.Prelude.{◌≡◌, ◌⊎◌, ℕ, true, false, List, [], ◌∷◌, ◌++◌, All, Contains, Some, IsTrue}
+use Rattle.std.specs.Prelude.{◌≡◌, ◌⊎◌, ℕ, ◌≤◌, true, false, List, [], ◌∷◌, ◌++◌, All, Contains, Some, IsTrue}
 use Rattle.cacao_site.specs.View.{SiteView}
 use Rattle.cacao_site.specs.declared.parcel.Parcel.{Parcel}
 use Rattle.cacao_site.specs.DiskCalls.{IsLeft, KeepsDisk, OnlyFile}
@@ -12,11 +12,14 @@ use Rattle.slpf_rules_acts.specs.Acts.{IsOther, IsReplied}
 use Rattle.flow_laws.specs.Acts.{HasReply, IsBytes}
 use Rattle.flow_laws.specs.Beats.{IsFurther}
 use Rattle.flow_laws.specs.Held.{HasOpenSend, IsLineOf}
-use Rattle.flow_laws.specs.Images.{EachFilter, EachJournal, IsActs, IsAgent, IsRecords, puts_to}
+use Rattle.flow_laws.specs.Fresh.{IsFresh}
+use Rattle.flow_laws.specs.Images.{EachFilter, EachJournal, IsActs, IsAgent, IsRecords, puts_of, puts_to, session_puts}
 use Rattle.flow_laws.specs.Journals.{run_of}
 use Rattle.flow_laws.specs.Sessions.{IsStart}
 use Rattle.flow_laws.specs.Since.{Agreed}
-use Rattle.flow_fleet_laws.specs.Fleets.{AreRuns, IsAt, IsBystander, IsItsOwn, KeepsBystander, KeepsOne, IsFleetStart, KeepsEach}
+use Rattle.flow_fleet_laws.specs.Fleets.{AreRuns, IsAt, IsBystander, IsFleetStart, IsItsOwn, IsOwnAt, KeepsBystander, KeepsEach, KeepsOne}
+use Rattle.flow_fleet_laws.specs.Lines.{IsNoRecords}
+use Rattle.flow_fleet_laws.specs.Shrinking.{OnlyShrinks}
 use Rattle.flow_fleet_laws.specs.Speeches.Form.{with_numbers}
 use Rattle.flow_fleet_laws.specs.Speeches.{Form, spoken}
 use Rattle.cacao_site.specs.RunViews.{file_of}
@@ -24,14 +27,15 @@ use Rattle.flow_fleet_laws.specs.Views.{seen_from}
 
 -- ---- one call
 
--- The journal at a place may have gained a record, which is a further one where all agrees there. A first record is of the run's
--- number.
+-- The journal at a place may have gained a record, which is a further one where all agrees there and the number was fresh. A
+-- first record is of the run's number.
 pub record RecordBy (form : Form) (place run : ℕ) (start old new : SiteView) : Type 0 where
   pub records : List Record
   pub next : Record
   pub only : OnlyFile (file_of place) old new (λ image. IsRecords image records ⊎ IsRecords image (records ++ next ∷ []))
   pub before : (image : List ℕ) → IsLeft old.disk (file_of place) old.disk.beat image → IsRecords image records
-  pub further : Agreed (spoken form run) (seen_from place start) (seen_from place old) old.disk.beat
+  pub further : IsFresh (seen_from place start) run start.disk.beat
+      → Agreed (spoken form run) (seen_from place start) (seen_from place old) old.disk.beat
       → IsFurther (spoken form run) (seen_from place old) old.disk.beat records next
   pub begins : records ≡ [] → run_of (next ∷ []) ≡ Some run
 
@@ -81,15 +85,16 @@ pub record ReplyBy (old new : SiteView) : Type 0 where
 abbrev pub AllOwn : List ℕ → SiteView → Type 0
 AllOwn runs site = (place run : ℕ) → IsAt runs place run → IsItsOwn site place run
 
--- One call: a file has fewer images; nothing that is spoken of changes; or one of these runs, or a filter, does something. Lines are
--- said and commands are put once each run's journal is known to be its own.
+-- One call: each file has at most the images that it had, and nothing is put or said; or one of these runs, or a filter, does
+-- something; or a line is said that is no record's. Lines of records are said and commands are put once each run's journal is
+-- known to be its own.
 pub data Event (form : Form) (runs : List ℕ) (start old new : SiteView) : Type 0 where
-  shrinks : (file : ℕ) → OnlyFile file old new (IsLeft old.disk file old.disk.beat) → Event form runs start old new
-  keeps : KeepsDisk old.disk new.disk → new.link.puts ≡ old.link.puts → new.link.said ≡ old.link.said
-      → Event form runs start old new
+  shrinks : OnlyShrinks old new → Event form runs start old new
   record_by : (place run : ℕ) → IsAt runs place run → RecordBy form place run start old new → Event form runs start old new
   line_by : (place run : ℕ) → IsAt runs place run → AllOwn runs old → LineBy form place run old new
       → Event form runs start old new
+  other_line : (line : List ℕ) → IsNoRecords line → KeepsDisk old.disk new.disk → new.link.puts ≡ old.link.puts
+      → Gains old.link.said (new.disk.beat, line) new.link.said → Event form runs start old new
   command_by : (place run : ℕ) → IsAt runs place run → AllOwn runs old → CommandBy place run old new
       → Event form runs start old new
   act_by : (agent : ℕ) → ActBy agent old new → Event form runs start old new
@@ -103,9 +108,10 @@ pub data Events (form : Form) (runs : List ℕ) (start : SiteView) : SiteView �
 
 -- ---- the laws, for all calls in a row
 
--- each run may begin, as it sees the rack
+-- each run may begin, as it sees the rack, under a fresh number
 abbrev pub StartsEach : Form → List ℕ → SiteView → Type 0
-StartsEach form runs start = (place run : ℕ) → IsAt runs place run → IsStart (spoken form run) (seen_from place start)
+StartsEach form runs start = (place run : ℕ) → IsAt runs place run
+    → IsStart (spoken form run) (seen_from place start) × IsFresh (seen_from place start) run start.disk.beat
 
 -- Where each run might begin, all agrees for each of them at every beat, with the same acts and the one list of parcels.
 abbrev pub EventsKeepEach : Type 0
@@ -129,3 +135,17 @@ abbrev pub EventsKeepBystanders : Type 0
 EventsKeepBystanders = (form : Form) (runs : List ℕ) (start site : SiteView) → AreRuns form runs → IsTrue start.disk.told
     → Events form runs start site
     → (place run : ℕ) → IsBystander runs start place run → KeepsBystander start site place run
+
+-- A journal that is its own run's at the start is so at each beat, whether the run takes part or not, where no other has its
+-- place.
+abbrev pub EventsKeepOwn : Type 0
+EventsKeepOwn = (form : Form) (runs : List ℕ) (start site : SiteView) → AreRuns form runs → IsTrue start.disk.told
+    → Events form runs start site
+    → (place run : ℕ) → place ≤ 15 → ((number : ℕ) → IsAt runs place number → number ≡ run) → IsItsOwn start place run
+    → (beat : ℕ) → start.disk.beat ≤ beat → beat ≤ site.disk.beat → IsOwnAt site beat place run
+
+-- Each command that was put in these calls carries the number of one of the runs.
+abbrev pub EventsPutOwn : Type 0
+EventsPutOwn = (form : Form) (runs : List ℕ) (start site : SiteView) → Events form runs start site
+    → (at : ℕ) (parcel : Parcel) → Contains (session_puts (puts_of start) site site.disk.beat) (at, parcel) → parcel.back ≡ false
+    → (place : ℕ) × IsAt runs place parcel.run

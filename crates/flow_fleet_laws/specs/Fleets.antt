@@ -1,5 +1,5 @@
 -- Promise: The runs of a fleet, those beside them, and when their agreement is kept.
-use Rattle.std.specs.Prelude.{◌≡◌, ◌≢◌, ℕ, ◌<◌, ◌≤◌, ◌^◌, List, length, Some, IsTrue, slice_get}
+use Rattle.std.specs.Prelude.{◌≡◌, ◌≢◌, ℕ, ◌<◌, ◌≤◌, ◌^◌, List, length, Some, IsSome, IsTrue, slice_get}
 use Rattle.cacao_site.specs.View.{SiteView}
 use Rattle.flow_laws.specs.Beats.{Among}
 use Rattle.flow_laws.specs.Fresh.{IsFresh}
@@ -22,10 +22,14 @@ pub record AreRuns (form : Form) (runs : List ℕ) : Type 0 where
   pub small : (place run : ℕ) → IsAt runs place run → run < 2 ^ 64
   pub once : (place other run : ℕ) → IsAt runs place run → IsAt runs other run → other ≡ place
 
--- the journal at a place is of the run with this number: no image of it stands for records of another number
+-- at this beat the journal at a place is of the run with this number: no image of it stands for records of another number
+abbrev pub IsOwnAt : SiteView → ℕ → ℕ → ℕ → Type 0
+IsOwnAt site beat place run =
+    AnyJournal (seen_from place site) beat (λ records. (other : ℕ) → run_of records ≡ Some other → other ≡ run)
+
+-- so it is now
 abbrev pub IsItsOwn : SiteView → ℕ → ℕ → Type 0
-IsItsOwn site place run =
-    AnyJournal (seen_from place site) site.disk.beat (λ records. (other : ℕ) → run_of records ≡ Some other → other ≡ run)
+IsItsOwn site place run = IsOwnAt site site.disk.beat place run
 
 -- all agrees at each beat of a call, as the run at this place sees it
 abbrev pub KeepsOne : (ℕ → Speech) → SiteView → SiteView → ℕ → ℕ → Type 0
@@ -33,9 +37,12 @@ KeepsOne how start site place run = AgreedSince (how run) (seen_from place start
 
 -- ---- of a fleet, whose lines have numbers
 
--- A fleet may begin here, under fresh numbers: each of its runs may, as it sees the rack.
+-- A fleet may begin here, under fresh numbers: the rack tells its files and its parcels, and each of the runs may begin, as it
+-- sees the rack.
 pub record IsFleetStart (site : SiteView) (runs : List ℕ) : Type 0 where
   pub told : IsTrue site.disk.told
+  pub puts : IsSome site.link.puts
+  pub pending : IsSome site.link.pending
   pub start : (place run : ℕ) → IsAt runs place run → IsStart (numbered run) (seen_from place site)
   pub fresh : (place run : ℕ) → IsAt runs place run → IsFresh (seen_from place site) run site.disk.beat
 

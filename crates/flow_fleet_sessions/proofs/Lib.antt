@@ -1,0 +1,6 @@
+mod Openings
+mod Records
+mod Calls
+mod Steps
+mod Sessions
+mod Beside
