@@ -22,6 +22,12 @@ sys.dont_write_bytecode = True
 from stand_ins import BUILD, FILES, KEPT, RT  # noqa: E402
 
 
+def heed_signals():
+    """A shell can't trap what was ignored when it began, as it is in a job in the background or behind nohup."""
+    for number in (signal.SIGINT, signal.SIGHUP, signal.SIGTERM):
+        signal.signal(number, signal.SIG_DFL)
+
+
 class Repository(unittest.TestCase):
     """A small repository with the launcher, in a path with spaces, and a toolchain beside it."""
 
@@ -60,7 +66,7 @@ class Repository(unittest.TestCase):
 
     def started(self, *words, command=None, **more):
         how = {"stdin": subprocess.DEVNULL, "stdout": subprocess.PIPE, "stderr": subprocess.PIPE, "text": True, "cwd": self.room, "env": {**self.environment, **more}}
-        return subprocess.Popen([str(command or self.top / "cacao"), *words], start_new_session=True, **how)
+        return subprocess.Popen([str(command or self.top / "cacao"), *words], start_new_session=True, preexec_fn=heed_signals, **how)
 
     def says(self, wanted, *words, status=0, of_errors=None, **more):
         """Calls the launcher and compares what it says and its status."""
@@ -372,7 +378,7 @@ class Gate(Repository):
         for path in (".ci/run", "bench/gate.sh"):
             (self.top / path).parent.mkdir(exist_ok=True)
             shutil.copy(ROOT / path, self.top / path)
-        for name in ("wrong_bodies.py", "launcher_tests.py"):
+        for name in ("tree_checks.py", "tree_tests.py", "wrong_bodies.py", "launcher_tests.py"):
             self.write(self.top / "bench" / name, f'#!/bin/sh\necho "{name} $*" >>"$NOTES/checks"\n')
             (self.top / "bench" / name).chmod(0o755)
 
@@ -389,7 +395,8 @@ class Gate(Repository):
             self.assertEqual(self.says("proved b\n", "b", command=self.top / "cacao-view"), "")
             self.assertEqual(self.left(), [])
             shutil.rmtree(self.top / ".build")
-        self.assertEqual((self.notes / "checks").read_text(), "wrong_bodies.py --stand\nlauncher_tests.py \n")
+        wanted = "tree_checks.py \ntree_tests.py \nwrong_bodies.py --stand\nlauncher_tests.py \n"
+        self.assertEqual((self.notes / "checks").read_text(), wanted)
         self.assertEqual((self.notes / "rt").read_text(), "ci in a repository\n" * 2)
 
     def test_a_gate_that_fails(self):
