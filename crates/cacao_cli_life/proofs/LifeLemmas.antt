@@ -1,5 +1,5 @@
 -- Agreement along a life, and the beginning of one.
-use Rattle.std.proofs.Common.{◌≡◌, ℕ, ◌≤◌, List, [], arith, refl, sym, subst}
+use Rattle.std.proofs.Common.{◌≡◌, ◌⊎◌, inl, inr, ℕ, ◌≤◌, List, [], arith, refl, sym, subst}
 use Rattle.std.specs.Prelude.{IsSome, IsTrue, Option, Some, None}
 use Rattle.cacao_site.specs.DiskCalls.{IsLeft}
 use Rattle.cacao_site.specs.View.{SiteView}
@@ -13,7 +13,7 @@ use Rattle.flow_laws.proofs.Blank.{begins_on_blank_files}
 use Rattle.flow_world.specs.Sessions.{KeepsAgreement}
 use Rattle.cacao_cli_ends.specs.Asked.{Asked, canonises, checks, runs, shows, lists_rules, decides, shadows, rehearses, audits}
 use Rattle.cacao_cli_status_laws.specs.Agreement.{Agrees, MayBegin}
-use Rattle.cacao_cli_life.specs.Lives.{AgreesThroughout, AllAgrees, EachCallMayBegin, EachLifeAgrees, HasItsNumber, Life, TakesJournalAway, Tells}
+use Rattle.cacao_cli_life.specs.Lives.{AgreesThroughout, AllAgrees, EachBeatHasImages, EachCallMayBegin, EachLifeAgrees, HasItsNumber, Life, TakesJournalAway, Tells}
 use Rattle.cacao_cli_life.specs.Lives.Life.{begins, calls, crashes, loses_journal}
 
 -- ---- where a call or a crash has just been
@@ -25,7 +25,7 @@ at_once origin site start fresh = record {
   later = omega arith;
   each = λ beat from to.
       let now : beat ≡ site.disk.beat = omega (arith, from, to) in
-      subst (λ (b : ℕ). AllAgrees origin site site b) (sym now) (record { good = start.good; held = start.held; fresh = fresh });
+      subst (λ (b : ℕ). AllAgrees origin site site b) (sym now) (record { good = start.good; held = start.held; fresh = fresh; kept = λ run was. was });
 }
 
 -- a site is what a crash at its last beat may leave
@@ -59,27 +59,33 @@ stands origin start site agrees = restarts origin start site site site.disk.beat
 starts : (origin site : SiteView) → AgreesThroughout origin site site → IsStart plain site
 starts origin site agrees = let now = agrees.each site.disk.beat (omega arith) (omega arith) in record { good = now.good; held = now.held }
 
-agrees_now : (origin site : SiteView) → AgreesThroughout origin site site → Tells site → Agrees site
-agrees_now origin site agrees tells = record { told = tells.files; start = starts origin site agrees }
+agrees_now : (origin site : SiteView) → AgreesThroughout origin site site → IsTrue site.disk.told → Agrees site
+agrees_now origin site agrees told = record { told = told; start = starts origin site agrees }
 
-may_begin_now : (origin site : SiteView) (wanted : Option Asked) → AgreesThroughout origin site site → Tells site → HasItsNumber wanted origin
+-- its number is fresh now
+number_now : (origin site : SiteView) (run : ℕ) → AgreesThroughout origin site site → IsFresh site run site.disk.beat ⊎ IsUnused origin run origin.disk.beat
+    → IsFresh site run site.disk.beat
+number_now origin site run agrees (inl fresh) = fresh
+number_now origin site run agrees (inr unused) = (agrees.each site.disk.beat (omega arith) (omega arith)).fresh run unused
+
+may_begin_now : (origin site : SiteView) (wanted : Option Asked) → AgreesThroughout origin site site → Tells wanted site → HasItsNumber wanted origin site
     → MayBegin wanted site
-may_begin_now origin site None agrees tells number = agrees_now origin site agrees tells
-may_begin_now origin site (Some (canonises book)) agrees tells number = agrees_now origin site agrees tells
-may_begin_now origin site (Some (checks books)) agrees tells number = agrees_now origin site agrees tells
+may_begin_now origin site None agrees told number = agrees_now origin site agrees told
+may_begin_now origin site (Some (canonises book)) agrees told number = agrees_now origin site agrees told
+may_begin_now origin site (Some (checks books)) agrees told number = agrees_now origin site agrees told
 may_begin_now origin site (Some (runs wanted)) agrees tells number = record {
   told = tells.files;
   puts = tells.puts;
   pending = tells.pending;
   start = starts origin site agrees;
-  fresh = (agrees.each site.disk.beat (omega arith) (omega arith)).fresh wanted.run number;
+  fresh = number_now origin site wanted.run agrees number;
 }
-may_begin_now origin site (Some shows) agrees tells number = agrees_now origin site agrees tells
-may_begin_now origin site (Some (lists_rules agent)) agrees tells number = agrees_now origin site agrees tells
-may_begin_now origin site (Some (decides agent packets)) agrees tells number = agrees_now origin site agrees tells
-may_begin_now origin site (Some (shadows agent)) agrees tells number = agrees_now origin site agrees tells
-may_begin_now origin site (Some (rehearses positions)) agrees tells number = agrees_now origin site agrees tells
-may_begin_now origin site (Some (audits engine filters)) agrees tells number = agrees_now origin site agrees tells
+may_begin_now origin site (Some shows) agrees told number = agrees_now origin site agrees told
+may_begin_now origin site (Some (lists_rules agent)) agrees told number = agrees_now origin site agrees told
+may_begin_now origin site (Some (decides agent packets)) agrees told number = agrees_now origin site agrees told
+may_begin_now origin site (Some (shadows agent)) agrees told number = agrees_now origin site agrees told
+may_begin_now origin site (Some (rehearses positions)) agrees told number = agrees_now origin site agrees told
+may_begin_now origin site (Some (audits engine filters)) agrees told number = agrees_now origin site agrees told
 
 -- and at each of its beats
 called : (origin old new : SiteView) → AgreesThroughout origin old old → KeepsAgreement old new → AgreesThroughout origin old new
@@ -91,6 +97,7 @@ called origin old new agrees keeps = record {
         good = then.good;
         held = then.held;
         fresh = λ run unused. then.fresh run refl ((agrees.each old.disk.beat (omega arith) (omega arith)).fresh run unused);
+        kept = λ run was. then.fresh run refl was;
       };
 }
 
@@ -105,10 +112,16 @@ each_life_agrees origin start site (calls _ before old _ wanted lived tells numb
     called origin old site now (keeps (may_begin_now origin old wanted now tells number))
 each_life_agrees origin start site (crashes _ before old _ beat lived from to is) =
     restarts origin before old site beat (each_life_agrees origin before old lived) from to is
-each_life_agrees origin start site (loses_journal first before old _ beat lived from to told sound away) =
-    let image = sound.images 0 beat told to in
-    taken_away first before old site beat (each_life_agrees first before old lived) from to (record { image = image.0; left = image.1 }) away
+each_life_agrees origin start site (loses_journal first before old _ beat lived from to some away) =
+    taken_away first before old site beat (each_life_agrees first before old lived) from to some away
 
 pub each_call_may_begin : EachCallMayBegin
 each_call_may_begin origin start site wanted lived tells number =
     may_begin_now origin site wanted (stands origin start site (each_life_agrees origin start site lived)) tells number
+
+-- ---- images
+
+pub each_beat_has_images : EachBeatHasImages
+each_beat_has_images site file beat sound told to =
+    let image = sound.images file beat told to in
+    record { image = image.0; left = image.1 }

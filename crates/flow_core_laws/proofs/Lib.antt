@@ -4,4 +4,6 @@ mod OwnRecords
 pub mod OwnTask
 pub mod Children
 mod StaysEnabled
+mod FilledLemmas
+mod SameBytes
 mod ParallelExamples

@@ -1,5 +1,5 @@
 -- What each record changes, by its edits: all are its own task's, but that an Upgrade has none but its mark.
-use Rattle.std.proofs.Common.{◌≡◌, ℕ, ◌+◌, ◌==◌, ◌&&◌, Bool, true, false, cond, List, [], ◌∷◌, length, Option, Some, None, refl, subst}
+use Rattle.std.proofs.Common.{◌≡◌, ℕ, ◌+◌, ◌==◌, ◌&&◌, Bool, true, false, cond, List, [], ◌∷◌, length, Some, None, refl, subst}
 use Rattle.std.specs.Prelude.{IfSome, is_none, option_map, not, nat_le}
 use Rattle.std.specs.Str.{bytes_eq}
 use Rattle.run_records.specs.declared.record.Record.{Record}

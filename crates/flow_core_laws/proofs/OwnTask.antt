@@ -15,7 +15,7 @@ use Rattle.flow_core_rules.specs.declared.issues.IssuePhase.TheVariants as issue
 use Rattle.flow_core_rules.specs.State.{State, Shown, shown}
 use Rattle.flow_core_rules.specs.Edits.{Edit, edited, all_edited, changed_at, closed}
 use Rattle.flow_core_rules.specs.Edits.Edit.{opens, writes, makes, moves, issues, closes, upgrades}
-use Rattle.flow_core_rules.specs.Changes.{change, moment_of}
+use Rattle.flow_core_rules.specs.Changes.{moment_of}
 use Rattle.flow_core_rules.specs.Runs.{Next, after}
 use Rattle.flow_core_rules.specs.Laws.{issued_by}
 use Rattle.flow_core_rules.proofs.RunLemmas.{some_inner}
@@ -23,8 +23,8 @@ use Rattle.flow_core_rules.proofs.QuietLemmas.{keeps_issues, keeps_given}
 use Rattle.flow_core_rules.proofs.ShapeLemmas.{new_issue, Issued, IssueShape, change_shape}
 use Rattle.flow_core_rules.proofs.IssueLemmas.{WasAt, get_push, get_below, get_changed, issued-after, closed-after}
 use Rattle.flow_core_rules.proofs.KeepLemmas.{records_keep_issues}
-use Rattle.flow_core_rules.proofs.TaskLemmas.{tasks_after, tasks_are, get_set, get_pushed, get_within, set_here, set_other, set_length, push_front}
-use Rattle.flow_core_laws.specs.OwnTask.{owner_of, task_of, KeepsPlace, Goes, IsNewChild, MayMake, KeepsTasks, AreOfStep, MayOpen, home_for, IsInPlace, KeepsTexts, KeepsOtherIssues, UpgradesAlone, ChangesOwnTask, RecordsChangeOwnTask}
+use Rattle.flow_core_rules.proofs.TaskLemmas.{tasks_after, tasks_are, get_set, get_pushed, get_within, set_here, set_other, push_front}
+use Rattle.flow_core_laws.specs.OwnTask.{owner_of, task_of, KeepsPlace, Goes, IsNewChild, MayMake, AreOfStep, MayOpen, home_for, IsInPlace, KeepsOtherIssues, UpgradesAlone, ChangesOwnTask, RecordsChangeOwnTask}
 use Rattle.flow_core_laws.proofs.Somes.{none_some, clash}
 use Rattle.flow_core_laws.proofs.OwnEdits.{IsAround, IsPlaced, AreOwn, OwnEdits}
 use Rattle.flow_core_laws.proofs.OwnRecords.{OwnShape, change_own}
@@ -306,6 +306,27 @@ added s (entry.Told n moment status text) es shape =
 added s (entry.Expire n moment) es shape =
     none_closed s (entry.Expire n moment) (all_edited es s).issues n issue_phase.Expired (closed-after es shape.rest s n issue_phase.Expired shape.edits_are shape.quiet)
 
+changed_length : {A : Type 0} (n : ℕ) (f : A → A) (xs : List A) → length (changed_at n f xs) ≡ length xs
+changed_length n f [] = refl
+changed_length zero f (x ∷ xs) = refl
+changed_length (suc n) f (x ∷ xs) = ap suc (changed_length n f xs)
+
+some_none : {A : Type 0} (x : A) → Some x ≡ None → ⊥
+some_none x h = cc
+
+same_count : (s : State) (r : Record) (es : List Edit) → IssueShape (shown s) r es → issued_by r ≡ None → length (all_edited es s).issues ≡ length s.issues
+same_count s (entry.Begin run moment books bind) es shape quiet = absurd shape
+same_count s (entry.Walk task moment) es shape quiet = ap (λ (is : List Issue). length is) (keeps_issues es s shape)
+same_count s (entry.Send task n agent moment bytes) es shape quiet = absurd (some_none n quiet)
+same_count s (entry.Ask task n moment bytes) es shape quiet = absurd (some_none n quiet)
+same_count s (entry.Upgrade version moment) es shape quiet = ap (λ (xs : List Edit). length (all_edited xs s).issues) shape
+same_count s (entry.Reply n moment status rule text) es shape quiet =
+    ap (λ (is : List Issue). length is) (closed-after es shape.rest s n (issue_phase.Answered status) shape.edits_are shape.quiet) ∙ changed_length n (closed (issue_phase.Answered status)) s.issues
+same_count s (entry.Told n moment status text) es shape quiet =
+    ap (λ (is : List Issue). length is) (closed-after es shape.rest s n (issue_phase.Told status) shape.edits_are shape.quiet) ∙ changed_length n (closed (issue_phase.Told status)) s.issues
+same_count s (entry.Expire n moment) es shape quiet =
+    ap (λ (is : List Issue). length is) (closed-after es shape.rest s n issue_phase.Expired shape.edits_are shape.quiet) ∙ changed_length n (closed issue_phase.Expired) s.issues
+
 -- ---- the law
 
 -- the law from its parts, of which three go by the kind of the record
@@ -370,4 +391,5 @@ records_change_own_task s new r next =
     (changed s r next.edits (change_own (shown s) r next.edits next.change_is) (record {
       kept = records_keep_issues s there r again;
       added = added s r next.edits (change_shape (shown s) r next.edits next.change_is);
+      none_added = same_count s r next.edits (change_shape (shown s) r next.edits next.change_is);
     }))

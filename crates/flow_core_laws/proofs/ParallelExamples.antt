@@ -19,7 +19,7 @@ use Rattle.cacao_book.specs.declared.step_kinds.StepKind.TheVariants as does
 use Rattle.flow_core_rules.specs.declared.moves.Move.TheVariants as move
 use Rattle.flow_core_rules.specs.declared.tasks.Task.{Task}
 use Rattle.flow_core_rules.specs.Givens.{Given}
-use Rattle.flow_core_rules.specs.State.{State, shown, value}
+use Rattle.flow_core_rules.specs.State.{State, shown}
 use Rattle.flow_core_rules.specs.Changes.{change}
 use Rattle.flow_core_rules.specs.Runs.{begun}
 use Rattle.flow_core_rules.specs.Moves.{record_of}

@@ -1,5 +1,5 @@
 -- What may come next stays so after a record of another task.
-use Rattle.std.proofs.Common.{◌≡◌, ℕ, suc, ◌+◌, ◌≤◌, ◌==◌, ◌&&◌, Bool, true, false, cond, List, [], ◌∷◌, length, Option, Some, None, is_some, arith, refl, ap, sym, subst, ◌∙◌}
+use Rattle.std.proofs.Common.{◌≡◌, ℕ, ◌+◌, ◌≤◌, ◌==◌, ◌&&◌, Bool, true, false, cond, List, [], ◌∷◌, length, Option, Some, None, is_some, arith, refl, ap, sym, subst, ◌∙◌}
 use Rattle.std.specs.Bool.{⊤}
 use Rattle.std.specs.Prelude.{IfSome, is_none, nat_le, not, option_and_then, option_map, slice_get}
 use Rattle.std.specs.List.{list_all, list_any}
@@ -23,7 +23,7 @@ use Rattle.flow_core_rules.specs.Givens.{Given, step_at, book_with}
 use Rattle.flow_core_rules.specs.State.{State, Shown, shown}
 use Rattle.flow_core_rules.specs.Edits.{Edit}
 use Rattle.flow_core_rules.specs.Edits.Edit.{closes, upgrades}
-use Rattle.flow_core_rules.specs.Places.{Place, to_filter, to_operator, places, filter_of}
+use Rattle.flow_core_rules.specs.Places.{Place, to_filter, to_operator, filter_of}
 use Rattle.flow_core_rules.specs.Filled.{addressed, fill, filled, replaced}
 use Rattle.flow_core_rules.specs.Tasks.{Here, here_at}
 use Rattle.flow_core_rules.specs.Changes as changes
@@ -42,13 +42,13 @@ use Rattle.flow_core_laws.proofs.OwnTask.{records_change_own_task}
 
 -- ---- where a task stands
 
-record Found (s : Shown) (t : ℕ) : Type 0 where
-  task : Task
-  step : Step
-  task_is : slice_get s.lists.tasks t ≡ Some task
-  step_is : step_at s.given task.book task.step ≡ Some step
+pub record Found (s : Shown) (t : ℕ) : Type 0 where
+  pub task : Task
+  pub step : Step
+  pub task_is : slice_get s.lists.tasks t ≡ Some task
+  pub step_is : step_at s.given task.book task.step ≡ Some step
 
-found_at : {A : Type 0} (s : Shown) (now t : ℕ) (f : Here → Option A) → is_some (option_and_then f (here_at s now t)) ≡ true → Found s t
+pub found_at : {A : Type 0} (s : Shown) (now t : ℕ) (f : Here → Option A) → is_some (option_and_then f (here_at s now t)) ≡ true → Found s t
 found_at s now t f e = by (slice_get s.lists.tasks t) refl e
   where
     at : (task : Task) → slice_get s.lists.tasks t ≡ Some task → (o : Option Step) → step_at s.given task.book task.step ≡ o → is_some (option_and_then f (option_map (here_of s now t task) o)) ≡ true → Found s t
@@ -59,7 +59,7 @@ found_at s now t f e = by (slice_get s.lists.tasks t) refl e
     by None a h = absurd (clash false h refl)
     by (Some task) a h = at task a (step_at s.given task.book task.step) refl h
 
-at_is : {A : Type 0} (s : Shown) (now t : ℕ) (f : Here → Option A) (task : Task) (step : Step) → slice_get s.lists.tasks t ≡ Some task → step_at s.given task.book task.step ≡ Some step
+pub at_is : {A : Type 0} (s : Shown) (now t : ℕ) (f : Here → Option A) (task : Task) (step : Step) → slice_get s.lists.tasks t ≡ Some task → step_at s.given task.book task.step ≡ Some step
     → option_and_then f (here_at s now t) ≡ f (here_of s now t task step)
 at_is s now t f task step a b =
     ap (λ (o : Option Task). option_and_then f (option_and_then (λ (x : Task). option_map (here_of s now t x) (step_at s.given x.book x.step)) o)) a
@@ -114,27 +114,27 @@ anything (Some x) = tt
 
 -- ---- what a task sends or asks
 
-same_place : (s new : Shown) (now m t : ℕ) (task : Task) (step : Step) (at : Phase) → changes.place_at (here_of new m t task step) at ≡ changes.place_at (here_of s now t task step) at
+pub same_place : (s new : Shown) (now m t : ℕ) (task : Task) (step : Step) (at : Phase) → changes.place_at (here_of new m t task step) at ≡ changes.place_at (here_of s now t task step) at
 same_place s new now m t task step (phase.Sending n) = refl
 same_place s new now m t task step (phase.At since) = refl
 same_place s new now m t task step (phase.Awaiting place issue) = refl
 same_place s new now m t task step (phase.Joining from) = refl
 same_place s new now m t task step (phase.Ended well) = refl
 
-abbrev made_from : (Here → Place → Option Issue) → Here → Option Place → Option Issuing
+abbrev pub made_from : (Here → Place → Option Issue) → Here → Option Place → Option Issuing
 made_from issue_at h o = option_and_then (λ (place : Place). option_and_then (λ (issue : Issue). Some (changes.issuing h issue)) (issue_at h place)) o
 
-abbrev command_from : Here → List ℕ → Option (List ℕ) → Option ℕ → Option Issuing
+abbrev pub command_from : Here → List ℕ → Option (List ℕ) → Option ℕ → Option Issuing
 command_from h to content scope =
     option_and_then (λ (issue : Issue). Some (changes.issuing h issue))
     (option_and_then (λ (text : List ℕ). option_and_then (λ (n : ℕ). option_and_then (λ (bytes : List ℕ). Some (changes.issue_with h (filter_of h.seen.given.agents to) bytes)) (fill text h.seen.lists n h.seen.run (length h.seen.lists.issues))) scope) content)
 
-abbrev filled_from : Here → List ℕ → ℕ → Option Data → Option Issuing
+abbrev pub filled_from : Here → List ℕ → ℕ → Option Data → Option Issuing
 filled_from h to n o =
     option_and_then (λ (issue : Issue). Some (changes.issuing h issue))
     (option_and_then (λ (bytes : List ℕ). Some (changes.issue_with h (filter_of h.seen.given.agents to) bytes)) (option_map (λ (d : Data). canon (addressed h.seen.run (length h.seen.lists.issues) (filled h.seen.lists n d))) o))
 
-abbrev question_from : Here → Option (List ℕ) → Option ℕ → Option Issuing
+abbrev pub question_from : Here → Option (List ℕ) → Option ℕ → Option Issuing
 question_from h content scope =
     option_and_then (λ (issue : Issue). Some (changes.issuing h issue))
     (option_and_then (λ (text : List ℕ). option_and_then (λ (n : ℕ). Some (changes.issue_with h 0 (replaced h.seen.lists n text))) scope) content)
@@ -212,7 +212,7 @@ ends_own s (entry.Send task issue agent moment bytes) n e = absurd (none_some n 
 ends_own s (entry.Upgrade version moment) n e = absurd (none_some n e)
 ends_own s (entry.Ask task issue moment bytes) n e = absurd (none_some n e)
 
-mark_stays : (s new : State) (r : Record) → UpgradesAlone s new r → s.is_upgraded ≡ true → new.is_upgraded ≡ true
+pub mark_stays : (s new : State) (r : Record) → UpgradesAlone s new r → s.is_upgraded ≡ true → new.is_upgraded ≡ true
 mark_stays s new (entry.Upgrade version moment) u e = ap (λ (x : State). x.is_upgraded) u
 mark_stays s new (entry.Begin run moment books bind) u e = u ∙ e
 mark_stays s new (entry.Walk task moment) u e = u ∙ e

@@ -1,2 +1,3 @@
 pub mod OwnTask
 pub mod StaysEnabled
+pub mod SameBytes

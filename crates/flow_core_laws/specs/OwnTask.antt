@@ -84,7 +84,8 @@ home_for s own name =
     option_and_then (λ scope. home s.scopes scope name)
     (option_and_then (λ (task : Task). task.step_scope) (option_and_then (slice_get s.tasks) own))
 
--- a scope that was opened with the record, or the home of the name for the record's own task
+-- At most there: a scope that was opened with the record, or the home of the name for the record's own task. (A Walk that opens
+-- scopes writes in that of a called playbook alone, `called` in `flow_core_rules`.)
 abbrev pub IsInPlace : State → State → Option ℕ → Write → Type 0
 IsInPlace s new own write =
     ((length s.scopes ≤ write.scope) × (write.scope < length new.scopes)) ⊎ (home_for s own write.name ≡ Some write.scope)
@@ -105,6 +106,7 @@ pub record KeepsOtherIssues (s new : State) (r : Record) (own : Option ℕ) : Ty
   pub kept : KeepsIssues s new r
   pub added : (n : ℕ) (issue : Issue) → length s.issues ≤ n → slice_get new.issues n ≡ Some issue
       → (issued_by r ≡ Some n) × (own ≡ Some issue.task)
+  pub none_added : issued_by r ≡ None → length new.issues ≡ length s.issues
 
 -- only an Upgrade upgrades, and changes nothing else
 abbrev pub UpgradesAlone : State → State → Record → Type 0

@@ -22,8 +22,8 @@ MayCome s now (entry.Ask task issue moment bytes) =
     (filled : List ℕ) × IsEnabled s (entry.Ask task (length s.issues) now filled)
 MayCome s now (entry.Told issue moment status text) = IsEnabled s (entry.Told issue now status text)
 
--- Two records may each come next, of different tasks, or one of them an Upgrade. Then after the one the other may still come, at
--- each moment from those of both to the limit.
+-- Two records may each come next, of different tasks, or the one an Upgrade and the other none. Then after the one the other may
+-- still come, at each moment from those of both to the limit.
 abbrev pub RecordsStayEnabled : Type 0
 RecordsStayEnabled =
     (s new : State) (one other : Record) (now : ℕ) → Next s one new → IsEnabled s other

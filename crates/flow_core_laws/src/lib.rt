@@ -3,6 +3,7 @@
 #![tactic(auto)]
 
 ghost use Rattle.flow_core_laws.specs.OwnTask.{RecordsChangeOwnTask};
+ghost use Rattle.flow_core_laws.specs.SameBytes.{AsksTheSame, SendsTheSame};
 ghost use Rattle.flow_core_laws.specs.StaysEnabled.{RecordsStayEnabled};
 
 /// A record changes its own task, makes tasks below it and scopes inside it, and leaves every other task, scope and issue as it
@@ -10,4 +11,6 @@ ghost use Rattle.flow_core_laws.specs.StaysEnabled.{RecordsStayEnabled};
 pub fn apart_law()
     ensures own_task { RecordsChangeOwnTask }
     ensures stays_enabled { RecordsStayEnabled }
+    ensures same_send { SendsTheSame }
+    ensures same_ask { AsksTheSame }
 {}

@@ -3,3 +3,4 @@ mod LinkLemmas
 mod ScopedEdits
 mod ScopedRecords
 mod ScopedRuns
+mod UsedNames

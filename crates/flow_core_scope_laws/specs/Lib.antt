@@ -1,1 +1,2 @@
 pub mod ReadInScope
+pub mod UsedNames

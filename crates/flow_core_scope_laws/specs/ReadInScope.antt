@@ -28,7 +28,7 @@ pub record ReadsInScope (s : State) (book : Book) (task : Task) : Type 0 where
   pub in_step : (scope : ℕ) (name : List ℕ) → task.step_scope ≡ Some scope
       → home_declaration s.scopes scope name ≡ nearer (declares book name task.step) (home_declaration s.scopes task.scope name)
 
--- so it is for each task of each state of a run
+-- So it is for each task of each state of a run. (Its playbook and its step are there: `IsSaneTask`, by the law that runs are sane.)
 abbrev pub TasksReadInScope : Type 0
 TasksReadInScope =
     (given : Given) (run : ℕ) (records : List Record) (s : State) (t : ℕ) (task : Task) (book : Book) → IsRunnable given

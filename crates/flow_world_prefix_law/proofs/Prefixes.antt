@@ -1,10 +1,10 @@
 -- The run before a session and the run on return.
-use Rattle.std.proofs.Common.{◌≡◌, ◌⊎◌, inl, inr, ℕ, ◌+◌, ◌≤◌, List, [], ◌∷◌, ◌++◌, length, refl, sym, ◌∙◌, subst, ap, IsTrue, arith, length-append}
+use Rattle.std.proofs.Common.{◌≡◌, ◌≢◌, ◌⊎◌, inl, inr, ℕ, ◌+◌, ◌≤◌, List, [], ◌∷◌, ◌++◌, length, refl, sym, ◌∙◌, subst, ap, IsTrue, arith, length-append}
 use Rattle.std.specs.Prelude.{Option, Some, None}
 use Rattle.std.specs.List.{AllByRecursion}
 use Rattle.std.proofs.lemmas.List.{append-nil, append_assoc}
 use Rattle.cacao_site.specs.Counts.{DidNotRise, Rose}
-use Rattle.cacao_site.specs.DiskCalls.{IsLeft}
+use Rattle.cacao_site.specs.DiskCalls.{IsLeft, StaysAt}
 use Rattle.cacao_site.specs.Sound.{IsSound}
 use Rattle.cacao_site.specs.View.{SiteView}
 use Rattle.run_records.specs.Ranges.{InRange}
@@ -24,9 +24,14 @@ use Rattle.flow_world_steps.specs.Unsure.{UnsureByStep}
 use Rattle.flow_world_steps.specs.Worlds.{Phase, disk_failed, refused}
 use Rattle.flow_world_steps.proofs.Records.{has_records}
 use Rattle.flow_world.specs.Sessions.{IsStart, KeepsAgreement, Went}
-use Rattle.flow_world_parts.specs.Openings.{IsJournalOpen, RefusesJournal, RefusesSecond}
+use Rattle.flow_engine_history.specs.Openings.{IsRefusedOpening}
+use Rattle.flow_engine_history.specs.declared.error.EngineError.{EngineError}
+use Rattle.flow_engine_history.specs.declared.error.EngineError.TheVariants as refused_as
+use Rattle.flow_world_parts.specs.Errors.{opening_refusal}
+use Rattle.flow_world_parts.specs.Openings.{IsJournalOpen, RefusesFilters, RefusesJournal, RefusesSecond}
 use Rattle.flow_world_parts.specs.declared.error.WorldError.{WorldError}
-use Rattle.flow_world_prefix_law.specs.Prefixes.{EachCloseGoesOn, EachLaterRefusalGoesOn, EachRefusalGoesOn, GoesOn, GoesOnDurably}
+use Rattle.flow_world_parts.specs.declared.error.WorldError.TheVariants as error
+use Rattle.flow_world_prefix_law.specs.Prefixes.{AddsNothing, EachCloseGoesOn, EachLaterRefusalGoesOn, EachRefusalGoesOn, EachRefusedOpeningAddsNothing, EachSecondRefusalGoesOn, GoesOn, GoesOnDurably}
 
 -- ---- what each image stands for, where all agrees
 
@@ -51,6 +56,17 @@ all_more : {A : Type 0} (P : A → Type 0) (xs : List A) (x : A) → AllByRecurs
 all_more P [] x all is = (is, tt)
 all_more P (y ∷ xs) x all is = (all.0, all_more P xs x all.1 is)
 
+-- where no call of the disk failed, the journal's opening was not refused because it did
+not_disk : (why : EngineError) (given : Given) (run : ℕ) (old new : SiteView) → IsRefusedOpening given run why old new → DidNotRise old.disk.faults new.disk.faults
+    → opening_refusal why ≢ error.Disk
+not_disk refused_as.Disk given run old new is calm e = absurd (omega (arith, is, calm.0, calm.1))
+not_disk (refused_as.Damaged place) given run old new is calm e = let f : error.Damaged 0 place ≡ error.Disk = e in cc
+not_disk (refused_as.OtherRun held asked) given run old new is calm e = let f : error.OtherRun held asked ≡ error.Disk = e in cc
+not_disk (refused_as.OtherBook index) given run old new is calm e = let f : error.OtherBook index ≡ error.Disk = e in cc
+not_disk (refused_as.Limit what) given run old new is calm e = let f : error.Limit what ≡ error.Disk = e in cc
+not_disk refused_as.Memory given run old new is calm e = let f : error.Memory ≡ error.Disk = e in cc
+not_disk refused_as.Broken given run old new is calm e = absurd is
+
 -- ---- a session
 
 module _ (given : Given) (run most : ℕ) (answers : List OperatorAnswer) (old new : SiteView) (sound_old : IsSound old) (sound : IsSound new) (start : IsStart old run)
@@ -68,6 +84,7 @@ module _ (given : Given) (run most : ℕ) (answers : List OperatorAnswer) (old n
         image = old.disk.reads 0;
         left = sound_old.reads 0 start.told;
         stood = stood;
+        from_read = λ calm. stood;
         added = [];
         reads = reads;
         is_run = run_now (new.disk.reads 0) (before ++ []) (sound.reads 0 keeps.told) reads;
@@ -96,6 +113,7 @@ module _ (given : Given) (run most : ℕ) (answers : List OperatorAnswer) (old n
       image = old.disk.reads 0;
       left = sound_old.reads 0 start.told;
       stood = stood;
+      from_read = λ calm. stood;
       added = added;
       reads = reads;
       is_run = run_now (new.disk.reads 0) (went.start.engine.history.records ++ added) (sound.reads 0 keeps.told) reads;
@@ -110,6 +128,7 @@ module _ (given : Given) (run most : ℕ) (answers : List OperatorAnswer) (old n
         λ image left. subst (λ (l : List Record). IsRecords image l) went.sums.adds.is (has_records went.to.engine went.to.site sure.whole told_there image (left_there image left)) in
         record {
           goes_on = goes_by went.sums.adds.added (let budget = went.sums.budget in omega (arith, budget)) (each (new.disk.reads 0) (sound.reads 0 keeps.told));
+          was_read = stood;
           durable = λ calm. each;
         }
 
@@ -134,6 +153,7 @@ module _ (given : Given) (run most : ℕ) (answers : List OperatorAnswer) (old n
         elim holds [
           | inl is ↦ record {
             goes_on = goes_by went.sums.adds.added (omega (arith, few)) (subst (λ (l : List Record). IsRecords (new.disk.reads 0) l) went.sums.adds.is (records_of_layout (new.disk.reads 0) records ranges is));
+            was_read = stood;
             durable = λ calm. absurd (fault_rose r by calm);
           }
           | inr is ↦
@@ -142,6 +162,7 @@ module _ (given : Given) (run most : ℕ) (answers : List OperatorAnswer) (old n
               record {
                 goes_on = goes_by (went.sums.adds.added ++ r ∷ []) (omega (arith, few, by.budget, length-append went.sums.adds.added (r ∷ [])))
                     (subst (λ (l : List Record). IsRecords (new.disk.reads 0) l) more (records_of_layout (new.disk.reads 0) (records ++ r ∷ []) (all_more InRange records r ranges in_range) is));
+                was_read = stood;
                 durable = λ calm. absurd (fault_rose r by calm);
               }
         ]
@@ -153,30 +174,68 @@ module _ (given : Given) (run most : ℕ) (answers : List OperatorAnswer) (old n
     ]
 
   -- the journal was not opened
-  pub journal_refused : (error : WorldError) → RefusesJournal error given run old new → GoesOn most old new
+  pub journal_refused : (error : WorldError) → RefusesJournal error given run old new → AddsNothing most old new
   journal_refused error is =
       let now = sound.reads 0 keeps.told in
       let was : IsLeft old.disk 0 old.disk.beat (new.disk.reads 0) = is.opens.only.each.each start.told new.disk.beat (new.disk.reads 0) is.opens.only.each.goes_on.later (omega arith) now in
       let stood = good_records old sound_old start.told start.start.good (new.disk.reads 0) was in
       let reads : IsRecords (new.disk.reads 0) (stood.0 ++ []) = subst (λ (l : List Record). IsRecords (new.disk.reads 0) l) (sym (append-nil stood.0)) stood.1 in
       record {
-        before = stood.0;
-        image = new.disk.reads 0;
-        left = was;
-        stood = stood.1;
-        added = [];
-        reads = reads;
-        is_run = run_now (new.disk.reads 0) (stood.0 ++ []) now reads;
-        few = omega arith;
+        goes_on = record {
+          before = stood.0;
+          image = new.disk.reads 0;
+          left = was;
+          stood = stood.1;
+          from_read = λ calm. subst (λ (i : List ℕ). IsRecords i stood.0) (is.reads (λ e. not_disk is.why given run old new is.refused calm (sym is.is ∙ e))) stood.1;
+          added = [];
+          reads = reads;
+          is_run = run_now (new.disk.reads 0) (stood.0 ++ []) now reads;
+          few = omega arith;
+        };
+        none = refl;
       }
 
   -- or a filter's file was not
-  pub second_refused : (error : WorldError) → RefusesSecond error given run old new → GoesOn most old new
-  second_refused error is =
-      let f = is.refuses in
-      let stays = f.before.others 0 (inl refl) in
-      let last = f.refuses.opens.only.others 0 (λ e. absurd (omega (arith, e))) in
-      none_more is.v.history.records (open_stood is.middle is.v is.journal) (last.reads ∙ stays.reads ∙ is.journal.reads)
+  module _ (error : WorldError) (is : RefusesSecond error given run old new) where
+    f : RefusesFilters error is.middle new
+    f = is.refuses
+
+    abbrev records : List Record
+    records = is.v.history.records
+
+    stays : StaysAt is.middle.disk f.middle.disk 0
+    stays = f.before.others 0 (inl refl)
+
+    last : StaysAt f.middle.disk new.disk 0
+    last = f.refuses.opens.only.others 0 (λ e. absurd (omega (arith, e)))
+
+    same : new.disk.reads 0 ≡ old.disk.reads 0
+    same = last.reads ∙ stays.reads ∙ is.journal.reads
+
+    -- each image is that of the journal as it was opened
+    each_image : (image : List ℕ) → IsLeft new.disk 0 new.disk.beat image → image ≡ old.disk.reads 0
+    each_image image left =
+        let then = f.refuses.opens.only.each.goes_on.later in
+        let early = f.before.goes_on.later in
+        let opened_there : IsLeft f.middle.disk 0 f.middle.disk.beat image = subst IsTrue (last.images new.disk.beat image then (omega arith)) left in
+        let there : IsLeft is.middle.disk 0 is.middle.disk.beat image = subst IsTrue (stays.images f.middle.disk.beat image early (omega arith)) opened_there in
+        is.journal.durable image there ∙ is.journal.reads
+
+    stood_then : IsRecords (old.disk.reads 0) records
+    stood_then = open_stood is.middle is.v is.journal
+
+    pub second_adds_nothing : AddsNothing most old new
+    unfolding none_more
+    second_adds_nothing = record { goes_on = none_more records stood_then same; none = refl }
+
+    pub second_refused : GoesOnDurably most old new
+    unfolding none_more
+    second_refused = record {
+      goes_on = none_more records stood_then same;
+      was_read = stood_then;
+      durable = λ calm image left. subst (λ (l : List Record). IsRecords image l) (sym (append-nil records))
+          (subst (λ (i : List ℕ). IsRecords i records) (sym (each_image image left)) stood_then);
+    }
 
 pub each_close_goes_on : EachCloseGoesOn
 each_close_goes_on close given run most answers old new sound_old sound start keeps closed = went_goes given run most answers old new sound_old sound start keeps closed.went
@@ -184,7 +243,14 @@ each_close_goes_on close given run most answers old new sound_old sound start ke
 pub each_later_refusal_goes_on : EachLaterRefusalGoesOn
 each_later_refusal_goes_on error given run most answers old new sound_old sound start keeps is = went_goes given run most answers old new sound_old sound start keeps is.went
 
+pub each_second_refusal_goes_on : EachSecondRefusalGoesOn
+each_second_refusal_goes_on error given run most answers old new sound_old sound start keeps is = second_refused given run most answers old new sound_old sound start keeps error is
+
+pub each_refused_opening_adds_nothing : EachRefusedOpeningAddsNothing
+each_refused_opening_adds_nothing error given run most answers old new sound_old sound start keeps (inl is) = journal_refused given run most answers old new sound_old sound start keeps error is
+each_refused_opening_adds_nothing error given run most answers old new sound_old sound start keeps (inr is) = second_adds_nothing given run most answers old new sound_old sound start keeps error is
+
 pub each_refusal_goes_on : EachRefusalGoesOn
-each_refusal_goes_on error given run most answers old new sound_old sound start keeps (inl (inl is)) = journal_refused given run most answers old new sound_old sound start keeps error is
-each_refusal_goes_on error given run most answers old new sound_old sound start keeps (inl (inr is)) = second_refused given run most answers old new sound_old sound start keeps error is
+each_refusal_goes_on error given run most answers old new sound_old sound start keeps (inl is) =
+    (each_refused_opening_adds_nothing error given run most answers old new sound_old sound start keeps is).goes_on
 each_refusal_goes_on error given run most answers old new sound_old sound start keeps (inr is) = (went_goes given run most answers old new sound_old sound start keeps is.went).goes_on

@@ -1,5 +1,6 @@
 use Rattle.flow_core_scope_laws.proofs.ScopedRuns.{tasks_read_in_scope}
+use Rattle.flow_core_scope_laws.proofs.UsedNames.{used_names_are_declared}
 use Rattle.flow_core_scope_laws.proofs.scopes_law.Goals as goal
 
 pub returns : goal.returns
-returns c = record { tasks = tasks_read_in_scope }
+returns c = record { tasks = tasks_read_in_scope; used = used_names_are_declared }
