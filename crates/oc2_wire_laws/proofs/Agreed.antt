@@ -17,9 +17,9 @@ use Rattle.flow_laws.specs.Held.{LinesAreOfRecords, plain}
 use Rattle.flow_laws.proofs.Basics.{not_zero, put_at, put_at-each, put_at-other, put_at-same, same_some}
 use Rattle.flow_laws.proofs.OneList.{same_records, same_acts, stands_empty}
 use Rattle.oc2_wire_laws.specs.Ends.{EngineKeeps, HasGotReply}
-use Rattle.oc2_wire_laws.specs.Deliveries.{AgreeOnBoth, AreStarts, DeliveriesKeepAgreement, End, Ends, IsChoiceOfBoth, IsNew, RestartsAreStarts, put_by, sent_by}
+use Rattle.oc2_wire_laws.specs.Deliveries.{AgreeOnBoth, AreFresh, AreStarts, DeliveriesKeepAgreement, End, Ends, IsChoiceOfBoth, IsNew, RestartsAreStarts, put_by, sent_by}
 use Rattle.oc2_wire_laws.proofs.Lists.{agent_or_not, none_in, run_front, sent_append, sent_new}
-use Rattle.oc2_wire_laws.proofs.Fits.{FileFits, GoesOnSince, IsKnown, JournalFits, file_now, journal_now}
+use Rattle.oc2_wire_laws.proofs.Fits.{FileFits, GoesOnSince, IsKnown, JournalFits, MayUse, file_now, journal_now}
 use Rattle.oc2_wire_laws.proofs.Starts.{engine_start, filters_keep}
 use Rattle.oc2_wire_laws.proofs.Kept.{Kept, events_kept, engine_new, filters_new}
 
@@ -108,12 +108,18 @@ module _ (run : ℕ) (first : Ends) (starts : AreStarts run first) where
       let here : IsSent records w.act.issue agent w.act.command = subst (λ (l : List Record). IsSent l w.act.issue agent w.act.command) same is in
       subst (λ (b : List ℕ). IsSent records issue agent b) w.is (subst (λ (n : ℕ). IsSent records n agent w.act.command) w.of_issue here)
 
-  unused_first : (image : List ℕ) → IsLeft e.site.disk 0 e.beat image → (records : List Record) → IsRecords image records → records ≡ []
-      → (agent r issue : ℕ) (bytes : List ℕ) → IsKnown first e.before agent r issue bytes → r ≢ run
-  unused_first image left records are none agent r issue bytes (inl s) same =
-      starts.fresh.sent image left (stands_empty image (subst (λ (l : List Record). IsRecords image l) none are)) s.parcel (Contains-append_left e.before (put_by e) s.parcel s.has) (s.of_run ∙ same)
-  unused_first image left records are none agent r issue bytes (inr w) same =
-      starts.fresh.acts image left (stands_empty image (subst (λ (l : List Record). IsRecords image l) none are)) agent w.image w.acts w.act w.is_agent w.left w.are w.has (w.of_run ∙ same)
+  -- a number that was fresh
+  fresh_first : (image : List ℕ) → IsLeft e.site.disk 0 e.beat image → (records : List Record) → IsRecords image records → records ≡ [] → (next : ℕ) → AreFresh next first
+      → (agent r issue : ℕ) (bytes : List ℕ) → IsKnown first e.before agent r issue bytes → r ≢ next
+  fresh_first image left records are none next fresh agent r issue bytes (inl s) same =
+      fresh.sent image left (stands_empty image (subst (λ (l : List Record). IsRecords image l) none are)) s.parcel (Contains-append_left e.before (put_by e) s.parcel s.has) (s.of_run ∙ same)
+  fresh_first image left records are none next fresh agent r issue bytes (inr w) same =
+      fresh.acts image left (stands_empty image (subst (λ (l : List Record). IsRecords image l) none are)) agent w.image w.acts w.act w.is_agent w.left w.are w.has (w.of_run ∙ same)
+
+  unused_first : (image : List ℕ) → IsLeft e.site.disk 0 e.beat image → (records : List Record) → IsRecords image records → records ≡ [] → (next : ℕ) → MayUse first run next
+      → (agent r issue : ℕ) (bytes : List ℕ) → IsKnown first e.before agent r issue bytes → r ≢ next
+  unused_first image left records are none next (inr fresh) = fresh_first image left records are none next fresh
+  unused_first image left records are none next (inl same) = fresh_first image left records are none next (subst (λ (n : ℕ). AreFresh n first) (sym same) starts.fresh)
 
   journal_first : (image : List ℕ) → IsLeft e.site.disk 0 e.beat image → StandsFor image (JournalFits first run e.before (sent_by f))
   journal_first image left =

@@ -13,7 +13,7 @@ use Rattle.slpf_rules_acts.specs.Acts.{AreActs}
 use Rattle.flow_laws.specs.Beats.{OnlyChanges}
 use Rattle.flow_laws.specs.Held.{plain}
 use Rattle.flow_laws.specs.Images.{HasImage, IsActs, IsAgent, told_list}
-use Rattle.oc2_wire_laws.specs.Ends.{FiltersKeep, HasGotCommand, IsActedEverywhere}
+use Rattle.oc2_wire_laws.specs.Ends.{FiltersKeep, HasGotCommand, IsActedEverywhere, IsFiltersStart}
 use Rattle.oc2_wire_laws.specs.FilterBeats.{FiltersShrink}
 use Rattle.oc2_wire_laws.specs.Since.{FiltersKeepSince, taken_before, takes_of}
 use Rattle.oc2_wire_laws.proofs.Changes.{LinkGoesOn, begun_changes, past_changes, put_changes, put_link, quiet_changes, same_link, same_puts}
@@ -23,6 +23,19 @@ use Rattle.oc2_wire_laws.proofs.Taken.{more_before}
 
 shrink_of : (earlier : SiteView) (early : ℕ) (later : SiteView) (late : ℕ) → OnlyChanges plain None None None earlier early later late → FiltersShrink earlier early later late
 shrink_of earlier early later late only = record { images = λ agent a. only.images agent a.1 tt; puts = only.puts }
+
+-- at the start it is kept
+pub filters_begin : (site : SiteView) → IsTrue site.disk.told → IsSome site.link.puts → IsSome site.link.taken → IsFiltersStart site → FiltersKeepSince site site
+filters_begin site told puts taken is = record {
+  told = told;
+  puts = puts;
+  taken = taken;
+  later = omega arith;
+  each = λ beat from to.
+      let here : site.disk.beat ≡ beat = omega (arith, from, to) in
+      subst (λ (n : ℕ). FiltersKeep site (taken_before (takes_of site) site n) site n) here
+      (more_for_filters site [] (taken_before (takes_of site) site site.disk.beat) site site.disk.beat (λ parcel has. absurd (omega (arith, has.1))) is);
+}
 
 module _ (start : SiteView) (old new : SiteView) (kept : FiltersKeepSince start old) (sound : IsSound old)
     (puts_told : IsSome new.link.puts) (taken_told : IsSome new.link.taken)

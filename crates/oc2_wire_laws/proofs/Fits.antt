@@ -15,7 +15,7 @@ use Rattle.flow_laws.specs.Images.{IsAgent, IsRecords, IsActs, StandsFor, Stands
 use Rattle.flow_laws.proofs.Basics.{same_some, not_begun}
 use Rattle.flow_laws.proofs.OneList.{same_records, same_acts, stands_empty}
 use Rattle.oc2_wire_laws.specs.Ends.{EngineKeeps, FiltersKeep, HasGotCommand, IsOfReplies, IsRunFrom, AreActsFrom}
-use Rattle.oc2_wire_laws.specs.Deliveries.{End, Ends, put_by, sent_by}
+use Rattle.oc2_wire_laws.specs.Deliveries.{AreFresh, End, Ends, put_by, sent_by}
 use Rattle.oc2_wire_laws.proofs.Lists.{in_puts, none_left, put_entry, run_append, run_front, sent_append}
 
 -- a command of these parcels
@@ -59,11 +59,15 @@ pub record GoesOnSince (first : Ends) (replies : List Parcel) (records : List Re
   pub is : records ≡ before ++ added
   pub of_replies : (r : Record) → Contains added r → IsOfReplies replies records r
 
--- a run that has a Send for each command and act known of its run; where it is empty, nothing known is of this run
+-- the number of the list, or one that was fresh when all began
+abbrev pub MayUse : Ends → ℕ → ℕ → Type 0
+MayUse first run next = (next ≡ run) ⊎ AreFresh next first
+
+-- a run that has a Send for each command and act known of its run; where it is empty, nothing known is of a number that may be used
 pub record JournalFits (first : Ends) (run : ℕ) (sent replies : List Parcel) (records : List Record) : Type 0 where
   pub is_run : IsJournalRun records
   pub known : (agent r issue : ℕ) (bytes : List ℕ) → run_of records ≡ Some r → IsKnown first sent agent r issue bytes → IsSent records issue agent bytes
-  pub unused : records ≡ [] → (agent r issue : ℕ) (bytes : List ℕ) → IsKnown first sent agent r issue bytes → r ≢ run
+  pub unused : records ≡ [] → (next : ℕ) → MayUse first run next → (agent r issue : ℕ) (bytes : List ℕ) → IsKnown first sent agent r issue bytes → r ≢ next
   pub goes_on : GoesOnSince first replies records
 
 -- acts that go on from those of an image when all began
@@ -171,7 +175,7 @@ module _ (first : Ends) (run : ℕ) (e : End) (replies : List Parcel) (keeps : E
         by [] none =
             let some : records ≢ [] = λ empty. absurd (not_begun r (subst (λ (l : List Record). run_of l ≡ Some r) empty of)) in
             let same : r ≡ run = same_some (sym of ∙ from.goes_on.begins none some) in
-            absurd (fits_then.unused none agent r issue bytes known same)
+            absurd (fits_then.unused none run (inl refl) agent r issue bytes known same)
         by (x ∷ xs) was =
             let here : records ≡ x ∷ xs ++ from.goes_on.added = from.goes_on.is ∙ ap (λ (l : List Record). l ++ from.goes_on.added) was in
             let of_was : run_of from.goes_on.before ≡ Some r = ap run_of was ∙ sym (run_front x xs from.goes_on.added) ∙ ap run_of (sym here) ∙ of in
@@ -189,11 +193,11 @@ module _ (first : Ends) (run : ℕ) (e : End) (replies : List Parcel) (keeps : E
           (subst (λ (n : ℕ). IsSent records issue n s.parcel.bytes) s.to (subst (λ (n : ℕ). IsSent records n s.parcel.agent s.parcel.bytes) s.of_issue is))
     ]
 
-    unused_now : records ≡ [] → (agent r issue : ℕ) (bytes : List ℕ) → IsKnown first (sent_by e) agent r issue bytes → r ≢ run
-    unused_now empty agent r issue bytes known = elim known [
-      | inr acted ↦ fits_then.unused none agent r issue bytes (inr acted)
+    unused_now : records ≡ [] → (next : ℕ) → MayUse first run next → (agent r issue : ℕ) (bytes : List ℕ) → IsKnown first (sent_by e) agent r issue bytes → r ≢ next
+    unused_now empty next may agent r issue bytes known = elim known [
+      | inr acted ↦ fits_then.unused none next may agent r issue bytes (inr acted)
       | inl s ↦ elim (Contains-append_cases e.before (put_by e) s.parcel s.has) [
-        | inl old ↦ fits_then.unused none agent r issue bytes (inl (record { parcel = s.parcel; has = old; command = s.command; to = s.to; of_run = s.of_run; of_issue = s.of_issue; is = s.is }))
+        | inl old ↦ fits_then.unused none next may agent r issue bytes (inl (record { parcel = s.parcel; has = old; command = s.command; to = s.to; of_run = s.of_run; of_issue = s.of_issue; is = s.is }))
         | inr own ↦
             let at = put_entry e s.parcel own in
             absurd (keeps.held.none_while_empty image left (stands_empty image (subst (λ (l : List Record). IsRecords image l) empty are)) at.at s.parcel

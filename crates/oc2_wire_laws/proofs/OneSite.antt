@@ -21,7 +21,7 @@ use Rattle.oc2_wire_laws.specs.Deliveries.{AreFresh, AreGood, AreStarts, Ends, E
 use Rattle.oc2_wire_laws.specs.OneSite.{AreEndsOf, DeliveriesLeaveStarts, IsOfBoth, NewRunsAreStarts, StartsAreOfBoth, both_behind, put_on}
 use Rattle.oc2_wire_laws.proofs.Agreed.{deliveries_keep_agreement, kept_first, marked, unmarked}
 use Rattle.oc2_wire_laws.proofs.Begins.{have_images, is_new, never_put, only_before}
-use Rattle.oc2_wire_laws.proofs.Fits.{FileFits, JournalFits, file_now, journal_now}
+use Rattle.oc2_wire_laws.proofs.Fits.{FileFits, JournalFits, MayUse, file_now, journal_now}
 use Rattle.oc2_wire_laws.proofs.Kept.{Kept, events_kept}
 use Rattle.oc2_wire_laws.proofs.Lists.{HasEntry, entry_of, in_filter, none_in, passes}
 use Rattle.oc2_wire_laws.proofs.Starts.{none_of_none}
@@ -186,31 +186,32 @@ module _ (run : ℕ) (first now : Ends) (site : SiteView) (starts : AreStarts ru
     was_open = λ at p own. none_of_none _ site site.disk.beat at p own.has;
   }
 
-  unused_there : (image : List ℕ) → IsLeft site.disk 0 site.disk.beat image → Stands image [] → IsUnused site run site.disk.beat
-  unused_there image left empty =
+  unused_there : (next : ℕ) → MayUse first run next → (image : List ℕ) → IsLeft site.disk 0 site.disk.beat image → Stands image [] → IsUnused site next site.disk.beat
+  unused_there next may image left empty =
       let s = journal image left in
       let none : s.records ≡ [] = none_of_empty image s.records empty s.are in
       record {
         acts = λ agent image acts act a there are has.
             let t = file agent a image (of.files agent a image there) in
             let fits = subst (λ (l : List Act). FileFits first agent sent replied l) (same_acts image t.acts acts t.are are) t.so in
-            s.so.unused none agent act.run act.issue act.command (fits.known act has);
+            s.so.unused none next may agent act.run act.issue act.command (fits.known act has);
         puts = λ at p has. elim (Contains-append_cases sent replied p (either_sent at p has)) [
-          | inl of_engine ↦ s.so.unused none p.agent p.run p.issue p.bytes
+          | inl of_engine ↦ s.so.unused none next may p.agent p.run p.issue p.bytes
               (inl (record { parcel = p; has = of_engine; command = kept.only_commands p of_engine; to = refl; of_run = refl; of_issue = refl; is = refl }))
           | inr of_filters ↦
               let a = kept.agents p of_filters in
               let some = of.some_files p.agent a in
               let t = file p.agent a some.image some.left in
               let reply = t.so.replies_of p of_filters (kept.only_replies p of_filters) refl in
-              λ same. s.so.unused none p.agent reply.act.run reply.act.issue reply.act.command (t.so.known reply.act reply.has) (reply.of_run ∙ same)
+              λ same. s.so.unused none next may p.agent reply.act.run reply.act.issue reply.act.command (t.so.known reply.act reply.has) (reply.of_run ∙ same)
         ];
       }
 
 pub deliveries_leave_starts : DeliveriesLeaveStarts
 deliveries_leave_starts run first now site starts events of = (
   record { good = good_there run first now site starts events of; held = held_there run first now site starts events of },
-  record { unused = unused_there run first now site starts events of },
+  record { unused = unused_there run first now site starts events of run (inl refl) },
+  λ next fresh. record { unused = unused_there run first now site starts events of next (inr fresh) },
 )
 
 pub new_runs_are_starts : NewRunsAreStarts

@@ -73,7 +73,7 @@ module _ (first : Ends) (run : ℕ) (replies : List Parcel) (before : List Parce
         let s = fits image left in
         let none : s.records ≡ [] = none_of_empty image s.records empty s.are in
         let in_before = copies at p has in
-        s.so.unused none p.agent p.run p.issue p.bytes
+        s.so.unused none run (inl refl) p.agent p.run p.issue p.bytes
         (inl (record { parcel = p; has = in_before; command = only p in_before; to = refl; of_run = refl; of_issue = refl; is = refl }));
   }
 

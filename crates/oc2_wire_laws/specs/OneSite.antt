@@ -7,7 +7,7 @@ use Rattle.flow_laws.specs.Fresh.{IsFresh, IsUnused}
 use Rattle.flow_laws.specs.Held.{plain}
 use Rattle.flow_laws.specs.Images.{HasImage, IsAgent, WasSaid, puts_to, told_list}
 use Rattle.flow_laws.specs.Sessions.{IsNewRun, IsStart}
-use Rattle.oc2_wire_laws.specs.Deliveries.{AreStarts, Ends, Events, begins_behind, sent_by}
+use Rattle.oc2_wire_laws.specs.Deliveries.{AreFresh, AreStarts, Ends, Events, begins_behind, sent_by}
 
 -- ---- from one site to two ends
 
@@ -49,10 +49,12 @@ pub record IsOfBoth (ends : Ends) (site : SiteView) : Type 0 where
   pub puts : (parcel : Parcel) → Contains (put_on site) parcel → Contains (sent_by ends.engine ++ sent_by ends.filters) parcel
   pub said : (bytes : List ℕ) → WasSaid site site.disk.beat bytes → WasSaid ends.engine.site ends.engine.beat bytes
 
--- behind each list of deliveries a session of both may begin there, under the same number
+-- behind each list of deliveries a session of both may begin there, under the same number, and under each number that was fresh when
+-- the list began
 abbrev pub DeliveriesLeaveStarts : Type 0
 DeliveriesLeaveStarts = (run : ℕ) (first now : Ends) (site : SiteView) → AreStarts run first → Events run first now
     → IsOfBoth now site → IsStart plain site × IsFresh site run site.disk.beat
+    × ((next : ℕ) → AreFresh next first → IsFresh site next site.disk.beat)
 
 -- and where the journal is taken away behind one list, the next may begin, under a number that nothing carries
 abbrev pub NewRunsAreStarts : Type 0

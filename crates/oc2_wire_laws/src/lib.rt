@@ -10,7 +10,8 @@ ghost use Rattle.oc2_wire_laws.specs.OneSite.{DeliveriesLeaveStarts, NewRunsAreS
 /// What the two ends keep on their own, each for any bytes, comes to agreement of the files of both, whatever of what was sent is
 /// lost, repeated or reordered, and whenever an end crashes; and where an end begins again, what it asks of its start holds. Two
 /// ends whose files no session used are such a start, and so are two on what one site has, if a session of both may begin there.
-/// Behind each list a session of both may begin on one site, and, where the journal is taken away, a list of another number.
+/// Behind each list a session of both may begin on one site, under its number or under another that was fresh when it began; and, where
+/// the journal is taken away, a list of another number.
 pub fn deliveries_law()
     ensures agreement { DeliveriesKeepAgreement }
     ensures restarts { RestartsAreStarts }

@@ -1,8 +1,7 @@
 -- Bytes that go out and come in, one call after another.
-use Rattle.std.proofs.Common.{◌≡◌, ◌≢◌, ◌∙◌, ◌<◌, ◌≤◌, ℕ, ◌+◌, ◌-◌, List, [], ◌∷◌, ◌++◌, length, take, drop, Option, Some, None, refl, ap, sym, subst, arith, length-append, length-drop}
+use Rattle.std.proofs.Common.{◌≡◌, ◌∙◌, ◌<◌, ◌≤◌, ℕ, ◌+◌, ◌-◌, List, [], ◌++◌, length, take, drop, Option, Some, None, refl, ap, sym, subst, arith, length-drop}
 use Rattle.std.proofs.Math.Seq.{take-add}
 use Rattle.std.proofs.lemmas.List.{append-nil, append_assoc, take-append-drop, take_all, take_rest}
-use Rattle.std.proofs.lemmas.Option.{none-some, same_Some}
 use Rattle.cacao_site.specs.LinkCalls.{GainsAll}
 use Rattle.oc2_wire_link.specs.Links.{Comes, KeepsBytes, LinkView, Sends}
 use Rattle.oc2_wire_site.specs.LineLinks.{SendsFront}

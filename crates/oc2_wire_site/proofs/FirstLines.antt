@@ -1,11 +1,10 @@
 -- The line that stands first among bytes.
-use Rattle.std.proofs.Common.{◌≡◌, ◌≢◌, ◌∙◌, ◌<◌, ◌≤◌, ℕ, ◌+◌, ◌-◌, List, [], ◌∷◌, ◌++◌, length, take, drop, refl, ap, sym, subst, arith, length-append, length-drop}
-use Rattle.std.specs.Prelude.{All}
+use Rattle.std.proofs.Common.{◌≡◌, ◌≢◌, ◌∙◌, ◌<◌, ◌≤◌, ℕ, ◌+◌, ◌-◌, List, ◌∷◌, ◌++◌, length, take, drop, refl, ap, sym, arith, length-append}
 use Rattle.std.proofs.lemmas.List.{append_assoc, drop-drop, drop_at, length-take, take-append-drop, take-take, take_at, take_rest}
 use Rattle.std.proofs.lemmas.List.Elements.{All-append, All-same, All-take}
 use Rattle.oc2_wire_lines.specs.Lines.{BeginsWithLine, IsOneLine, most_line}
 use Rattle.oc2_wire_site.specs.LineLinks.{IsTooLong}
-use Rattle.oc2_wire_site.specs.LineSteps.{Fills, HasNoLineYet, IsFirstLine}
+use Rattle.oc2_wire_site.specs.LineSteps.{Fills, IsFirstLine}
 use Rattle.oc2_wire_link.specs.Links.{LinkView}
 
 -- bytes that are this line, a line feed and a rest begin with it

@@ -5,3 +5,7 @@ pub mod PassLemmas
 pub mod ResultLemmas
 pub mod PutLemmas
 pub mod TakeLemmas
+pub mod MarkLemmas
+pub mod KeptLines
+pub mod PutSince
+pub mod LawLemmas

@@ -1,18 +1,16 @@
 -- Lines that are read, one after another.
-use Rattle.std.proofs.Common.{◌≡◌, ◌≢◌, ◌⊎◌, ◌∙◌, ◌<◌, ◌≤◌, ℕ, ◌+◌, inl, inr, Bool, true, false, List, [], ◌∷◌, ◌++◌, length, take, drop, Option, Some, None, refl, ap, sym, subst, arith, length-append}
-use Rattle.std.specs.Prelude.{All, Contains}
+use Rattle.std.proofs.Common.{◌≡◌, ◌≢◌, ◌∙◌, ◌<◌, ◌≤◌, ℕ, ◌+◌, inl, inr, Bool, List, [], ◌∷◌, ◌++◌, length, take, drop, Option, refl, ap, sym, subst, arith}
+use Rattle.std.specs.Prelude.{Contains}
 use Rattle.std.proofs.lemmas.List.{append-nil, append_assoc, length-take-le}
-use Rattle.std.proofs.lemmas.List.Elements.{All-append, All-cons, All-nil, Contains-append_cases, Contains-push_cases}
-use Rattle.cacao_site.specs.Counts.{next_count}
-use Rattle.cacao_site.specs.LinkCalls.{GainsAll}
+use Rattle.std.proofs.lemmas.List.Elements.{Contains-append_cases, Contains-push_cases}
 use Rattle.cacao_site.specs.declared.parcel.Parcel.{Parcel}
 use Rattle.oc2_wire_link.specs.Links.{LinkView}
-use Rattle.oc2_wire_lines.specs.Lines.{AreLines, IsOneLine, IsOther, Reads, carries, passes, Spells, joined, most_line, nothing_line}
-use Rattle.oc2_wire_site.specs.LineLinks.{Answers, BreaksFirst, BreaksOver, CountsFaults, FailsToSend, IsLineLink, LinesView, PassesOver, ReadsLines, ReadsOne, SendsAll, TakesCommand, lines_view, most_passed, nothings, passed_after}
-use Rattle.oc2_wire_site.specs.LineSteps.{BreaksSoon, Fills, IsFirstLine, IsStop, PassesOne}
+use Rattle.oc2_wire_lines.specs.Lines.{IsOneLine, Reads, joined, most_line}
+use Rattle.oc2_wire_site.specs.LineLinks.{BreaksFirst, CountsFaults, HasNoLine, IsLineLink, LinesView, ReadsLines, ReadsOne, lines_view, nothings, passed_after}
+use Rattle.oc2_wire_site.specs.LineSteps.{Fills, IsFirstLine, IsStop}
 use Rattle.oc2_wire_site.specs.declared.link_state.LinkState.{LinkState}
 use Rattle.oc2_wire_site.specs.declared.link_state.LinkState.TheVariants as state
-use Rattle.oc2_wire_site.proofs.ByteLemmas.{comes_on, comes_same, gains_from, gains_none, gains_on, gains_same, gains_to}
+use Rattle.oc2_wire_site.proofs.ByteLemmas.{comes_on, comes_same, gains_on, gains_same}
 
 -- ---- lines in a row
 
@@ -122,7 +120,7 @@ holds_stopped state.Failed faults passed link unread small why = record {
   small = small;
   ended = λ e. absurd (cc);
   no_line = λ e. absurd (cc);
-  failed = λ e. omega (arith, why);
+  failed = λ e. omega (arith, why.1);
   too_long = λ e. absurd (cc);
   passed_over = λ e. absurd (cc);
 }
@@ -147,7 +145,7 @@ counts_stopped : (stop : LinkState) (old new : LinkView) (was is : List ℕ) (p 
 counts_stopped state.Whole old new was is p q s why = absurd why
 counts_stopped state.PassedOver old new was is p q s why = absurd why
 counts_stopped state.Ended old new was is p q s why = record { failed = λ e. absurd (cc); faultless = λ ne. why.2 }
-counts_stopped state.Failed old new was is p q s why = record { failed = λ e. why; faultless = λ ne. absurd (ne refl) }
+counts_stopped state.Failed old new was is p q s why = record { failed = λ e. why.1; faultless = λ ne. absurd (ne refl) }
 counts_stopped state.TooLong old new was is p q s why = record { failed = λ e. absurd (cc); faultless = λ ne. why.1 }
 counts_stopped state.NoMemory old new was is p q s why = record { failed = λ e. absurd (cc); faultless = λ ne. why }
 
@@ -159,6 +157,14 @@ not_whole state.Failed faults link unread why = (λ e. absurd (cc), λ e. absurd
 not_whole state.TooLong faults link unread why = (λ e. absurd (cc), λ e. absurd (cc))
 not_whole state.NoMemory faults link unread why = (λ e. absurd (cc), λ e. absurd (cc))
 
+no_line_stopped : (stop : LinkState) (faults : ℕ) (link : LinkView) (unread : List ℕ) → IsStop stop faults link unread → stop ≡ state.Failed → HasNoLine unread
+no_line_stopped state.Whole faults link unread why e = absurd why
+no_line_stopped state.PassedOver faults link unread why e = absurd why
+no_line_stopped state.Ended faults link unread why e = why.1
+no_line_stopped state.Failed faults link unread why e = why.0
+no_line_stopped state.TooLong faults link unread why e = absurd (cc)
+no_line_stopped state.NoMemory faults link unread why e = absurd (cc)
+
 pub breaks_first : (stop : LinkState) (old new : LinkView) (was is : List ℕ) (p q : ℕ) (s : LinkState) → Fills old new was is → IsStop stop old.faults new is → q ≡ p → BreaksFirst (lines_view old was p s) (lines_view new is q stop)
 breaks_first stop old new was is p q s fills why passed =
     let broken = not_whole stop old.faults new is why in
@@ -169,6 +175,7 @@ breaks_first stop old new was is p q s fills why passed =
       passed = passed;
       broken = broken.0;
       not_flooded = broken.1;
+      no_line = no_line_stopped stop old.faults new is why;
     }
 
 -- want of memory before anything is read
@@ -180,4 +187,5 @@ breaks_unread old new link unread passed memory = record {
   passed = passed;
   broken = λ e. absurd (cc);
   not_flooded = λ e. absurd (cc);
+  no_line = λ e. absurd (cc);
 }

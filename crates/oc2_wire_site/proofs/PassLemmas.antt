@@ -1,5 +1,5 @@
 -- Lines that are passed over, one after another.
-use Rattle.std.proofs.Common.{◌≡◌, ◌≢◌, ◌∙◌, ◌<◌, ◌≤◌, ℕ, ◌+◌, Bool, true, false, List, [], ◌∷◌, ◌++◌, length, Option, Some, None, refl, ap, sym, subst, arith, length-append}
+use Rattle.std.proofs.Common.{◌≡◌, ◌∙◌, ◌<◌, ◌≤◌, ℕ, ◌+◌, inl, inr, Bool, false, List, [], ◌∷◌, ◌++◌, length, Option, Some, None, refl, ap, sym, subst, arith, length-append}
 use Rattle.std.specs.Prelude.{All}
 use Rattle.std.proofs.lemmas.List.{append-nil, append_assoc}
 use Rattle.std.proofs.lemmas.List.Elements.{All-append, All-cons, All-nil}
@@ -9,7 +9,7 @@ use Rattle.cacao_site.specs.LinkCalls.{GainsAll}
 use Rattle.cacao_site.specs.declared.parcel.Parcel.{Parcel}
 use Rattle.oc2_wire_link.specs.Links.{LinkView}
 use Rattle.oc2_wire_lines.specs.Lines.{IsOther, Reads, carries, passes, Spells, nothing_line}
-use Rattle.oc2_wire_site.specs.LineLinks.{Answers, BreaksFirst, BreaksOver, CountsFaults, FailsToSend, LinesView, PassesOver, ReadsLines, ReadsOne, SendsAll, TakesCommand, most_passed, nothings}
+use Rattle.oc2_wire_site.specs.LineLinks.{Answers, BreaksFirst, BreaksOver, FailsToSend, LinesView, ReadsLines, ReadsOne, SendsAll, TakesCommand, most_passed, nothings}
 use Rattle.oc2_wire_site.specs.LineSteps.{BreaksSoon, PassesOne}
 use Rattle.oc2_wire_site.specs.declared.link_state.LinkState.TheVariants as state
 use Rattle.oc2_wire_site.proofs.ByteLemmas.{gains_from, gains_none, gains_on, gains_to}
@@ -60,6 +60,8 @@ breaks_at_answer old mid new reads fails =
       lines = reads_then (reads.line ∷ []) [] old mid new reads.lines (reads_none mid new front.sends.received front.sends.to_come fails.keeps.unread);
       broken = λ e. absurd (cc (fails.failed));
       not_flooded = λ e. absurd (cc (fails.failed));
+      answered = λ one. (fails.failed, front.some);
+      no_line = λ e none. absurd (omega (arith, ap length none, front.some));
     }
 
 -- or before there was a line
@@ -83,6 +85,8 @@ breaks_soon old new first = record {
   lines = first.lines;
   broken = first.broken;
   not_flooded = first.not_flooded;
+  answered = λ one. absurd (omega (arith, one));
+  no_line = λ e none. first.no_line e;
 }
 
 -- ---- so many lines
@@ -182,6 +186,8 @@ breaks_over count old mid new few so_far soon =
       lines = reads_then so_far.over soon.over old mid new so_far.lines soon.lines;
       broken = soon.broken;
       flooded = λ e. absurd (soon.not_flooded e);
+      many = λ same. inr (soon.answered (omega (arith, length-append so_far.over soon.over, so_far.many, soon.most, few, same)));
+      no_line = soon.no_line;
     }
 
 -- as many as one take passes over
@@ -202,4 +208,6 @@ breaks_flooded count old mid new all few so_far link unread passed flooded =
       lines = subst (λ (l : List (List ℕ)). ReadsLines l old new) none (reads_then so_far.over [] old mid new so_far.lines last);
       broken = λ e. absurd (cc (flooded));
       flooded = λ e. omega (arith, so_far.many, all, few);
+      many = λ same. inl flooded;
+      no_line = λ e none. absurd (cc (flooded, e));
     }

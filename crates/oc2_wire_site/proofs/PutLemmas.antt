@@ -11,9 +11,10 @@ use Rattle.cacao_site.specs.Sound.{IsInTime}
 use Rattle.cacao_site.specs.View.{ClockView, DiskView, SiteView}
 use Rattle.cacao_site.specs.declared.parcel.Parcel.{Parcel}
 use Rattle.cacao_site.proofs.Beats.{goes_on-refl}
-use Rattle.oc2_wire_lines.specs.Lines.{IsCarried, line_of}
+use Rattle.oc2_wire_lines.specs.Lines.{IsCarried}
 use Rattle.oc2_wire_site.specs.Entries.{AreInTime, puts_by}
-use Rattle.oc2_wire_site.specs.LineLinks.{FailsToSend, LinesView, SendsAll}
+use Rattle.oc2_wire_site.specs.LineLinks.{LinesView}
+use Rattle.oc2_wire_site.specs.Marks.{WireMark}
 use Rattle.oc2_wire_site.specs.PutEnds.{PutEnd, goes_out, uncarried, late, late_unkept, fails, unkept}
 use Rattle.oc2_wire_site.specs.WireCalls.{PutsLine}
 use Rattle.oc2_wire_site.specs.Wires.{wire_view}
@@ -66,13 +67,13 @@ puts_from site parcel puts later taken empty m n more how = record {
 }
 
 module _ {S : Type 0} (view : S → SiteView) (site : S) (put : Put S) (at : put.at.value ≡ site) where
-  gains : (puts later : List (Put S)) → later ≡ puts ++ put ∷ [] → puts_by view later ≡ puts_by view puts ++ ((view site).disk.beat, put.parcel) ∷ []
+  pub gains : (puts later : List (Put S)) → later ≡ puts ++ put ∷ [] → puts_by view later ≡ puts_by view puts ++ ((view site).disk.beat, put.parcel) ∷ []
   gains puts later e =
       ap (λ (l : List (Put S)). puts_by view l) e
       ∙ map-append (λ (p : Put S). ((view p.at.value).disk.beat, p.parcel)) puts (put ∷ [])
       ∙ ap (λ (x : S). puts_by view puts ++ ((view x).disk.beat, put.parcel) ∷ []) at
 
-  same : (puts later : List (Put S)) → later ≡ puts → puts_by view later ≡ puts_by view puts
+  pub same : (puts later : List (Put S)) → later ≡ puts → puts_by view later ≡ puts_by view puts
   same puts later e = ap (λ (l : List (Put S)). puts_by view l) e
 
   pub puts_by_end : (puts later : List (Put S)) (taken : List (ℕ × Parcel)) (empty : List ℕ) (m n : ℕ) (old new : LinesView) (went : Bool) → PutEnd put puts later old new went → m ≤ last_count → n ≡ (if went then m else next_count m)
@@ -90,46 +91,52 @@ module _ {S : Type 0} (view : S → SiteView) (site : S) (put : Put S) (at : put
   puts_by_end puts later taken empty m n old new false (unkept carried was wants kept) fits counted =
       puts_from (view site) put.parcel (puts_by view puts) (puts_by view later) taken empty m n (omega (arith, counted, fits)) (inr (same puts later kept, omega (arith, counted)))
 
-  pub line_by_end : (puts later : List (Put S)) (taken : List (ℕ × Parcel)) (empty : List ℕ) (m n : ℕ) (old new : LinesView) (asking went : Bool) → PutEnd put puts later old new went → n ≡ (if went then m else next_count m)
-      → PutsLine put.parcel (record { site = wire_view (view site) (puts_by view puts) taken empty m; lines = old; asking = asking })
-      (record { site = wire_view (view site) (puts_by view later) taken empty n; lines = new; asking = asking })
-  line_by_end puts later taken empty m n old new asking true (goes_out carried was sends kept) counted = record {
+  pub line_by_end : (puts later : List (Put S)) (taken : List (ℕ × Parcel)) (empty : List ℕ) (m n : ℕ) (old new : LinesView) (asking : Bool) (mark : WireMark) (went : Bool) → PutEnd put puts later old new went → n ≡ (if went then m else next_count m)
+      → PutsLine put.parcel (record { site = wire_view (view site) (puts_by view puts) taken empty m; lines = old; asking = asking; mark = mark })
+      (record { site = wire_view (view site) (puts_by view later) taken empty n; lines = new; asking = asking; mark = mark })
+  line_by_end puts later taken empty m n old new asking mark true (goes_out carried was sends kept) counted = record {
     asking = refl;
+    mark = refl;
     whole = λ can is. record { was = was; sends = sends; puts = gains puts later kept; counted = counted };
     breaks = λ is broken. absurd (broken sends.whole);
     broken = λ broken. absurd (broken was);
     uncarried = λ cannot. absurd (cannot carried);
   }
-  line_by_end puts later taken empty m n old new asking false (uncarried cannot stays kept) counted = record {
+  line_by_end puts later taken empty m n old new asking mark false (uncarried cannot stays kept) counted = record {
     asking = refl;
+    mark = refl;
     whole = λ can is. absurd (cannot can);
     breaks = λ is broken. absurd (broken (ap (λ (l : LinesView). l.state) stays ∙ is));
     broken = λ broken. record { lines = stays; counted = counted };
     uncarried = λ no_line. (record { lines = stays; counted = counted }, ap Some (same puts later kept));
   }
-  line_by_end puts later taken empty m n old new asking false (late was stays kept carried) counted = record {
+  line_by_end puts later taken empty m n old new asking mark false (late was stays kept carried) counted = record {
     asking = refl;
+    mark = refl;
     whole = λ can is. absurd (was (sym (ap (λ (l : LinesView). l.state) stays) ∙ is));
     breaks = λ is broken. absurd (was is);
     broken = λ broken. record { lines = stays; counted = counted };
     uncarried = λ cannot. absurd (cannot carried);
   }
-  line_by_end puts later taken empty m n old new asking false (late_unkept was stays kept) counted = record {
+  line_by_end puts later taken empty m n old new asking mark false (late_unkept was stays kept) counted = record {
     asking = refl;
+    mark = refl;
     whole = λ can is. absurd (was (sym (ap (λ (l : LinesView). l.state) stays) ∙ is));
     breaks = λ is broken. absurd (was is);
     broken = λ broken. record { lines = stays; counted = counted };
     uncarried = λ cannot. (record { lines = stays; counted = counted }, ap Some (same puts later kept));
   }
-  line_by_end puts later taken empty m n old new asking false (fails carried was failed kept) counted = record {
+  line_by_end puts later taken empty m n old new asking mark false (fails carried was failed kept) counted = record {
     asking = refl;
+    mark = refl;
     whole = λ can is. absurd (cc (failed.failed));
     breaks = λ is broken. inl (record { fails = failed; puts = gains puts later kept; counted = counted });
     broken = λ broken. absurd (broken was);
     uncarried = λ cannot. absurd (cannot carried);
   }
-  line_by_end puts later taken empty m n old new asking false (unkept carried was wants kept) counted = record {
+  line_by_end puts later taken empty m n old new asking mark false (unkept carried was wants kept) counted = record {
     asking = refl;
+    mark = refl;
     whole = λ can is. absurd (cc (ap (λ (l : LinesView). l.state) wants));
     breaks = λ is broken. inr (record { lines = wants; puts = ap Some (same puts later kept); counted = counted });
     broken = λ broken. absurd (broken was);

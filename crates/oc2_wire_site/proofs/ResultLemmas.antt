@@ -1,6 +1,6 @@
 -- What was read, by what the reading answered.
-use Rattle.std.proofs.Common.{◌≡◌, ◌∙◌, ◌<◌, ℕ, ◌+◌, Bool, List, length, take, drop, refl, ap, sym, subst, arith}
-use Rattle.std.specs.Prelude.{Option, Some, None, Result, Ok, Err, IfOk, IfErr, OnOk, OnErr}
+use Rattle.std.proofs.Common.{◌≡◌, ◌∙◌, ◌<◌, ℕ, ◌+◌, Bool, List, take, drop, ap, sym, subst}
+use Rattle.std.specs.Prelude.{Option, Result, Ok, Err, IfOk, IfErr, OnOk, OnErr}
 use Rattle.cacao_site.specs.declared.parcel.Parcel.{Parcel}
 use Rattle.oc2_wire_link.specs.Links.{LinkView}
 use Rattle.oc2_wire_lines.specs.Lines.{Reads, most_line}

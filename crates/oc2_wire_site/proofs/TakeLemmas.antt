@@ -1,15 +1,14 @@
 -- What a take does.
-use Rattle.std.proofs.Common.{◌≡◌, ◌≢◌, ◌⊎◌, ◌∙◌, ◌<◌, ◌≤◌, ℕ, ◌+◌, inl, inr, Bool, true, false, List, [], ◌∷◌, ◌++◌, length, refl, ap, sym, subst, arith}
+use Rattle.std.proofs.Common.{◌≡◌, ◌≢◌, ◌⊎◌, ◌∙◌, ℕ, inl, inr, Bool, true, false, List, [], ◌∷◌, ◌++◌, refl, ap, sym, subst, arith}
 use Rattle.std.specs.Prelude.{Option, Some, None, Result, Ok, Err, IfOk, IfErr, OnOk, OnErr}
-use Rattle.std.proofs.lemmas.List.{length-map, map-append}
+use Rattle.std.proofs.lemmas.List.{map-append}
 use Rattle.cacao_site.specs.SiteCalls.{TakesNone, TakesOnly, TakesSome}
 use Rattle.cacao_site.specs.View.{SiteView}
 use Rattle.cacao_site.specs.declared.parcel.Parcel.{Parcel}
 use Rattle.std.specs.declared.snapshot.Snapshot.{Snapshot}
-use Rattle.oc2_wire_link.specs.Links.{LinkView}
 use Rattle.oc2_wire_site.specs.Entries.{empty_by, taken_by}
-use Rattle.oc2_wire_site.specs.LineLinks.{AsksOne, BreaksFirst, LinesView, ReadsOn, ReadsOne, TakesBy, most_passed, taken_of}
-use Rattle.oc2_wire_site.specs.Wires.{fewer_read, wire_view}
+use Rattle.oc2_wire_site.specs.LineLinks.{AsksOne, BreaksFirst, LinesView, ReadsOn, ReadsOne, TakesBy, taken_of}
+use Rattle.oc2_wire_site.specs.Wires.{wire_view}
 use Rattle.oc2_wire_site.specs.declared.entries.Taken.{Taken}
 use Rattle.oc2_wire_site.specs.declared.link_state.LinkState.{LinkState}
 use Rattle.oc2_wire_site.specs.declared.link_state.LinkState.TheVariants as state

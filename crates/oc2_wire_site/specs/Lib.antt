@@ -2,7 +2,10 @@ pub mod LineLinks
 pub mod LineSteps
 pub mod Entries
 pub mod PutEnds
+pub mod Marks
+pub mod LinesOf
 pub mod Wires
 pub mod WireSound
 pub mod WireCalls
 pub mod WireOf
+pub mod ReadLines

@@ -112,6 +112,7 @@ pub record BreaksFirst (old new : LinesView) : Type 0 where
   pub passed : new.passed ≡ old.passed
   pub broken : new.state ≢ state.Whole
   pub not_flooded : new.state ≢ state.PassedOver
+  pub no_line : new.state ≡ state.Failed → HasNoLine new.unread  -- no line stood unread where a call of the link failed
 
 -- the line for nothing, once for each of these lines
 abbrev pub nothings : List (List ℕ) → List ℕ
@@ -145,7 +146,8 @@ pub record TakesCommand (parcel : Parcel) (old new : LinesView) : Type 0 where
   pub lines : ReadsLines (over ++ line ∷ []) old new
   pub whole : new.state ≡ state.Whole
 
--- lines were passed over, and then the link broke
+-- Lines were passed over, and then the link broke: at the answer to the last one, or as no further line stood unread. Behind as many as
+-- one take passes over it broke for that alone, but at the last answer.
 pub record BreaksOver (old new : LinesView) : Type 0 where
   pub over : List (List ℕ)
   pub few : length over ≤ most_passed
@@ -153,6 +155,8 @@ pub record BreaksOver (old new : LinesView) : Type 0 where
   pub lines : ReadsLines over old new
   pub broken : new.state ≢ state.Whole
   pub flooded : new.state ≡ state.PassedOver → length over ≡ most_passed
+  pub many : length over ≡ most_passed → (new.state ≡ state.PassedOver) ⊎ ((new.state ≡ state.Failed) × (1 ≤ length passes.answers.behind))
+  pub no_line : new.state ≡ state.Failed → passes.answers.behind ≡ [] → HasNoLine new.unread
 
 abbrev pub ReadsOn : Option Parcel → LinesView → LinesView → Type 0
 ReadsOn (Some parcel) old new = TakesCommand parcel old new

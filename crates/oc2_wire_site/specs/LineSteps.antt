@@ -30,7 +30,7 @@ pub record IsFirstLine (end : ℕ) (unread : List ℕ) : Type 0 where
 -- why no line came: with the count of faults before, the link after, and what is unread then
 abbrev pub IsStop : LinkState → ℕ → LinkView → List ℕ → Type 0
 IsStop state.Ended faults link unread = HasEnded link × HasNoLine unread × (link.faults ≡ faults)
-IsStop state.Failed faults link unread = link.faults ≡ next_count faults
+IsStop state.Failed faults link unread = HasNoLine unread × (link.faults ≡ next_count faults)
 IsStop state.TooLong faults link unread = IsTooLong unread × (link.faults ≡ faults)
 IsStop state.NoMemory faults link unread = link.faults ≡ faults
 IsStop other faults link unread = ⊥
@@ -57,3 +57,5 @@ pub record BreaksSoon (old new : LinesView) : Type 0 where
   pub lines : ReadsLines over old new
   pub broken : new.state ≢ state.Whole
   pub not_flooded : new.state ≢ state.PassedOver
+  pub answered : length over ≡ 1 → (new.state ≡ state.Failed) × (1 ≤ length passes.answers.behind)
+  pub no_line : new.state ≡ state.Failed → passes.answers.behind ≡ [] → HasNoLine new.unread

@@ -4,7 +4,7 @@ use Rattle.cacao_site.specs.Counts.{next_count}
 use Rattle.cacao_site.specs.LinkCalls.{Gains}
 use Rattle.cacao_site.specs.declared.parcel.Parcel.{Parcel}
 use Rattle.oc2_wire_lines.specs.Lines.{IsCarried, line_of}
-use Rattle.oc2_wire_site.specs.LineLinks.{FailsToSend, LinesView, SendsAll, TakesBy}
+use Rattle.oc2_wire_site.specs.LineLinks.{FailsToSend, SendsAll, TakesBy}
 use Rattle.oc2_wire_site.specs.Wires.{WireView, is_owed}
 use Rattle.oc2_wire_site.specs.declared.link_state.LinkState.TheVariants as state
 
@@ -12,6 +12,7 @@ use Rattle.oc2_wire_site.specs.declared.link_state.LinkState.TheVariants as stat
 pub record KeepsWire (old new : WireView) : Type 0 where
   pub lines : new.lines ≡ old.lines
   pub asking : new.asking ≡ old.asking
+  pub mark : new.mark ≡ old.mark
 
 -- the parcel is lost and counted; nothing goes over the link
 pub record IsLost (old new : WireView) : Type 0 where
@@ -44,6 +45,7 @@ pub record IsUnkept (old new : WireView) : Type 0 where
 -- breaks the link is a call of it that fails, or want of memory. A parcel that no line can carry breaks nothing.
 pub record PutsLine (parcel : Parcel) (old new : WireView) : Type 0 where
   pub asking : new.asking ≡ old.asking
+  pub mark : new.mark ≡ old.mark
   pub whole : IsCarried parcel → new.lines.state ≡ state.Whole → GoesOut parcel old new
   pub breaks : old.lines.state ≡ state.Whole → new.lines.state ≢ state.Whole → FailsToGoOut parcel old new ⊎ IsUnkept old new
   pub broken : old.lines.state ≢ state.Whole → IsLost old new
@@ -52,4 +54,5 @@ pub record PutsLine (parcel : Parcel) (old new : WireView) : Type 0 where
 -- the end that asks reads one line where it is owed one, and the end that answers reads on up to a command
 pub record TakesLine (taken : Option Parcel) (old new : WireView) : Type 0 where
   pub asking : new.asking ≡ old.asking
+  pub mark : new.mark ≡ old.mark
   pub takes : TakesBy old.asking (is_owed old) taken old.lines new.lines

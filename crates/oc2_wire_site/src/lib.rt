@@ -5,8 +5,11 @@
 #![tactic(auto)]
 
 mod entries;
+mod laws;
 mod line_link;
+mod line_room;
 mod link_state;
+mod mark;
 mod putting;
 mod reading;
 mod receiving;
@@ -16,5 +19,7 @@ mod wire_calls;
 mod wire_disk;
 mod wire_site;
 
+pub use laws::wire_law;
+pub use line_room::LineRoom;
 pub use link_state::LinkState;
 pub use wire_site::WireSite;

@@ -1,12 +1,9 @@
 // A link over which lines come and go.
 ghost use Rattle.oc2_wire_site.specs.LineLinks.{IsLineLink, lines_view};
 
+use crate::line_room::LineRoom;
 use crate::link_state::LinkState;
 use oc2_wire_link::Link;
-use std::alloc::Global;
-
-// The bytes for which there is room at first.
-const FIRST_ROOM: usize = 4_096;
 
 /// A link, what came over it and is not read as lines yet, and what broke it first.
 #[derive(Drop)]
@@ -21,23 +18,19 @@ pub struct LineLink<K: Link> {
 }
 
 impl<K: Link> LineLink<K> {
-    ghost use Rattle.std.specs.Prelude.{◌≡◌, ◌≢◌, [], true, false, IfOk, IfErr};
-    ghost use Rattle.oc2_wire_site.specs.WireOf.{lines_of};
+    ghost use Rattle.std.specs.Prelude.{◌≡◌, ◌≢◌, [], true, false};
+    ghost use Rattle.oc2_wire_site.specs.LinesOf.{lines_of};
 
-    /// A link over which nothing was read yet. Where memory is wanted, it gives the link back.
-    pub fn new(alloc: Global, link: K) -> Result<LineLink<K>, K>
-        ensures link { IfOk result (λ lines. lines.link ≡ link) }
-        ensures view { IfOk result (λ lines. lines_of K.view lines ≡ lines_view (K.view link) [] 0 LinkState.Whole) }
-        ensures refused { IfErr result (λ back. back ≡ link) }
+    /// A link over which nothing was read yet, with room for what comes.
+    pub fn new(room: LineRoom, link: K) -> LineLink<K>
+        ensures link { result.link ≡ link }
+        ensures view { lines_of K.view result ≡ lines_view (K.view link) [] 0 LinkState.Whole }
     {
-        match Vec::with_capacity(alloc, FIRST_ROOM) {
-            Ok(unread) => Ok(LineLink {
-                link,
-                unread,
-                passed: 0,
-                state: LinkState::Whole,
-            }),
-            Err(_) => Err(link),
+        LineLink {
+            link,
+            unread: room.into_bytes(),
+            passed: 0,
+            state: LinkState::Whole,
         }
     }
 

@@ -2,7 +2,7 @@
 ghost use Rattle.std.specs.Prelude.{◌≡◌};
 ghost use Rattle.oc2_wire_lines.specs.Lines.{IsCarried};
 ghost use Rattle.oc2_wire_site.specs.PutEnds.{PutEnd};
-ghost use Rattle.oc2_wire_site.specs.WireOf.{lines_of};
+ghost use Rattle.oc2_wire_site.specs.LinesOf.{lines_of};
 
 use crate::entries::Put;
 use crate::line_link::LineLink;

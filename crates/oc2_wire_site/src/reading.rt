@@ -3,7 +3,7 @@ ghost use Rattle.std.specs.Prelude.{◌≡◌, ◌+◌, ◌<◌, take, drop, Non
 ghost use Rattle.oc2_wire_lines.specs.Lines.{Reads, nothing_line};
 ghost use Rattle.oc2_wire_site.specs.LineLinks.{BreaksFirst, FailsToSend, ReadsOn, ReadsOne, SendsAll, passed_after, taken_of};
 ghost use Rattle.oc2_wire_site.specs.LineSteps.{BreaksSoon, Fills, IsFirstLine, IsStop, StepsOn};
-ghost use Rattle.oc2_wire_site.specs.WireOf.{lines_of};
+ghost use Rattle.oc2_wire_site.specs.LinesOf.{lines_of};
 
 use crate::line_link::LineLink;
 use crate::link_state::LinkState;

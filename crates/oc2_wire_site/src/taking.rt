@@ -1,7 +1,7 @@
 // Parcels that are taken.
 ghost use Rattle.std.specs.Prelude.{◌≡◌, ◌≢◌, Err, OnOk, OnErr};
 ghost use Rattle.oc2_wire_site.specs.LineLinks.{TakesBy, taken_of};
-ghost use Rattle.oc2_wire_site.specs.WireOf.{lines_of};
+ghost use Rattle.oc2_wire_site.specs.LinesOf.{lines_of};
 
 use crate::line_link::LineLink;
 use crate::link_state::LinkState;

@@ -1,7 +1,6 @@
 -- What the engine's end keeps, over all that happens.
-use Rattle.std.proofs.Common.{◌≡◌, ℕ, ◌≤◌, Bool, true, false, List, [], ◌∷◌, length, map, sym, ◌∙◌, subst, ap, IsTrue, arith}
-use Rattle.std.specs.Prelude.{filter, nat_lt, if◌then◌else◌, Contains, Option, Some, None, IsSome, option_map, slice_get}
-use Rattle.std.proofs.lemmas.List.{drop_all}
+use Rattle.std.proofs.Common.{◌≡◌, ℕ, ◌≤◌, Bool, true, false, List, [], ◌∷◌, sym, ◌∙◌, subst, ap, arith}
+use Rattle.std.specs.Prelude.{nat_lt, if◌then◌else◌, Contains, Option, Some, None, option_map, slice_get}
 use Rattle.std.proofs.lemmas.Option.{none-some}
 use Rattle.cacao_site.specs.View.{SiteView}
 use Rattle.cacao_site.specs.declared.parcel.Parcel.{Parcel}
@@ -13,7 +12,6 @@ use Rattle.flow_core_rules.specs.Moves.{record_of}
 use Rattle.flow_core_rules.specs.State.{Shown}
 use Rattle.flow_core_rules.specs.declared.moves.Move.{Move}
 use Rattle.flow_core_rules.specs.declared.moves.Move.TheVariants as move
-use Rattle.flow_laws.specs.Images.{told_list}
 use Rattle.flow_laws.specs.Journals.{run_of}
 use Rattle.flow_engine_history.specs.HistoryCalls.{Offers}
 use Rattle.flow_engine.specs.EngineView.{EngineView}
@@ -26,10 +24,11 @@ use Rattle.flow_world_steps.specs.Steps.Step.{puts_first, resends, takes, finds_
 use Rattle.flow_world_steps.specs.Steps.Steps.{nothing, and_then}
 use Rattle.flow_world_steps.specs.Worlds.{World, Phase, Cause, opened, rests, looked, owes, holds, waits, refused, past}
 use Rattle.flow_world_steps.proofs.Agreement.{step_run}
-use Rattle.oc2_wire_laws.specs.Ends.{EngineKeeps, IsEngineStart}
+use Rattle.oc2_wire_laws.specs.EngineBeats.{ShrunkIsKept}
 use Rattle.oc2_wire_laws.specs.Since.{taken_before, takes_of}
 use Rattle.oc2_wire_steps.specs.Kept.{BeginsKept, StepsKeepEngine}
 use Rattle.oc2_wire_laws.proofs.Taken.{in_before}
+use Rattle.oc2_wire_steps.proofs.Openings.{opening_kept_to}
 use Rattle.oc2_wire_steps.proofs.Records.{of_none, of_reply}
 use Rattle.oc2_wire_steps.proofs.Sites.{KeptTo, taken_since, command_kept, failed_quiet, line_kept, none_quiet, offers_kept, quiet, reaches_quiet, takes_quiet}
 
@@ -236,30 +235,9 @@ steps_keep_engine start run a b kept (and_then {mid} steps step) =
 
 -- ---- the beginning
 
-none_got : (start : SiteView) (beat : ℕ) → taken_before (takes_of start) start beat ≡ []
-none_got start beat =
-    let entries = told_list start.link.taken in
-    ap (λ (l : List (ℕ × Parcel)). map (λ (e : ℕ × Parcel). e.1) (filter (λ e. nat_lt e.0 beat) l)) (drop_all (length entries) entries (omega arith))
-
-begins_site : (start : SiteView) (run : ℕ) → IsTrue start.disk.told → IsSome start.link.puts → IsSome start.link.taken → IsEngineStart start run → KeptTo start run start
-begins_site start run told puts taken is = record {
-  kept = record {
-    told = told;
-    puts = puts;
-    taken = taken;
-    later = omega arith;
-    each = λ beat from to.
-        let now : start.disk.beat ≡ beat = omega (arith, from, to) in
-        subst (λ (n : ℕ). EngineKeeps start run (taken_before (takes_of start) start n) start n) now
-        (subst (λ (l : List Parcel). EngineKeeps start run l start start.disk.beat) (sym (none_got start start.disk.beat)) is.keeps);
-  };
-  unused = is.unused;
-  more = omega arith;
-}
-
-pub begins_kept : BeginsKept
-begins_kept start run w is from =
-    let site : KeptTo start run w.site = subst (λ (s : SiteView). KeptTo start run s) (sym from.site) (begins_site start run from.told from.puts from.taken is) in
+pub begins_kept : ShrunkIsKept → BeginsKept
+begins_kept shrunk start run w sound is from =
+    let site : KeptTo start run w.site = opening_kept_to shrunk start w.site run sound is from.opens in
     record {
       kept = site.kept;
       unused = site.unused;

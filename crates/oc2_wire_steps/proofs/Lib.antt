@@ -1,3 +1,4 @@
 pub mod Records
 pub mod Sites
+pub mod Openings
 pub mod Kept

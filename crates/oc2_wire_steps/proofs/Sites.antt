@@ -104,7 +104,7 @@ all_more P [] x all is = (is, tt)
 all_more P (y ∷ xs) x all is = (all.0, all_more P xs x all.1 is)
 
 -- the parcels of a list that were taken before a beat
-abbrev before_of : SiteView → Option (List (ℕ × Parcel)) → ℕ → List Parcel
+abbrev pub before_of : SiteView → Option (List (ℕ × Parcel)) → ℕ → List Parcel
 before_of start taken beat = map (λ (e : ℕ × Parcel). e.1) (filter (λ e. nat_lt e.0 beat) (drop (takes_of start) (told_list taken)))
 
 -- a record may have been appended

@@ -1,6 +1,7 @@
 -- Promise: What the engine's end of a wire keeps over all that happens in its session.
 use Rattle.std.specs.Prelude.{◌≡◌, ◌≢◌, ℕ, ◌≤◌, IsSome, IsTrue, List, [], drop, Contains}
-use Rattle.cacao_site.specs.DiskCalls.{IsLeft}
+use Rattle.cacao_site.specs.DiskCalls.{IsLeft, OnlyFile}
+use Rattle.cacao_site.specs.Sound.{IsSound}
 use Rattle.cacao_site.specs.View.{SiteView}
 use Rattle.cacao_site.specs.declared.parcel.Parcel.{Parcel}
 use Rattle.run_journal.specs.Layout.{Stands}
@@ -30,15 +31,29 @@ pub record HasKeptEngine (start : SiteView) (run : ℕ) (w : World) : Type 0 whe
 abbrev pub StepsKeepEngine : Type 0
 StepsKeepEngine = (start : SiteView) (run : ℕ) (a b : World) → HasKeptEngine start run a → Steps a b → HasKeptEngine start run b
 
--- a session begins on a start of the end, whose site tells its files and its own parcels
+-- a session of the end may begin here, under this number, on a site that tells its files and its own parcels
+pub record IsToldStart (site : SiteView) (run : ℕ) : Type 0 where
+  pub start : IsEngineStart site run
+  pub told : IsTrue site.disk.told
+  pub puts : IsSome site.link.puts
+  pub taken : IsSome site.link.taken
+
+-- the journal was opened, or could not be: each image of it on the way is one that it had, and nothing else changed
+abbrev pub OpensJournal : SiteView → SiteView → Type 0
+OpensJournal old new = OnlyFile 0 old new (IsLeft old.disk 0 old.disk.beat)
+
+-- At each beat of an opening, also of one that refuses, what the end promises is kept.
+abbrev pub OpeningIsKept : Type 0
+OpeningIsKept = (start new : SiteView) (run : ℕ) → IsSound start → IsToldStart start run → OpensJournal start new
+    → EngineKeepsSince start run new
+
+-- a session begins, once its journal is open
 pub record BeginsOn (start : SiteView) (run : ℕ) (w : World) : Type 0 where
-  pub told : IsTrue start.disk.told
-  pub puts : IsSome start.link.puts
-  pub taken : IsSome start.link.taken
-  pub site : w.site ≡ start
+  pub opens : OpensJournal start w.site
   pub phase : w.phase ≡ opened
   pub of_run : w.engine.history.seen.run ≡ run
   pub alone : w.filters ≡ []
 
 abbrev pub BeginsKept : Type 0
-BeginsKept = (start : SiteView) (run : ℕ) (w : World) → IsEngineStart start run → BeginsOn start run w → HasKeptEngine start run w
+BeginsKept =
+    (start : SiteView) (run : ℕ) (w : World) → IsSound start → IsToldStart start run → BeginsOn start run w → HasKeptEngine start run w

@@ -2,11 +2,16 @@
 //! definitions stand in `specs/`.
 #![tactic(auto)]
 
-ghost use Rattle.oc2_wire_steps.specs.Kept.{BeginsKept, StepsKeepEngine};
+ghost use Rattle.oc2_wire_steps.specs.Kept.{BeginsKept, OpeningIsKept, StepsKeepEngine};
 
-/// A session without filters keeps what the engine's end of a wire promises, at each beat, whatever it takes. It holds where a
-/// session begins on a start of that end. The function does nothing; its contract is the law.
+use oc2_wire_laws::engine_laws;
+
+/// A session without filters keeps what the engine's end of a wire promises, at each beat, whatever it takes; so does the opening of
+/// its journal, from a start of that end on, whether it opens or refuses. The function does nothing; its contract is the law.
 pub fn engine_law()
     ensures steps { StepsKeepEngine }
+    ensures opening { OpeningIsKept }
     ensures begins { BeginsKept }
-{}
+{
+    engine_laws();
+}

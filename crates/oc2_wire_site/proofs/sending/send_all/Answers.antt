@@ -1,4 +1,4 @@
-use Rattle.oc2_wire_site.proofs.ByteLemmas.{sent_front, sent_more, sent_none, sent_whole}
+use Rattle.oc2_wire_site.proofs.ByteLemmas.{sent_more, sent_none}
 use Rattle.oc2_wire_site.proofs.sending.send_all.Goals as goal
 
 pub loop-from-init : goal.loop-from-init

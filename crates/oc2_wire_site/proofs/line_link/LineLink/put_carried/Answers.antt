@@ -1,7 +1,7 @@
 use Rattle.std.proofs.Common.{◌∙◌, List, ℕ, refl, subst}
 use Rattle.oc2_wire_site.specs.LineLinks.{FailsToSend, SendsAll}
 use Rattle.oc2_wire_site.specs.PutEnds.{fails, goes_out, unkept}
-use Rattle.oc2_wire_site.specs.WireOf.{lines_of}
+use Rattle.oc2_wire_site.specs.LinesOf.{lines_of}
 use Rattle.oc2_wire_site.proofs.line_link.LineLink.put_carried.Goals as goal
 
 pub returns-in_default : goal.returns-in_default

@@ -2,7 +2,7 @@ use Rattle.std.proofs.Common.{arith, refl, subst}
 use Rattle.std.specs.Prelude.{Option}
 use Rattle.cacao_site.specs.declared.parcel.Parcel.{Parcel}
 use Rattle.oc2_wire_site.specs.LineSteps.{StepsOn}
-use Rattle.oc2_wire_site.specs.WireOf.{lines_of}
+use Rattle.oc2_wire_site.specs.LinesOf.{lines_of}
 use Rattle.oc2_wire_site.proofs.PassLemmas.{breaks_flooded, breaks_over, passed_more, passed_none, takes_command}
 use Rattle.oc2_wire_site.proofs.line_link.LineLink.read_command.Goals as goal
 

@@ -1,5 +1,5 @@
 use Rattle.oc2_wire_site.proofs.PassLemmas.{PassedSo}
-use Rattle.oc2_wire_site.specs.WireOf.{lines_of}
+use Rattle.oc2_wire_site.specs.LinesOf.{lines_of}
 use Rattle.oc2_wire_site.proofs.line_link.LineLink.read_command.Given as goal
 
 abbrev pub invariant-loop-count : goal.invariant-loop-count

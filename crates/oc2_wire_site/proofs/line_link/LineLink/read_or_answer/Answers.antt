@@ -2,7 +2,7 @@ use Rattle.std.proofs.Common.{List, ℕ, false, subst}
 use Rattle.std.specs.Prelude.{Option}
 use Rattle.cacao_site.specs.declared.parcel.Parcel.{Parcel}
 use Rattle.oc2_wire_site.specs.LineLinks.{FailsToSend, ReadsOne, SendsAll}
-use Rattle.oc2_wire_site.specs.WireOf.{lines_of}
+use Rattle.oc2_wire_site.specs.LinesOf.{lines_of}
 use Rattle.oc2_wire_site.proofs.PassLemmas.{breaks_at_answer, breaks_soon, passes_one}
 use Rattle.oc2_wire_site.proofs.line_link.LineLink.read_or_answer.Goals as goal
 

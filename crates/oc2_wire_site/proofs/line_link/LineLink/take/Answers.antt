@@ -2,7 +2,7 @@ use Rattle.std.proofs.Common.{subst, sym}
 use Rattle.std.specs.Prelude.{Option}
 use Rattle.cacao_site.specs.declared.parcel.Parcel.{Parcel}
 use Rattle.oc2_wire_site.specs.LineLinks.{TakesBy, taken_of}
-use Rattle.oc2_wire_site.specs.WireOf.{lines_of}
+use Rattle.oc2_wire_site.specs.LinesOf.{lines_of}
 use Rattle.oc2_wire_site.proofs.TakeLemmas.{asks_one, takes_answering, takes_asking, takes_broken, takes_unowed, wanted_by, wants_by, whole_read}
 use Rattle.oc2_wire_site.proofs.line_link.LineLink.take.Goals as goal
 

@@ -1,0 +1,293 @@
+-- A wire that was lent to a call that knows of no wire, and came back.
+use Rattle.std.proofs.Common.{◌≡◌, ◌≢◌, ◌⊎◌, inl, inr, ℕ, zero, suc, ◌+◌, ◌/◌, Bool, true, false, List, ◌∷◌, length, refl, sym, ◌∙◌, subst, ap, arith}
+use Rattle.std.specs.Prelude.{IfErr, IfOk, OnOk, Result, Ok, Err}
+use Rattle.cacao_site.specs.DiskCalls.{CallsOn}
+use Rattle.cacao_site.specs.SayCalls.{SaysOnly}
+use Rattle.cacao_site.specs.SiteCalls.{Puts, Reaches}
+use Rattle.cacao_site.specs.View.{DiskView, SiteView}
+use Rattle.cacao_site.specs.declared.parcel.Parcel.{Parcel}
+use Rattle.flow_laws.proofs.Basics.{same_or_not}
+use Rattle.slpf_actuator.specs.ActuatorView.{ActuatorView}
+use Rattle.slpf_actuator.specs.declared.error.ActError.{ActError}
+use Rattle.slpf_actuator.specs.declared.error.ActError.TheVariants as act_error
+use Rattle.flow_world_steps.specs.Sides.{FiltersReady}
+use Rattle.flow_world_parts.specs.Acting.{FilterAnswers, IsActCause, OneAnswers}
+use Rattle.flow_world_parts.specs.Openings.{IsFileCause, IsFilterOpen, OpensFile, OpensFilters, RefusesFile, RefusesFilters, blocks_to}
+use Rattle.flow_world_parts.specs.declared.error.WorldError.{WorldError}
+use Rattle.flow_world_parts.specs.declared.error.WorldError.TheVariants as world
+use Rattle.oc2_wire_lines.specs.Lines.{IsCarried}
+use Rattle.oc2_wire_site.specs.WireCalls.{KeepsWire, PutsLine}
+use Rattle.oc2_wire_site.specs.LineLinks.{LinesView}
+use Rattle.oc2_wire_site.specs.Wires.{WireView}
+use Rattle.oc2_wire_site.specs.declared.link_state.LinkState.{LinkState}
+use Rattle.oc2_wire_site.specs.declared.link_state.LinkState.TheVariants as state
+use Rattle.oc2_wire.specs.Answering.{ReadsNoLine, found_by}
+use Rattle.oc2_wire.specs.FilterTurns.{Handed, Opened, OpenedAs}
+use Rattle.oc2_wire.specs.ReplyWires.{bit, lent_wire, marks, relabel}
+use Rattle.oc2_wire.proofs.Relabel.{acts_as, calls_as, on_as, only_as, puts_as, reaches_as, ready_as, refuses_as, repeats_as, rest_as, says_as, stays_as}
+
+-- ---- calls that read no line
+
+pub kept_reads_none : (old new : WireView) → KeepsWire old new → ReadsNoLine old new
+kept_reads_none old new keeps = record {
+  asking = keeps.asking;
+  passed = ap (λ (l : LinesView). l.passed) keeps.lines;
+  found_as = ap (λ (l : LinesView). found_by l.state) keeps.lines;
+}
+
+pub whole_or_not : (s : LinkState) → (s ≡ state.Whole) ⊎ (s ≢ state.Whole)
+whole_or_not state.Whole = inl refl
+whole_or_not state.Ended = inr (λ e. cc)
+whole_or_not state.Failed = inr (λ e. cc)
+whole_or_not state.TooLong = inr (λ e. cc)
+whole_or_not state.PassedOver = inr (λ e. cc)
+whole_or_not state.NoMemory = inr (λ e. cc)
+
+module _ (parcel : Parcel) (old new : WireView) (puts : PutsLine parcel old new) where
+  -- where a line can carry the parcel
+  passed_carried : IsCarried parcel → new.lines.passed ≡ old.lines.passed
+  passed_carried carried = elim (whole_or_not old.lines.state) [
+    | inr broken ↦ ap (λ (l : LinesView). l.passed) (puts.broken broken).lines
+    | inl whole ↦ elim (whole_or_not new.lines.state) [
+      | inl still ↦ (puts.whole carried still).sends.keeps.passed
+      | inr broke ↦ elim (puts.breaks whole broke) [
+        | inl fails ↦ fails.fails.keeps.passed
+        | inr unkept ↦ ap (λ (l : LinesView). l.passed) unkept.lines
+      ]
+    ]
+  ]
+
+  passed_stays : new.lines.passed ≡ old.lines.passed
+  passed_stays = elim (same_or_not new.lines.passed old.lines.passed) [
+    | inl same ↦ same
+    | inr ne ↦ absurd (ne (ap (λ (l : LinesView). l.passed) (puts.uncarried (λ carried. ne (passed_carried carried))).0.lines))
+  ]
+
+  found_stays : found_by new.lines.state ≡ found_by old.lines.state
+  found_stays = elim (whole_or_not old.lines.state) [
+    | inr broken ↦ ap (λ (l : LinesView). found_by l.state) (puts.broken broken).lines
+    | inl whole ↦
+        let was : found_by old.lines.state ≡ 0 = ap found_by whole in
+        elim (whole_or_not new.lines.state) [
+          | inl still ↦ ap found_by still ∙ sym was
+          | inr broke ↦ elim (puts.breaks whole broke) [
+            | inl fails ↦ ap found_by fails.fails.failed ∙ sym was
+            | inr unkept ↦ ap (λ (l : LinesView). found_by l.state) unkept.lines ∙ sym was
+          ]
+        ]
+  ]
+
+  pub put_reads_none : ReadsNoLine old new
+  put_reads_none = record { asking = puts.asking; passed = passed_stays; found_as = found_stays }
+
+-- ---- the trait's clauses on what is lent
+
+same_list : (a b c d m n : ℕ) (k l : List ℕ) → b ≡ a → d ≡ c → n ≡ m → l ≡ k → b ∷ d ∷ n ∷ l ≡ a ∷ c ∷ m ∷ k
+same_list a b c d m n k l one two three four = cc
+
+same_marks : (name : ℕ) (old new : WireView) → ReadsNoLine old new → new.site.disk.label ≡ old.site.disk.label → name ∷ marks new ≡ name ∷ marks old
+same_marks name old new reads label =
+    ap (λ (l : List ℕ). name ∷ l) (same_list (bit old.asking) (bit new.asking) old.lines.passed new.lines.passed (found_by old.lines.state) (found_by new.lines.state)
+    old.site.disk.label new.site.disk.label (ap bit reads.asking) reads.passed reads.found_as label)
+
+module _ (name : ℕ) (old new : WireView) where
+  pub calls_lent : (file bytes : ℕ) → KeepsWire old new → CallsOn file bytes old.site.disk new.site.disk → CallsOn file bytes (lent_wire name old).disk (lent_wire name new).disk
+  calls_lent file bytes keeps call =
+      calls_as (name ∷ marks old) (name ∷ marks new) old.site.disk new.site.disk file bytes (same_marks name old new (kept_reads_none old new keeps) call.goes_on.label) call
+
+  pub says_lent : KeepsWire old new → SaysOnly old.site new.site → SaysOnly (lent_wire name old) (lent_wire name new)
+  says_lent keeps says =
+      says_as (name ∷ marks old) (name ∷ marks new) old.site new.site (same_marks name old new (kept_reads_none old new keeps) says.disk.goes_on.label) says
+
+  pub reaches_lent : (moment answer : ℕ) → KeepsWire old new → Reaches moment answer old.site new.site → Reaches moment answer (lent_wire name old) (lent_wire name new)
+  reaches_lent moment answer keeps reaches =
+      reaches_as (name ∷ marks old) (name ∷ marks new) old.site new.site moment answer
+      (same_marks name old new (kept_reads_none old new keeps) reaches.disk.disk.goes_on.label) reaches
+
+  pub puts_lent : (parcel : Parcel) → PutsLine parcel old new → Puts parcel old.site new.site → Puts parcel (lent_wire name old) (lent_wire name new)
+  puts_lent parcel line puts =
+      puts_as (name ∷ marks old) (name ∷ marks new) old.site new.site parcel
+      (same_marks name old new (put_reads_none parcel old new line) puts.disk.disk.goes_on.label) puts
+
+-- ---- what the label tells
+
+name_of : (a b c d m n o p : ℕ) (k l : List ℕ) → a ∷ b ∷ c ∷ d ∷ k ≡ m ∷ n ∷ o ∷ p ∷ l → a ≡ m
+name_of a b c d m n o p k l e = cc
+
+end_of : (a b c d m n o p : ℕ) (k l : List ℕ) → a ∷ b ∷ c ∷ d ∷ k ≡ m ∷ n ∷ o ∷ p ∷ l → b ≡ n
+end_of a b c d m n o p k l e = cc
+
+passed_of : (a b c d m n o p : ℕ) (k l : List ℕ) → a ∷ b ∷ c ∷ d ∷ k ≡ m ∷ n ∷ o ∷ p ∷ l → c ≡ o
+passed_of a b c d m n o p k l e = cc
+
+found_of : (a b c d m n o p : ℕ) (k l : List ℕ) → a ∷ b ∷ c ∷ d ∷ k ≡ m ∷ n ∷ o ∷ p ∷ l → d ≡ p
+found_of a b c d m n o p k l e = cc
+
+label_of : (a b c d m n o p : ℕ) (k l : List ℕ) → a ∷ b ∷ c ∷ d ∷ k ≡ m ∷ n ∷ o ∷ p ∷ l → k ≡ l
+label_of a b c d m n o p k l e = cc
+
+same_bit : (a b : Bool) → bit a ≡ bit b → a ≡ b
+same_bit true true e = refl
+same_bit false false e = refl
+same_bit true false e = absurd (omega (arith, e))
+same_bit false true e = absurd (omega (arith, e))
+
+-- the same loan, which read no line, on the same disk
+record CameBack (name : ℕ) (a : WireView) (name' : ℕ) (b : WireView) : Type 0 where
+  pub same : name' ≡ name
+  pub reads : ReadsNoLine a b
+  pub label : b.site.disk.label ≡ a.site.disk.label
+
+came_back : (name name' : ℕ) (a b : WireView) → name' ∷ marks b ≡ name ∷ marks a → CameBack name a name' b
+came_back name name' a b e = record {
+  same = name_of _ _ _ _ _ _ _ _ _ _ e;
+  reads = record {
+    asking = same_bit b.asking a.asking (end_of _ _ _ _ _ _ _ _ _ _ e);
+    passed = passed_of _ _ _ _ _ _ _ _ _ _ e;
+    found_as = found_of _ _ _ _ _ _ _ _ _ _ e;
+  };
+  label = label_of _ _ _ _ _ _ _ _ _ _ e;
+}
+
+-- ---- filters on it
+
+pub filters_lent : (name : ℕ) (fs : List ActuatorView) (wire : WireView) → FiltersReady fs wire.site → FiltersReady fs (lent_wire name wire)
+filters_lent name fs wire ready = record {
+  few = ready.few;
+  each = λ k v there. let is = ready.each k v there in record { ready = ready_as (name ∷ marks wire) v wire.site is.ready; whole = is.whole; of_agent = is.of_agent };
+}
+
+filters_as : (k : List ℕ) (fs : List ActuatorView) (x : SiteView) → FiltersReady fs x → FiltersReady fs (relabel k x)
+filters_as k fs x ready = record {
+  few = ready.few;
+  each = λ n v there. let is = ready.each n v there in record { ready = ready_as k v x is.ready; whole = is.whole; of_agent = is.of_agent };
+}
+
+-- the label stays
+answers_label : (r : Result Bool ActError) (v w : ActuatorView) (parcel : Parcel) (moment : ℕ) (x y : SiteView) → FilterAnswers r v w parcel moment x y → y.disk.label ≡ x.disk.label
+answers_label (Ok true) v w parcel moment x y acts = acts.puts.disk.disk.goes_on.label ∙ acts.offers.adds.file.each.goes_on.label
+answers_label (Ok false) v w parcel moment x y repeats = repeats.puts.disk.disk.goes_on.label
+answers_label (Err act_error.Disk) v w parcel moment x y refused = refused.0.site.adds.file.each.goes_on.label
+answers_label (Err act_error.Memory) v w parcel moment x y refused = elim refused.0.site [
+  | inl none ↦ ap (λ (s : SiteView). s.disk.label) none
+  | inr offers ↦ offers.adds.file.each.goes_on.label
+]
+answers_label (Err (act_error.Full needed)) v w parcel moment x y refused = ap (λ (s : SiteView). s.disk.label) refused.0.site
+answers_label (Err (act_error.Damaged place)) v w parcel moment x y refused = absurd refused.1
+answers_label (Err act_error.Broken) v w parcel moment x y refused = absurd refused.1
+
+cause_as : (k l : List ℕ) (x y : SiteView) (error : ActError) (v : ActuatorView) (parcel : Parcel) (moment : ℕ) → IsActCause error v parcel moment x y → IsActCause error v parcel moment (relabel k x) (relabel l y)
+cause_as k l x y act_error.Disk v parcel moment why = why
+cause_as k l x y (act_error.Full needed) v parcel moment why = why
+cause_as k l x y act_error.Memory v parcel moment why = tt
+cause_as k l x y (act_error.Damaged place) v parcel moment why = absurd why
+cause_as k l x y act_error.Broken v parcel moment why = absurd why
+
+answers_as : (k l : List ℕ) (x y : SiteView) (r : Result Bool ActError) (v w : ActuatorView) (parcel : Parcel) (moment : ℕ) → l ≡ k → FilterAnswers r v w parcel moment x y
+    → FilterAnswers r v w parcel moment (relabel k x) (relabel l y)
+answers_as k l x y (Ok true) v w parcel moment same acts = acts_as k l x y v w parcel moment same acts
+answers_as k l x y (Ok false) v w parcel moment same repeats = repeats_as k l x y v w parcel same repeats
+answers_as k l x y (Err error) v w parcel moment same refused = (refuses_as k l x y v w parcel moment error same refused.0, cause_as k l x y error v parcel moment refused.1)
+
+one_as : (k l : List ℕ) (x y : SiteView) (r : Result Bool ActError) (parcel : Parcel) (moment : ℕ) (fs gs : List ActuatorView) → l ≡ k → OneAnswers r parcel moment x y fs gs
+    → OneAnswers r parcel moment (relabel k x) (relabel l y) fs gs
+one_as k l x y r parcel moment fs gs same one = record {
+  v = one.v;
+  w = one.w;
+  there = one.there;
+  answers = answers_as k l x y r one.v one.w parcel moment same one.answers;
+  others = one.others;
+  agent = one.agent;
+  ready = ready_as l one.w y one.ready;
+}
+
+-- what a filter did on a lent wire it did on the wire itself
+ready_if : (k : List ℕ) (r : Result Bool ActError) (gs : List ActuatorView) (y : SiteView) → OnOk r (FiltersReady gs y) → OnOk r (FiltersReady gs (relabel k y))
+ready_if k (Ok acted) gs y ready = filters_as k gs y ready
+ready_if k (Err error) gs y ready = tt
+
+pub handed_back : (name name' : ℕ) (before a b after : WireView) (r : Result Bool ActError) (parcel : Parcel) (moment : ℕ) (fs gs : List ActuatorView) → a ≡ before → (name' ≡ name → after ≡ b)
+    → OneAnswers r parcel moment (lent_wire name a) (lent_wire name' b) fs gs → OnOk r (FiltersReady gs (lent_wire name' b)) → Handed r parcel moment before after fs gs
+handed_back name name' before a b after r parcel moment fs gs is end one ready =
+    let back = came_back name name' a b (answers_label r one.v one.w parcel moment (lent_wire name a) (lent_wire name' b) one.answers) in
+    let here : Handed r parcel moment a b fs gs = record {
+      answers = one_as a.site.disk.label b.site.disk.label (lent_wire name a) (lent_wire name' b) r parcel moment fs gs back.label one;
+      filters = ready_if b.site.disk.label r gs (lent_wire name' b) ready;
+      reads_none = back.reads;
+    } in
+    subst (λ (w : WireView). Handed r parcel moment before w fs gs) (sym (end back.same)) (subst (λ (w : WireView). Handed r parcel moment w b fs gs) is here)
+
+-- ---- the opening
+
+file_as : (k l : List ℕ) (x y : SiteView) (file : ℕ) → l ≡ k → OpensFile file x y → OpensFile file (relabel k x) (relabel l y)
+file_as k l x y file same opens = record { only = only_as k l x y file _ same opens.only; calls = opens.calls; written = opens.written }
+
+open_as : (k : List ℕ) (x : SiteView) (agent : ℕ) (v : ActuatorView) → IsFilterOpen agent x v → IsFilterOpen agent (relabel k x) v
+open_as k x agent v is = record {
+  filter = record { ready = ready_as k v x is.filter.ready; whole = is.filter.whole; of_agent = is.filter.of_agent };
+  durable = is.durable;
+  stands = is.stands;
+  prepared = is.prepared;
+}
+
+blocks_as : (l : List ℕ) (n : ℕ) (y : DiskView) → blocks_to n (record y { label = l }) ≡ blocks_to n y
+blocks_as l zero y = refl
+blocks_as l (suc n) y = ap (λ (m : ℕ). length (y.reads (suc n)) / 4096 + m) (blocks_as l n y)
+
+opens_as : (k l : List ℕ) (x y : SiteView) (n : ℕ) (fs : List ActuatorView) → l ≡ k → OpensFilters n x y fs → OpensFilters n (relabel k x) (relabel l y) fs
+opens_as k l x y n fs same opens = record {
+  many = opens.many;
+  each = λ m v there. open_as l y (suc m) v (opens.each m v there);
+  goes_on = on_as k l x.disk y.disk same opens.goes_on;
+  images = opens.images;
+  reads = opens.reads;
+  others = λ file other. stays_as k l x.disk y.disk file (opens.others file other);
+  rest = rest_as k l x y opens.rest;
+  steady = opens.steady;
+  calls = λ told. let was = opens.calls told in let same = blocks_as l n y.disk in omega (arith, was, same);
+  written = opens.written;
+}
+
+file_cause_as : (k l : List ℕ) (x y : SiteView) (error : WorldError) (agent : ℕ) → IsFileCause error agent x y → IsFileCause error agent (relabel k x) (relabel l y)
+file_cause_as k l x y world.Disk agent why = why
+file_cause_as k l x y (world.Damaged file place) agent why = why
+file_cause_as k l x y world.Memory agent why = tt
+file_cause_as k l x y (world.OtherRun held asked) agent why = absurd why
+file_cause_as k l x y (world.OtherBook index) agent why = absurd why
+file_cause_as k l x y (world.RunUsed user) agent why = absurd why
+file_cause_as k l x y (world.Limit what) agent why = absurd why
+file_cause_as k l x y world.Say agent why = absurd why
+
+refuses_file_as : (k l : List ℕ) (x y : SiteView) (error : WorldError) (agent : ℕ) → l ≡ k → RefusesFile error agent x y → RefusesFile error agent (relabel k x) (relabel l y)
+refuses_file_as k l x y error agent same is = record { opens = file_as k l x y agent same is.opens; why = file_cause_as k l x y error agent is.why; steady = is.steady; reads = is.reads }
+
+refuses_filters_as : (k l : List ℕ) (x y : SiteView) (error : WorldError) → l ≡ k → RefusesFilters error x y → RefusesFilters error (relabel k x) (relabel l y)
+refuses_filters_as k l x y error same is = record {
+  agent = is.agent;
+  high = is.high;
+  middle = relabel k is.middle;
+  filters = is.filters;
+  before = opens_as k k x is.middle is.agent is.filters refl is.before;
+  refuses = refuses_file_as k l is.middle y error (is.agent + 1) same is.refuses;
+}
+
+-- what was opened on a lent wire was opened on the wire itself
+opened_label : (r : Result (List ActuatorView) WorldError) (x y : SiteView) → OpenedAs r x y → y.disk.label ≡ x.disk.label
+opened_label (Ok fs) x y opens = opens.goes_on.label
+opened_label (Err error) x y is = is.refuses.opens.only.each.goes_on.label ∙ is.before.goes_on.label
+
+opened_as : (k l : List ℕ) (x y : SiteView) (r : Result (List ActuatorView) WorldError) → l ≡ k → OpenedAs r x y → OpenedAs r (relabel k x) (relabel l y)
+opened_as k l x y (Ok fs) same opens = opens_as k l x y 16 fs same opens
+opened_as k l x y (Err error) same is = refuses_filters_as k l x y error same is
+
+opened_by : (r : Result (List ActuatorView) WorldError) (x y : SiteView) → IfOk r (λ fs. OpensFilters 16 x y fs) → IfErr r (λ error. RefusesFilters error x y) → OpenedAs r x y
+opened_by (Ok fs) x y opens refused = opens
+opened_by (Err error) x y opens refused = refused
+
+pub opened_back : (name name' : ℕ) (before a b after : WireView) (r : Result (List ActuatorView) WorldError) → a ≡ before → (name' ≡ name → after ≡ b)
+    → IfOk r (λ fs. OpensFilters 16 (lent_wire name a) (lent_wire name' b) fs) → IfErr r (λ error. RefusesFilters error (lent_wire name a) (lent_wire name' b)) → Opened r before after
+opened_back name name' before a b after r is end opens refused =
+    let all = opened_by r (lent_wire name a) (lent_wire name' b) opens refused in
+    let back = came_back name name' a b (opened_label r (lent_wire name a) (lent_wire name' b) all) in
+    let here : Opened r a b = record { opened = opened_as a.site.disk.label b.site.disk.label (lent_wire name a) (lent_wire name' b) r back.label all; reads_none = back.reads } in
+    subst (λ (w : WireView). Opened r before w) (sym (end back.same)) (subst (λ (w : WireView). Opened r w b) is here)

@@ -1,0 +1,13 @@
+pub mod ActCounts
+pub mod AnswerKept
+pub mod Answered
+pub mod LentWires
+pub mod Prefixes
+pub mod Reading
+pub mod Relabel
+pub mod ServeActs
+pub mod ServeEnds
+pub mod ServeLoop
+pub mod ServeSteps
+pub mod Served
+pub mod Taking

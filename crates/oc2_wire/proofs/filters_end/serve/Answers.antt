@@ -1,0 +1,96 @@
+use Rattle.std.proofs.Common.{◌+◌, ◌∙◌, Ok, Err, Some, None, refl, sym, subst, ap, arith}
+use Rattle.oc2_wire_site.specs.WireOf.{wire_of}
+use Rattle.oc2_wire.specs.FilterTurns.{Ended, GoesOnWith, TookAs}
+use Rattle.oc2_wire.specs.declared.tally.Tally.{Tally}
+use Rattle.oc2_wire.proofs.ServeLoop.{acted_few, begins_with, counted_more, now_in_hand, one_more, refused_first, refused_last, took_err, took_none}
+use Rattle.oc2_wire.proofs.filters_end.serve.Goals as goal
+
+pub returns-in-Err : goal.returns-in-Err
+returns-in-Err g c =
+    let old = wire_of g.S.Disk.view g.K.Link.view c.args.wire.now in
+    let now = wire_of g.S.Disk.view g.K.Link.view c.open_filters.new.wire in
+    subst (λ e. Ended (Err e) old now) (sym c.of_opening.ensures)
+    (refused_first old now c.in-Err.error c.is_sound.ensures refl refl c.in-Err.ensures.opened c.in-Err.ensures.reads_none c.requires.answering)
+
+pub loop-parcel-init : goal.loop-parcel-init
+loop-parcel-init g c = record {
+  going = begins_with (wire_of g.S.Disk.view g.K.Link.view c.args.wire.now) (wire_of g.S.Disk.view g.K.Link.view c.open_filters.new.wire) c.in-Ok.filters c.is_sound.ensures refl refl c.in-Ok.ensures.opened
+      c.in-Ok.ensures.reads_none c.requires.whole;
+}
+
+pub answer_command-requires-clause-filters : goal.answer_command-requires-clause-filters
+answer_command-requires-clause-filters g c =
+    let old = wire_of g.S.Disk.view g.K.Link.view c.args.wire.now in
+    let w = wire_of g.S.Disk.view g.K.Link.view c.loop-parcel.wire in
+    let t = wire_of g.S.Disk.view g.K.Link.view c.take_command.new.wire in
+    let took : TookAs (Ok (Some c.in-Ok-Some.parcel)) old.lines.passed c.loop-parcel.tally.repeated w t =
+    subst (λ n. TookAs (Ok (Some c.in-Ok-Some.parcel)) n c.loop-parcel.tally.repeated w t) c.passed-first.ensures
+    (subst (λ o. TookAs (Ok o) c.passed-first.result c.loop-parcel.tally.repeated w t) c.in-Ok-Some.field-0-is c.in-Ok-Some.ensures) in
+    (now_in_hand old w c.loop-parcel.filters c.loop-parcel.tally c.loop-parcel.invariant.going t t c.loop-parcel.filters c.in-Ok-Some.parcel refl took).ready
+
+pub count-requires-clause-acted : goal.count-requires-clause-acted
+count-requires-clause-acted g c =
+    let few = acted_few (wire_of g.S.Disk.view g.K.Link.view c.args.wire.now) (wire_of g.S.Disk.view g.K.Link.view c.loop-parcel.wire) c.loop-parcel.filters c.loop-parcel.tally c.loop-parcel.invariant.going in
+    omega (arith, few)
+
+pub returns-in-Err-answer_command : goal.returns-in-Err-answer_command
+returns-in-Err-answer_command g c =
+    let old = wire_of g.S.Disk.view g.K.Link.view c.args.wire.now in
+    let w = wire_of g.S.Disk.view g.K.Link.view c.loop-parcel.wire in
+    let t = wire_of g.S.Disk.view g.K.Link.view c.take_command.new.wire in
+    let u = wire_of g.S.Disk.view g.K.Link.view c.answer_command.new.wire in
+    let took : TookAs (Ok (Some c.in-Ok-Some.parcel)) old.lines.passed c.loop-parcel.tally.repeated w t =
+    subst (λ n. TookAs (Ok (Some c.in-Ok-Some.parcel)) n c.loop-parcel.tally.repeated w t) c.passed-first.ensures
+    (subst (λ o. TookAs (Ok o) c.passed-first.result c.loop-parcel.tally.repeated w t) c.in-Ok-Some.field-0-is c.in-Ok-Some.ensures) in
+    refused_last old w c.loop-parcel.filters c.loop-parcel.tally c.loop-parcel.invariant.going t u c.answer_command.new.filters c.in-Ok-Some.parcel refl took c.in-Err-answer_command.error
+    c.requires.answering c.in-Err-answer_command.ensures
+
+pub loop-parcel-smaller : goal.loop-parcel-smaller
+loop-parcel-smaller g c =
+    let old = wire_of g.S.Disk.view g.K.Link.view c.args.wire.now in
+    let w = wire_of g.S.Disk.view g.K.Link.view c.loop-parcel.wire in
+    let t = wire_of g.S.Disk.view g.K.Link.view c.take_command.new.wire in
+    let u = wire_of g.S.Disk.view g.K.Link.view c.answer_command.new.wire in
+    let took : TookAs (Ok (Some c.in-Ok-Some.parcel)) old.lines.passed c.loop-parcel.tally.repeated w t =
+    subst (λ n. TookAs (Ok (Some c.in-Ok-Some.parcel)) n c.loop-parcel.tally.repeated w t) c.passed-first.ensures
+    (subst (λ o. TookAs (Ok o) c.passed-first.result c.loop-parcel.tally.repeated w t) c.in-Ok-Some.field-0-is c.in-Ok-Some.ensures) in
+    let going : GoesOnWith old u c.answer_command.new.filters c.count.new.self =
+    subst (λ x. GoesOnWith old u c.answer_command.new.filters x) (sym c.count.ensures)
+    (one_more old w c.loop-parcel.filters c.loop-parcel.tally c.loop-parcel.invariant.going t u c.answer_command.new.filters c.in-Ok-Some.parcel refl took c.in-Ok-answer_command.acted
+    c.in-Ok-answer_command.ensures) in
+    let few = acted_few old u c.answer_command.new.filters c.count.new.self going in
+    let calm = going.calm in
+    let more = ap (λ (x : Tally). x.acted + x.repeated) c.count.ensures ∙ counted_more c.in-Ok-answer_command.acted c.loop-parcel.tally in
+    omega (arith, more, few, calm)
+
+pub loop-parcel-preserved : goal.loop-parcel-preserved
+loop-parcel-preserved g c =
+    let old = wire_of g.S.Disk.view g.K.Link.view c.args.wire.now in
+    let w = wire_of g.S.Disk.view g.K.Link.view c.loop-parcel.wire in
+    let t = wire_of g.S.Disk.view g.K.Link.view c.take_command.new.wire in
+    let u = wire_of g.S.Disk.view g.K.Link.view c.answer_command.new.wire in
+    let took : TookAs (Ok (Some c.in-Ok-Some.parcel)) old.lines.passed c.loop-parcel.tally.repeated w t =
+    subst (λ n. TookAs (Ok (Some c.in-Ok-Some.parcel)) n c.loop-parcel.tally.repeated w t) c.passed-first.ensures
+    (subst (λ o. TookAs (Ok o) c.passed-first.result c.loop-parcel.tally.repeated w t) c.in-Ok-Some.field-0-is c.in-Ok-Some.ensures) in
+    record {
+      going = subst (λ x. GoesOnWith old u c.answer_command.new.filters x) (sym c.count.ensures)
+          (one_more old w c.loop-parcel.filters c.loop-parcel.tally c.loop-parcel.invariant.going t u c.answer_command.new.filters c.in-Ok-Some.parcel refl took c.in-Ok-answer_command.acted
+          c.in-Ok-answer_command.ensures);
+    }
+
+pub returns-in-Ok-None : goal.returns-in-Ok-None
+returns-in-Ok-None g c =
+    let old = wire_of g.S.Disk.view g.K.Link.view c.args.wire.now in
+    let w = wire_of g.S.Disk.view g.K.Link.view c.loop-parcel.wire in
+    let t = wire_of g.S.Disk.view g.K.Link.view c.take_command.new.wire in
+    took_none old w c.loop-parcel.filters c.loop-parcel.tally c.loop-parcel.invariant.going t c.requires.answering
+    (subst (λ n. TookAs (Ok None) n c.loop-parcel.tally.repeated w t) c.passed-first.ensures
+    (subst (λ o. TookAs (Ok o) c.passed-first.result c.loop-parcel.tally.repeated w t) c.in-Ok-None.field-0-is c.in-Ok-None.ensures))
+
+pub returns-in-Err-take_command : goal.returns-in-Err-take_command
+returns-in-Err-take_command g c =
+    let old = wire_of g.S.Disk.view g.K.Link.view c.args.wire.now in
+    let w = wire_of g.S.Disk.view g.K.Link.view c.loop-parcel.wire in
+    let t = wire_of g.S.Disk.view g.K.Link.view c.take_command.new.wire in
+    took_err old w c.loop-parcel.filters c.loop-parcel.tally c.loop-parcel.invariant.going t c.in-Err-take_command.error c.requires.answering
+    (subst (λ n. TookAs (Err c.in-Err-take_command.error) n c.loop-parcel.tally.repeated w t) c.passed-first.ensures c.in-Err-take_command.ensures)

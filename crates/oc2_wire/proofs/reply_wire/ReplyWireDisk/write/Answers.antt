@@ -1,0 +1,8 @@
+use Rattle.std.specs.Prelude.{length}
+use Rattle.oc2_wire_site.specs.WireOf.{wire_of}
+use Rattle.oc2_wire.proofs.LentWires.{calls_lent}
+use Rattle.oc2_wire.proofs.reply_wire.ReplyWireDisk.write.Goals as goal
+
+pub returns-clause-call : goal.returns-clause-call
+returns-clause-call g c =
+    calls_lent c.args.self.now.wire.ghost_name (wire_of g.S.Disk.view g.K.Link.view c.args.self.now.wire.now) (wire_of g.S.Disk.view g.K.Link.view c.write.new.self) c.args.file (length c.args.bytes.now) c.write.ensures.wire c.write.ensures.call

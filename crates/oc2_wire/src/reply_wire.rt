@@ -1,0 +1,70 @@
+// A wire that is lent to a filter.
+ghost use Rattle.std.specs.Prelude.{◌≡◌};
+ghost use Rattle.oc2_wire_site.specs.WireOf.{wire_of};
+ghost use Rattle.oc2_wire_site.specs.Entries.{empty_by, puts_by, taken_by};
+ghost use Rattle.oc2_wire_site.specs.LinesOf.{mark_of};
+ghost use Rattle.oc2_wire_site.specs.WireSound.{wire-sound};
+ghost use Rattle.oc2_wire.specs.ReplyWires.{lent_wire, sound-relabel};
+
+use cacao_site::{Disk, Failed, Parcel, Site};
+use oc2_wire_link::Link;
+use oc2_wire_site::WireSite;
+use std::alloc::AllocError;
+
+/// A wire while a filter answers on it. It puts replies, and takes nothing, so that behind the call the wire has read no line.
+#[derive(Drop)]
+pub(crate) struct ReplyWire<'a, S: Site, K: Link> {
+    wire: &'a mut WireSite<S, K>,
+}
+
+impl<'a, S: Site, K: Link> ReplyWire<'a, S, K> {
+    pub(crate) fn new(wire: &'a mut WireSite<S, K>) -> ReplyWire<'a, S, K>
+        ensures same_reference { result.wire.ghost_name ≡ wire.entry.ghost_name }
+        ensures wire { result.wire.now ≡ wire.old }
+    {
+        ReplyWire { wire }
+    }
+}
+
+impl<'a, S: Site, K: Link> Disk for ReplyWire<'a, S, K> {
+    ghost view = { λ w. lent_wire w.wire.ghost_name (wire_of S.view K.view w.wire.now) };
+
+    ghost sound = { λ w. sound-relabel _ (wire_of S.view K.view w.wire.now).site (wire-sound w.wire.now.asking
+        (mark_of K.view w.wire.now.mark) (S.view w.wire.now.site)
+        (puts_by S.view w.wire.now.puts.items) (taken_by S.view w.wire.now.taken.items) (empty_by S.view w.wire.now.empty.items)
+        w.wire.now.mishaps (S.sound w.wire.now.site) w.wire.now.puts_in_time w.wire.now.taken_in_time) };
+
+    fn length(&mut self, file: u8) -> Result<u64, Failed> {
+        self.wire.length(file)
+    }
+
+    fn read(&mut self, file: u8, at: u64, into: &mut [u8]) -> Result<u32, Failed> {
+        self.wire.read(file, at, into)
+    }
+
+    fn write(&mut self, file: u8, at: u64, bytes: &[u8]) -> Result<(), Failed> {
+        self.wire.write(file, at, bytes)
+    }
+
+    fn sync(&mut self, file: u8) -> Result<(), Failed> {
+        self.wire.sync(file)
+    }
+}
+
+impl<'a, S: Site, K: Link> Site for ReplyWire<'a, S, K> {
+    fn put(&mut self, parcel: Parcel) {
+        self.wire.put(parcel)
+    }
+
+    fn take(&mut self) -> Result<Option<Parcel>, AllocError> {
+        Err(AllocError)
+    }
+
+    fn say(&mut self, bytes: &[u8]) -> Result<(), Failed> {
+        self.wire.say(bytes)
+    }
+
+    fn reach(&mut self, moment: u64) -> u64 {
+        self.wire.reach(moment)
+    }
+}

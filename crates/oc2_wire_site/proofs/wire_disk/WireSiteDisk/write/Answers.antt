@@ -1,0 +1,7 @@
+use Rattle.std.specs.Prelude.{length}
+use Rattle.oc2_wire_site.specs.LinesOf.{mark_of}
+use Rattle.oc2_wire_site.proofs.MarkLemmas.{calls_marked}
+use Rattle.oc2_wire_site.proofs.wire_disk.WireSiteDisk.write.Goals as goal
+
+pub returns-clause-call : goal.returns-clause-call
+returns-clause-call g c = calls_marked c.args.self.now.asking (mark_of g.K.Link.view c.args.self.now.mark) c.args.file (length c.args.bytes.now) c.write.ensures.call
