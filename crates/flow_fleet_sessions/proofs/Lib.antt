@@ -1,6 +1,6 @@
-mod Openings
-mod Records
-mod Calls
-mod Steps
-mod Sessions
-mod Beside
+pub mod Openings
+pub mod Records
+pub mod Calls
+pub mod Steps
+pub mod Sessions
+pub mod Beside

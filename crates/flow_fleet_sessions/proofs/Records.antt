@@ -77,15 +77,15 @@ bare_further run site beat records next further =
 
 -- ---- records
 
-all_more : {A : Type 0} (P : A → Type 0) (xs : List A) (x : A) → AllByRecursion P xs → P x → AllByRecursion P (xs ++ x ∷ [])
+pub all_more : {A : Type 0} (P : A → Type 0) (xs : List A) (x : A) → AllByRecursion P xs → P x → AllByRecursion P (xs ++ x ∷ [])
 all_more P [] x all is = (is, tt)
 all_more P (y ∷ xs) x all is = (all.0, all_more P xs x all.1 is)
 
-taken_first : (v : View) (r : Record) (edits : List Edit) → v.count ≡ 0 → taken v r ≡ Some edits → begins v.seen r ≡ Some edits
+pub taken_first : (v : View) (r : Record) (edits : List Edit) → v.count ≡ 0 → taken v r ≡ Some edits → begins v.seen r ≡ Some edits
 taken_first v r edits c e = subst (λ (k : ℕ). cond (not (k == 0)) (change v.seen r) (begins v.seen r) ≡ Some edits) c e
 
 -- a record that comes first is the Begin of the run
-first_of_run : (h : HistoryView) (IsNext : Record → Type 0) (comes : MayCome h IsNext) → h.records ≡ [] → run_of (comes.next ∷ []) ≡ Some h.seen.run
+pub first_of_run : (h : HistoryView) (IsNext : Record → Type 0) (comes : MayCome h IsNext) → h.records ≡ [] → run_of (comes.next ∷ []) ≡ Some h.seen.run
 first_of_run h IsNext comes none =
     let zero_of : (flow_of h).count ≡ 0 = ap (λ (l : List Record). length l) none in
     let is : comes.next ≡ begin_of h.seen.given h.seen.run (moment_of comes.next) =
@@ -138,11 +138,11 @@ not_false a ne true e = absurd (ne (eqb-true a 0 e))
 not_false a ne false e = refl
 
 -- the record of an issue of a filter is its Send
-send_of : (issue : ℕ) (it : Issue) → it.agent ≢ 0 → record_of_issue issue it ≡ entry.Send it.task issue it.agent it.moment it.bytes
+pub send_of : (issue : ℕ) (it : Issue) → it.agent ≢ 0 → record_of_issue issue it ≡ entry.Send it.task issue it.agent it.moment it.bytes
 send_of issue it ne =
     ap (λ (b : Bool). cond b (entry.Ask it.task issue it.moment it.bytes) (entry.Send it.task issue it.agent it.moment it.bytes)) (not_false it.agent ne (it.agent == 0) refl)
 
-open_send : (v : EngineView) (site : SiteView) (issue : ℕ) (it : Issue) → IsUp v site → IsOpen v.history issue it → HasOpenSend v.history.records (command_of v.history issue it)
+pub open_send : (v : EngineView) (site : SiteView) (issue : ℕ) (it : Issue) → IsUp v site → IsOpen v.history issue it → HasOpenSend v.history.records (command_of v.history issue it)
 open_send v site issue it up is = record {
   of_run = run_known v.history up.has_file.engine.history up.begun;
   sent = record {
@@ -170,7 +170,7 @@ command_event start run v w issue moment old new up of_run told sends = command_
 
 -- ---- lines
 
-shows_before : (h : HistoryView) (records : List Record) (before : Shown) → IsHistory h → IsShownBefore h.seen.given h.seen.run records before → ShowsBefore records before
+pub shows_before : (h : HistoryView) (records : List Record) (before : Shown) → IsHistory h → IsShownBefore h.seen.given h.seen.run records before → ShowsBefore records before
 shows_before h [] before history shows = tt
 shows_before h (first ∷ others) before history shows = record {
   given = h.seen.given;

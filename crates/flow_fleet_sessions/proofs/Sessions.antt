@@ -24,7 +24,7 @@ opened_comes : (given : Given) (run : ℕ) (old : SiteView) (w : World) → IsSo
 opened_comes given run old w sound told puts pending files phase =
     let same : w.site.link ≡ old.link = files.others.rest.link ∙ files.journal.opens.only.rest.link in
     record {
-      site = link_stays old run old w.site (record { events = nothing; told = told; puts = puts; pending = pending }) sound
+      site = link_stays without_numbers (run ∷ []) old old w.site (record { events = nothing; told = told; puts = puts; pending = pending }) sound
           (shrinks (openings_shrink given run old w.site w.engine w.filters told files)) same;
       of_run = files.journal.of_run;
       in_hand = λ beat parcel h. absurd (empty_opened w.phase beat parcel phase h);
