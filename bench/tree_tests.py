@@ -68,6 +68,11 @@ class Pages(unittest.TestCase):
         told = list(reaching.wrong_marks(self.root))
         self.assertEqual(told, ["crates/base_low/specs/Helps.antt: its first line begins with `-- Scaffold: `"])
 
+    def test_tables_of_contracts_are_looked_at_whatever_stands_in_front(self):
+        for front in ("", "| ", "| 7 "):
+            (self.root / "docs" / "TABLE.md").write_text(f"{front}| Promise | Contract |\n|---|---|\n{front}| low | `read_low`: `high` |\n", encoding="utf-8")
+            self.assertEqual(len(list(contracts.lacking(self.root))), 1, front)
+
     def test_contracts_are_those_of_the_code(self):
         clauses = contracts.clauses_of(self.root)
         self.assertEqual(list(contracts.lacks("`base_low::read_low`: `value` (`IsLow`)", clauses)), [])

@@ -14,7 +14,7 @@ OWNER = re.compile(r"(?:impl(?:<.*?>)? (?:[\w:]+(?:<.*>)? for )?|(?:pub )?trait 
 CLAUSE = re.compile(r"\s*ensures(?: (\w+))? \{ ?(\w*)")
 RECORD = re.compile(r"(?:pub )?record (\w+)")
 FIELD = re.compile(r"  (?:pub )?(\w+) :")
-HEAD = re.compile(r"\|(?: \d* \|)? Promise \| Contract")
+HEAD = re.compile(r"\|(?: \d* ?\|)? Promise \| Contract")
 
 
 def names_of(crate, owner, function):

@@ -16,7 +16,7 @@ HOUSES = {
     "cacao_check": ["cacao_check"],
     "oc2_nets": ["oc2_nets"],
     "oc2_msg": ["oc2_msg"],
-    "oc2_wire": ["oc2_wire_link", "oc2_wire_memory", "oc2_wire_process", "oc2_wire_lines", "oc2_wire_site"],
+    "oc2_wire": ["oc2_wire", "oc2_wire_link", "oc2_wire_memory", "oc2_wire_process", "oc2_wire_lines", "oc2_wire_site"],
     "slpf_rules": ["slpf_rules"],
     "slpf_shadow": ["slpf_shadow"],
     "slpf_actuator": ["slpf_actuator"],
