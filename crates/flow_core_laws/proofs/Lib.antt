@@ -1,6 +1,6 @@
 pub mod Somes
-mod OwnEdits
-mod OwnRecords
+pub mod OwnEdits
+pub mod OwnRecords
 pub mod OwnTask
 pub mod Children
 mod StaysEnabled

@@ -4,9 +4,12 @@ use Rattle.std.specs.Prelude.{IfSome, option_and_then, slice_get}
 use Rattle.cacao_vars.specs.declared.declarations.Var.{Var}
 use Rattle.cacao_vars.specs.declared.scoping.Scope.{Scope}
 use Rattle.cacao_vars.specs.Declarations.{declared}
-use Rattle.cacao_vars.specs.Scopes.{HasParentsBefore, parent_of, declaration, home_declaration}
+use Rattle.cacao_vars.specs.Scopes.{HasParentsBefore, parent_of, along, home, declaration, home_declaration}
 use Rattle.cacao_vars.proofs.ScopeLemmas.{home_here, home_outer, home_none}
 use Rattle.cacao_check_regions.specs.Regions.{nearer}
+use Rattle.flow_core_rules.proofs.ShownLemmas.{find-passes}
+use Rattle.flow_core_rules.proofs.TaskLemmas.{get_within}
+use Rattle.flow_core_laws.proofs.Somes.{clash}
 
 abbrev in_home : List Scope → List ℕ → Option ℕ → Option Var
 in_home scopes name h = option_and_then (λ (at : ℕ). declaration scopes at name) h
@@ -70,21 +73,34 @@ module _ (scopes more : List Scope) (before : HasParentsBefore scopes) (after : 
   same_parent : (k : ℕ) → k < length scopes → parent_of (scopes ++ more) k ≡ parent_of scopes k
   same_parent k less = ap (λ (o : Option Scope). option_and_then (λ (s : Scope). s.parent) o) (get_front scopes more k less)
 
-  stays_at : (k : ℕ) → k < length scopes → ((p : ℕ) → p < k → home_declaration (scopes ++ more) p name ≡ home_declaration scopes p name)
-      → (b : Bool) (o : Option ℕ) → is_some (declaration scopes k name) ≡ b → parent_of scopes k ≡ o → IfSome o (λ p. p < k) → home_declaration (scopes ++ more) k name ≡ home_declaration scopes k name
-  stays_at k less earlier true o e p inner =
-      declared_here (scopes ++ more) k name (ap is_some (same_declaration k less) ∙ e) ∙ same_declaration k less ∙ sym (declared_here scopes k name e)
+  stays_at : (k : ℕ) → k < length scopes → ((p : ℕ) → p < k → home (scopes ++ more) p name ≡ home scopes p name)
+      → (b : Bool) (o : Option ℕ) → is_some (declaration scopes k name) ≡ b → parent_of scopes k ≡ o → IfSome o (λ p. p < k) → home (scopes ++ more) k name ≡ home scopes k name
+  stays_at k less earlier true o e p inner = home_here (scopes ++ more) k name (ap is_some (same_declaration k less) ∙ e) ∙ sym (home_here scopes k name e)
   stays_at k less earlier false None e p inner =
-      declared_none (scopes ++ more) k name (ap is_some (same_declaration k less) ∙ e) (same_parent k less ∙ p) ∙ sym (declared_none scopes k name e p)
+      home_none (scopes ++ more) k name (ap is_some (same_declaration k less) ∙ e) (same_parent k less ∙ p) ∙ sym (home_none scopes k name e p)
   stays_at k less earlier false (Some parent) e p inner =
-      declared_outer (scopes ++ more) k parent name after (ap is_some (same_declaration k less) ∙ e) (same_parent k less ∙ p) inner ∙ earlier parent inner
-      ∙ sym (declared_outer scopes k parent name before e p inner)
+      home_outer (scopes ++ more) k parent name after (ap is_some (same_declaration k less) ∙ e) (same_parent k less ∙ p) inner ∙ earlier parent inner
+      ∙ sym (home_outer scopes k parent name before e p inner)
 
-  stays_below : (n k : ℕ) → k < n → k < length scopes → home_declaration (scopes ++ more) k name ≡ home_declaration scopes k name
+  stays_below : (n k : ℕ) → k < n → k < length scopes → home (scopes ++ more) k name ≡ home scopes k name
   stays_below zero k less within = absurd (omega arith)
   stays_below (suc n) k less within =
       stays_at k within (λ p inner. stays_below n p (omega arith) (omega arith)) (is_some (declaration scopes k name)) (parent_of scopes k) refl refl (before k)
 
-  -- a scope that was there declares what it declared
+  -- a name has the home that it had, seen from a scope that was there
+  pub home_still : (k : ℕ) → k < length scopes → home (scopes ++ more) k name ≡ home scopes k name
+  home_still k less = stays_below (suc k) k (omega arith) less
+
+  there : (k : ℕ) (o : Option Scope) → slice_get scopes k ≡ o → is_some (option_and_then (λ (s : Scope). declared s.vars name) o) ≡ true → k < length scopes
+  there k None e h = absurd (clash false h refl)
+  there k (Some scope) e h = get_within scopes k scope e
+
+  -- and a scope that was there declares what it declared
   pub declared_still : (k : ℕ) → k < length scopes → home_declaration (scopes ++ more) k name ≡ home_declaration scopes k name
-  declared_still k less = stays_below (suc k) k (omega arith) less
+  declared_still k less =
+      ap (in_home (scopes ++ more) name) (home_still k less)
+      ∙ by (home scopes k name) (λ at e. find-passes (λ n. is_some (declaration scopes n name)) (along scopes k) at e)
+    where
+      by : (o : Option ℕ) → ((at : ℕ) → o ≡ Some at → is_some (declaration scopes at name) ≡ true) → in_home (scopes ++ more) name o ≡ in_home scopes name o
+      by None h = refl
+      by (Some at) h = same_declaration at (there at (slice_get scopes at) refl (h at refl))

@@ -3,4 +3,10 @@ mod LinkLemmas
 mod ScopedEdits
 mod ScopedRecords
 mod ScopedRuns
+mod AcceptedRules
 mod UsedNames
+mod TextLemmas
+mod TextEdits
+mod TextRules
+mod TextRecords
+mod TextRuns

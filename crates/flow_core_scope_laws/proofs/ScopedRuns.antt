@@ -54,8 +54,8 @@ AllScoped s = (t : ℕ) (task : Task) → slice_get s.tasks t ≡ Some task → 
 same_number : (a b : ℕ) → a ≡ b → nat_eq a b ≡ true
 same_number a b h = grind arith
 
-before : (s : State) → IsSane (shown s) → HasParentsBefore s.scopes
-before s sane k = by (slice_get s.scopes k) refl
+pub parents_before : (s : State) → IsSane (shown s) → HasParentsBefore s.scopes
+parents_before s sane k = by (slice_get s.scopes k) refl
   where
     by : (o : Option Scope) → slice_get s.scopes k ≡ o → IfSome (option_and_then (λ (x : Scope). x.parent) o) (λ p. p < k)
     by None e = tt
@@ -117,7 +117,7 @@ module _ (s : State) (r : Record) (edits : List Edit) (c : ChangesOwnTask s (aft
   still : (k : ℕ) (name : List ℕ) → k < length s.scopes → home_declaration later.scopes k name ≡ home_declaration s.scopes k name
   still k name less =
       subst (λ (ss : List Scope). home_declaration ss k name ≡ home_declaration s.scopes k name) (sym c.texts.scopes_are)
-      (declared_still s.scopes c.texts.opened (before s sane) (subst HasParentsBefore c.texts.scopes_are (before later sane_new)) name k less)
+      (declared_still s.scopes c.texts.opened (parents_before s sane) (subst HasParentsBefore c.texts.scopes_are (parents_before later sane_new)) name k less)
 
   kept : (k : ℕ) (x : Scope) → slice_get s.scopes k ≡ Some x → slice_get later.scopes k ≡ Some x
   kept k x e = subst (λ (ss : List Scope). slice_get ss k ≡ Some x) (sym c.texts.scopes_are) (get_front s.scopes c.texts.opened k (get_within s.scopes k x e) ∙ e)
@@ -246,7 +246,7 @@ module _ (s : State) (r : Record) (edits : List Edit) (c : ChangesOwnTask s (aft
         is_declared : (name : List ℕ) → home_declaration later.scopes task.scope name ≡ nearer (declares o.book name (o.was).step) (home_declaration s.scopes (o.was).scope name)
         is_declared name =
             let k = own_sane in
-            declared_inside later.scopes task.scope (o.was).scope (o.step).variables name (before later sane_new) scope earlier
+            declared_inside later.scopes task.scope (o.was).scope (o.step).variables name (parents_before later sane_new) scope earlier
             ∙ ap (nearer (declared (o.step).variables name)) (still (o.was).scope name k.scope)
             ∙ ap (λ x. nearer x (home_declaration s.scopes (o.was).scope name)) (sym (ap (option_and_then (λ (x : Step). declared x.variables name)) o.there))
 
@@ -456,4 +456,4 @@ tasks_read_in_scope given run records s t task book runnable leads is book_is =
         by (Some step) e =
             let x = sane in
             let scope : IsScopeOf s.scopes task step n = step_scope n step at e in
-            declared_inside s.scopes n task.scope step.variables name (before s sane) scope (x.scopes n (record { parent = Some task.scope; vars = step.variables }) scope)
+            declared_inside s.scopes n task.scope step.variables name (parents_before s sane) scope (x.scopes n (record { parent = Some task.scope; vars = step.variables }) scope)

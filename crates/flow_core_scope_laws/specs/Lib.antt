@@ -1,2 +1,3 @@
 pub mod ReadInScope
 pub mod UsedNames
+pub mod FitValues
