@@ -1,6 +1,7 @@
 -- Promise: What contracts see of the peers of a program.
-use Rattle.std.specs.Prelude.{◌≡◌, ℕ, Option, Some, None}
+use Rattle.std.specs.Prelude.{◌≡◌, ℕ, Option, Some, None, IfSome}
 use Rattle.cacao_site.specs.Counts.{next_count}
+use Rattle.oc2_wire_link.specs.Links.{LinkView}
 
 -- how often each call was made, also where it failed
 pub record PeerCalls : Type 0 where
@@ -12,6 +13,13 @@ pub record PeerCalls : Type 0 where
 pub record PeersView : Type 0 where
   pub calls : Option PeerCalls  -- told or not
   pub faults : ℕ  -- the calls that failed, and the faults of the links closed; always told
+  pub port : Option ℕ  -- the port at which it listens, told or not
+  pub next : Option LinkView  -- the link that the next start or accept gives, where it gives one; told or not
+  pub back : Option LinkView  -- the link that was closed last, as it was then; told or not
+
+-- where something is told, it is this
+abbrev pub IsAsTold : {A : Type 0} → Option A → A → Type 0
+IsAsTold told value = IfSome told (λ is. is ≡ value)
 
 abbrev pub no_calls : PeerCalls
 no_calls = record { starts = 0; binds = 0; accepts = 0; closes = 0 }

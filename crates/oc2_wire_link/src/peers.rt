@@ -1,7 +1,7 @@
 // The peers of a program.
 ghost use Rattle.std.specs.Prelude.{◌≡◌, ◌≤◌, IfOk, OnOk, OnErr};
 ghost use Rattle.cacao_site.specs.Counts.{count_after, next_count};
-ghost use Rattle.oc2_wire_link.specs.Peering.{Counts, PeersView, accepted, bound, closed, started};
+ghost use Rattle.oc2_wire_link.specs.Peering.{Counts, IsAsTold, PeersView, accepted, bound, closed, started};
 
 use crate::link::Link;
 use cacao_site::Failed;
@@ -20,6 +20,7 @@ pub trait Peers {
     /// Starts this program with the word `filters`, reads its line `port P`, and connects to it at 127.0.0.1.
     fn start(&mut self) -> Result<Self::Out, Failed>
         ensures counts { Counts started (view self.old).calls (view self.new).calls }
+        ensures gives { IfOk result (λ link. IsAsTold (view self.old).next (Self.Out.view link)) }
         ensures faultless { OnOk result ((view self.new).faults ≡ (view self.old).faults) }
         ensures cause { OnErr result ((view self.new).faults ≡ next_count (view self.old).faults) };
 
@@ -27,12 +28,15 @@ pub trait Peers {
     fn bind(&mut self) -> Result<u16, Failed>
         ensures counts { Counts bound (view self.old).calls (view self.new).calls }
         ensures port { IfOk result (λ port. 1 ≤ port) }
+        ensures told { IfOk result (IsAsTold (view self.new).port) }
+        ensures next { (view self.new).next ≡ (view self.old).next }
         ensures faultless { OnOk result ((view self.new).faults ≡ (view self.old).faults) }
         ensures cause { OnErr result ((view self.new).faults ≡ next_count (view self.old).faults) };
 
     /// Waits for one peer at the port, and answers the link to it.
     fn accept(&mut self) -> Result<Self::Out, Failed>
         ensures counts { Counts accepted (view self.old).calls (view self.new).calls }
+        ensures gives { IfOk result (λ link. IsAsTold (view self.old).next (Self.Out.view link)) }
         ensures faultless { OnOk result ((view self.new).faults ≡ (view self.old).faults) }
         ensures cause { OnErr result ((view self.new).faults ≡ next_count (view self.old).faults) };
 
@@ -40,6 +44,7 @@ pub trait Peers {
     /// the peers, and the call fails only where it could not do this.
     fn close(&mut self, link: Self::Out) -> Result<(), Failed>
         ensures counts { Counts closed (view self.old).calls (view self.new).calls }
+        ensures takes { IsAsTold (view self.new).back (Self.Out.view link) }
         ensures faults { OnOk result ((view self.new).faults ≡ count_after (view self.old).faults (Self.Out.view link).faults) }
         ensures cause { OnErr result
             ((view self.new).faults ≡ next_count (count_after (view self.old).faults (Self.Out.view link).faults)) };

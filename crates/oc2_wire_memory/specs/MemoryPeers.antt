@@ -1,8 +1,10 @@
 -- Promise: What contracts see of `MemoryPeers`.
-use Rattle.std.specs.Prelude.{◌≡◌, ℕ, Bool, ◌||◌, List, Some, length, nat_eq}
+use Rattle.std.specs.Prelude.{◌≡◌, ℕ, Bool, ◌||◌, List, [], ◌∷◌, Option, Some, None, option_map, length, nat_eq}
 use Rattle.cacao_site.specs.Counts.{next_count}
+use Rattle.oc2_wire_link.specs.Links.{LinkView}
 use Rattle.oc2_wire_link.specs.Peering.{PeersView}
 use Rattle.oc2_wire_memory.specs.Failing.{is_listed}
+use Rattle.oc2_wire_memory.specs.MemoryLink.{link_view}
 use Rattle.oc2_wire_memory.specs.declared.link.MemoryLink.{MemoryLink}
 use Rattle.oc2_wire_memory.specs.declared.peers.MemoryPeers.{MemoryPeers}
 
@@ -17,10 +19,21 @@ failing_of peers = peers.failing
 abbrev pub calls_of : MemoryPeers → ℕ
 calls_of peers = peers.calls
 
+-- the link that was closed last
+abbrev pub back_of : MemoryPeers → Option MemoryLink
+back_of peers = peers.back
+
+abbrev pub first_of : List MemoryLink → Option LinkView
+first_of [] = None
+first_of (link ∷ links) = Some (link_view link)
+
 abbrev pub peers_view : MemoryPeers → PeersView
 peers_view peers = record {
   calls = Some (record { starts = peers.starts; binds = peers.binds; accepts = peers.accepts; closes = peers.closes });
   faults = peers.faults;
+  port = Some 1;
+  next = first_of (links_of peers);
+  back = option_map link_view (back_of peers);
 }
 
 abbrev pub fails_by_plan : MemoryPeers → Bool

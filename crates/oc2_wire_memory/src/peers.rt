@@ -1,8 +1,9 @@
 // Peers in memory.
-ghost use Rattle.std.specs.Prelude.{◌≡◌, ◌≤◌, ◌∷◌, IfOk, OnOk, OnErr};
+ghost use Rattle.std.specs.Prelude.{◌≡◌, ◌≤◌, ◌∷◌, Some, option_map, IfOk, OnOk, OnErr};
 ghost use Rattle.std.specs.Result.{is_err};
 ghost use Rattle.cacao_site.specs.Counts.{count_after, next_count};
-ghost use Rattle.oc2_wire_link.specs.Peering.{Counts, accepted, bound, closed, no_calls, started};
+ghost use Rattle.oc2_wire_link.specs.Peering.{Counts, IsAsTold, accepted, bound, closed, no_calls, started};
+ghost use Rattle.oc2_wire_memory.specs.MemoryLink.{link_view};
 
 use crate::failing::is_listed;
 use crate::link::MemoryLink;
@@ -12,10 +13,12 @@ use cacao_site_memory::CallList;
 use oc2_wire_link::Peers;
 use std::collections::VecDeque;
 
-/// Peers that hand out the links that they were given. Their calls are numbered together from 0. They take no memory.
+/// Peers that hand out the links that they were given, and keep the one that was closed last. Their calls are numbered together
+/// from 0. They take no memory.
 #[derive(Drop)]
 pub struct MemoryPeers {
     links: VecDeque<MemoryLink>,
+    back: Option<MemoryLink>,
     failing: CallList,
     calls: u64,
     starts: u64,
@@ -26,18 +29,19 @@ pub struct MemoryPeers {
 }
 
 impl MemoryPeers {
-    ghost use Rattle.std.specs.Prelude.{Some};
-    ghost use Rattle.oc2_wire_memory.specs.MemoryPeers.{CallsOnce, calls_of, failing_of, fails_by_plan, links_of, peers_view};
+    ghost use Rattle.std.specs.Prelude.{None};
+    ghost use Rattle.oc2_wire_memory.specs.MemoryPeers.{CallsOnce, back_of, calls_of, failing_of, fails_by_plan, first_of, links_of, peers_view};
 
     /// Peers with these links, whose calls of these numbers fail.
     pub fn new(links: MemoryLinks, failing: CallList) -> MemoryPeers
         ensures links { links_of result ≡ links }
         ensures failing { failing_of result ≡ failing }
         ensures calls { calls_of result ≡ 0 }
-        ensures view { peers_view result ≡ record { calls = Some no_calls; faults = 0 } }
+        ensures view { peers_view result ≡ record { calls = Some no_calls; faults = 0; port = Some 1; next = first_of links; back = None } }
     {
         MemoryPeers {
             links: VecDeque::from(links.into_vec()),
+            back: None,
             failing,
             calls: 0,
             starts: 0,
@@ -48,12 +52,20 @@ impl MemoryPeers {
         }
     }
 
+    /// The link that was closed last, as it was then.
+    pub fn closed(&self) -> Option<&MemoryLink>
+        ensures { option_map (λ link. link.now) result ≡ back_of self.now }
+    {
+        self.back.as_ref()
+    }
+
     /// Counts a call, and answers whether it fails by its number.
     fn count_call(&mut self) -> bool
         ensures fails { result ≡ fails_by_plan self.old }
         ensures once { CallsOnce self.old self.new }
         ensures view { peers_view self.new ≡ peers_view self.old }
         ensures links { links_of self.new ≡ links_of self.old }
+        ensures back { back_of self.new ≡ back_of self.old }
     {
         let fails = is_listed(&self.failing, self.calls);
         self.calls = self.calls.saturating_add(1);
@@ -65,6 +77,7 @@ impl MemoryPeers {
         ensures calls { (peers_view self.new).calls ≡ (peers_view self.old).calls }
         ensures faults { (peers_view self.new).faults ≡ next_count (peers_view self.old).faults }
         ensures links { links_of self.new ≡ links_of self.old }
+        ensures back { back_of self.new ≡ back_of self.old }
         ensures failing { failing_of self.new ≡ failing_of self.old }
         ensures number { calls_of self.new ≡ calls_of self.old }
     {
@@ -74,7 +87,7 @@ impl MemoryPeers {
 }
 
 impl Peers for MemoryPeers {
-    ghost use Rattle.oc2_wire_memory.specs.MemoryPeers.{CallsOnce, fails_by_plan, fails_to_link, links_of, peers_view};
+    ghost use Rattle.oc2_wire_memory.specs.MemoryPeers.{CallsOnce, back_of, fails_by_plan, fails_to_link, links_of, peers_view};
 
     type Out = MemoryLink;
 
@@ -86,6 +99,7 @@ impl Peers for MemoryPeers {
         ensures faultless { OnOk result ((peers_view self.new).faults ≡ (peers_view self.old).faults) }
         ensures cause { OnErr result ((peers_view self.new).faults ≡ next_count (peers_view self.old).faults) }
         ensures by_plan { is_err result ≡ fails_to_link self.old }
+        ensures gives { IfOk result (λ link. IsAsTold (peers_view self.old).next (link_view link)) }
         ensures first { IfOk result (λ link. links_of self.old ≡ link ∷ links_of self.new) }
         ensures left { OnErr result (links_of self.new ≡ links_of self.old) }
         ensures once { CallsOnce self.old self.new }
@@ -108,6 +122,8 @@ impl Peers for MemoryPeers {
         ensures cause { OnErr result ((peers_view self.new).faults ≡ next_count (peers_view self.old).faults) }
         ensures by_plan { is_err result ≡ fails_by_plan self.old }
         ensures one { IfOk result (λ port. port ≡ 1) }
+        ensures told { IfOk result (IsAsTold (peers_view self.new).port) }
+        ensures next { (peers_view self.new).next ≡ (peers_view self.old).next }
         ensures left { links_of self.new ≡ links_of self.old }
         ensures once { CallsOnce self.old self.new }
     {
@@ -124,6 +140,7 @@ impl Peers for MemoryPeers {
         ensures faultless { OnOk result ((peers_view self.new).faults ≡ (peers_view self.old).faults) }
         ensures cause { OnErr result ((peers_view self.new).faults ≡ next_count (peers_view self.old).faults) }
         ensures by_plan { is_err result ≡ fails_to_link self.old }
+        ensures gives { IfOk result (λ link. IsAsTold (peers_view self.old).next (link_view link)) }
         ensures first { IfOk result (λ link. links_of self.old ≡ link ∷ links_of self.new) }
         ensures left { OnErr result (links_of self.new ≡ links_of self.old) }
         ensures once { CallsOnce self.old self.new }
@@ -138,18 +155,20 @@ impl Peers for MemoryPeers {
         }
     }
 
-    /// Drops the link, whose faults are counted. It fails exactly where its number is in the plan.
+    /// Keeps the link, whose faults are counted, in place of the one that was closed before. It fails exactly where its number is in the plan.
     fn close(&mut self, link: MemoryLink) -> Result<(), Failed>
         ensures counts { Counts closed (peers_view self.old).calls (peers_view self.new).calls }
         ensures faults { OnOk result ((peers_view self.new).faults ≡ count_after (peers_view self.old).faults link.faults) }
         ensures cause { OnErr result
             ((peers_view self.new).faults ≡ next_count (count_after (peers_view self.old).faults link.faults)) }
+        ensures takes { back_of self.new ≡ Some link }
         ensures by_plan { is_err result ≡ fails_by_plan self.old }
         ensures left { links_of self.new ≡ links_of self.old }
         ensures once { CallsOnce self.old self.new }
     {
         self.closes = self.closes.saturating_add(1);
         self.faults = self.faults.saturating_add(link.faults);
+        self.back = Some(link);
         if self.count_call() {
             return Err(self.fail());
         }

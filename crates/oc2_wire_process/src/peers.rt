@@ -11,7 +11,7 @@ use std::io;
 use std::net::{Ipv4Addr, Net, OpenListener, TcpListener, TcpStream};
 use std::process::{Child, Command, OpenProcess, Processes, Stdio};
 
-/// The peers of a program over std's processes and sockets. They tell no calls.
+/// The peers of a program over std's processes and sockets. They tell no calls, no port and no link.
 ///
 /// Each error of std is a fault, and so is want of memory inside std's calls. Nothing listens at another address than
 /// 127.0.0.1.
@@ -135,7 +135,7 @@ impl<'a, R: Net + Processes> Peers for ProcessPeers<'a, R> {
 
     type Out = SocketLink<R::Stream>;
 
-    ghost view = { λ peers. record { calls = None; faults = peers.faults } };
+    ghost view = { λ peers. record { calls = None; faults = peers.faults; port = None; next = None; back = None } };
 
     fn start(&mut self) -> Result<SocketLink<R::Stream>, Failed> {
         match self.start_program() {
