@@ -1,5 +1,3 @@
-pub mod BeginLemmas
+pub mod FaultLemmas
 pub mod LookLemmas
-pub mod PartLemmas
-pub mod RunFiles
-pub mod SplitLemmas
+pub mod PeerLemmas

@@ -2,6 +2,7 @@
 use Rattle.std.specs.Prelude.{◌≡◌, ◌≢◌, ℕ, List, [], ◌∷◌, IsTrue, Option, None}
 use Rattle.cacao_site.specs.View.{SiteView}
 use Rattle.flow_laws.specs.Good.{IsGood}
+use Rattle.cacao_cli_words.specs.Requests.{PeerRequest, peer_request}
 use Rattle.cacao_cli_words.specs.Words.{Text}
 use Rattle.cacao_cli_ends.specs.Asked.{Asked, asked}
 use Rattle.cacao_cli_ends.specs.Comes.{ComesExactly, ComesFor, IfFilesTold, IfTold, IsOneOf, file_faults, reached_statuses}
@@ -20,14 +21,19 @@ use Rattle.cacao_cli_life.specs.Lives.{KeepsAll}
 
 -- what a call was given, and what came of it
 pub record Call : Type 0 where
-  pub wanted : Option Asked  -- what its words ask
+  pub wanted : Option Asked  -- what its words ask of one process
+  pub peer : Option PeerRequest  -- what they ask for with a peer
   pub files : Option Files  -- what the shelf holds, where it tells it
   pub old : SiteView  -- the site when it began
   pub new : SiteView  -- the site on return
   pub status : ℕ
 
 abbrev pub call : List Text → Option Files → SiteView → SiteView → ℕ → Call
-call words files old new status = record { wanted = asked words; files = files; old = old; new = new; status = status }
+call words files old new status = record { wanted = asked words; peer = peer_request words; files = files; old = old; new = new; status = status }
+
+-- so it is of a call whose words ask for no peer
+abbrev pub InOneProcess : (Call → Type 0) → Call → Type 0
+InOneProcess P call = call.peer ≡ None → P call
 
 -- the headline: where all agrees when the call begins, all that a crash may leave agrees at each of its beats, whatever its status
 abbrev pub AgreesAtEachBeat : Call → Type 0

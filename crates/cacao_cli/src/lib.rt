@@ -4,8 +4,5 @@
 mod program;
 mod rehearse;
 mod run;
-mod run_parts;
-mod run_texts;
-mod start;
 
 pub use program::top;

@@ -1,5 +1,5 @@
 // The program as one call.
-ghost use Rattle.std.specs.Prelude.{◌≡◌, ◌≢◌, ◌≤◌, [], length, map, string_bytes};
+ghost use Rattle.std.specs.Prelude.{◌≡◌, ◌≢◌, ◌≤◌, [], Some, None, length, map, string_bytes};
 ghost use Rattle.cacao_site.specs.Counts.{next_count};
 ghost use Rattle.cacao_cli_ends.specs.Asked.{asked};
 ghost use Rattle.cacao_cli_ends.specs.Files.{files_of, shelf_call};
@@ -7,15 +7,21 @@ ghost use Rattle.cacao_cli_ends.specs.Stays.{NoFault, ReadsAtMost};
 ghost use Rattle.cacao_cli_ends.specs.Told.{end_of};
 ghost use Rattle.cacao_cli_status_laws.specs.Commands.{asked_by};
 ghost use Rattle.cacao_cli_status_laws.specs.Ended.{Ended, Performed};
-ghost use Rattle.cacao_cli.specs.Calls.{call, AgreesAtEachBeat, HoldsOnReturn, StatusesTell};
+ghost use Rattle.cacao_cli_words.specs.Commands.{peer_request_by};
+ghost use Rattle.cacao_cli_words.specs.Requests.{peer_request};
+ghost use Rattle.cacao_site.specs.Counts.{Rose};
+ghost use Rattle.cacao_cli.specs.Calls.{call, AgreesAtEachBeat, HoldsOnReturn, InOneProcess, StatusesTell};
+ghost use Rattle.cacao_cli.specs.WithPeers.{CallsPeersFew, EndsWithPeer, IfAlone, IsPeerStatus, PerformsWithPeer, TellsPeerFaults, files_for, files_named};
 
 use crate::rehearse::rehearse;
 use crate::run::run;
 use cacao_cli_ends::{End, finish};
 use cacao_cli_looks::{audit, canon, check, decide, say_rules, say_shadows, show};
-use cacao_cli_words::{Command, read_words};
+use cacao_cli_peers::{pair, serve};
+use cacao_cli_words::{Command, PeerCommand, read_peer_words, read_words};
 use cacao_site::{Shelf, Site};
 use flow_world_laws::complete_laws;
+use oc2_wire_link::Peers;
 use std::alloc::Global;
 
 /// Does what a command asks, all but the last line.
@@ -48,7 +54,7 @@ fn carry_out<'w, L: Shelf, S: Site>(
     }
 }
 
-/// Does what the words ask, all but the last line.
+/// Does what the words ask of one process, all but the last line.
 fn perform<'w, L: Shelf, S: Site>(
     alloc: Global,
     words: &'w [String],
@@ -69,26 +75,94 @@ fn perform<'w, L: Shelf, S: Site>(
     }
 }
 
+/// Does what a command asks that works with a peer, all but the last line.
+fn perform_with<'w, L: Shelf, S: Site, P: Peers>(
+    alloc: Global,
+    command: &PeerCommand<'w>,
+    shelf: &mut L,
+    site: &mut S,
+    peers: &mut P,
+) -> End<'w>
+    ensures calls { CallsPeersFew (Some (peer_request_by command.entry.now)) (P.view peers.old).calls (P.view peers.new).calls }
+    ensures performed { PerformsWithPeer (Some (peer_request_by command.entry.now))
+        (shelf_call (L.told shelf.old) (L.faults shelf.old) (L.faults shelf.new) (L.reads shelf.old) (L.reads shelf.new))
+        (P.view peers.old) (P.view peers.new) (S.view site.old) (S.view site.new) (end_of result) }
+    ensures files { L.told shelf.new ≡ L.told shelf.old }
+    ensures faults { L.faults shelf.old ≤ L.faults shelf.new }
+    ensures untouched { files_for (Some (peer_request_by command.entry.now)) None ≡ [] → shelf.new ≡ shelf.old }
+{
+    match command {
+        PeerCommand::Pair { wanted } => pair(alloc, wanted, shelf, site, peers),
+        PeerCommand::Filters => serve(alloc, site, peers),
+    }
+}
+
+/// Does what the words ask, all but the last line.
+fn perform_any<'w, L: Shelf, S: Site, P: Peers>(
+    alloc: Global,
+    words: &'w [String],
+    shelf: &mut L,
+    site: &mut S,
+    peers: &mut P,
+) -> End<'w>
+    ensures alone { IfAlone (map string_bytes words.entry.now) (Performed (asked (map string_bytes words.entry.now))
+        (shelf_call (L.told shelf.old) (L.faults shelf.old) (L.faults shelf.new) (L.reads shelf.old) (L.reads shelf.new))
+        (S.view site.old) (S.view site.new) (end_of result)) }
+    ensures with_peer { PerformsWithPeer (peer_request (map string_bytes words.entry.now))
+        (shelf_call (L.told shelf.old) (L.faults shelf.old) (L.faults shelf.new) (L.reads shelf.old) (L.reads shelf.new))
+        (P.view peers.old) (P.view peers.new) (S.view site.old) (S.view site.new) (end_of result) }
+    ensures apart { IfAlone (map string_bytes words.entry.now) (peers.new ≡ peers.old) }
+    ensures calls { CallsPeersFew (peer_request (map string_bytes words.entry.now)) (P.view peers.old).calls (P.view peers.new).calls }
+    ensures files { L.told shelf.new ≡ L.told shelf.old }
+    ensures faults { L.faults shelf.old ≤ L.faults shelf.new }
+    ensures untouched { files_named (map string_bytes words.entry.now) ≡ [] → shelf.new ≡ shelf.old }
+{
+    match read_peer_words(alloc, words) {
+        Ok(Some(command)) => perform_with(alloc, &command, shelf, site, peers),
+        Ok(None) => perform(alloc, words, shelf, site),
+        Err(_) => End::NoMemory,
+    }
+}
+
 /// Does what the words after the program's name ask, says its lines, and answers the exit status.
 ///
 /// Each status but 0 says why: 1 a rule is broken, 2 the words have no reading, 3 the shelf failed, 4 there is no such file, 5 a
 /// file has no reading, 6 the run has ended and failed, 7 it is paused, 8 the disk failed, 9 a line could not be said, 10 memory was
 /// wanted, 11 a limit was passed, 12 the engine's file is another run's or the number is used, 13 a file of the disk is damaged, 14
-/// the run waits for a moment, 15 too many parcels changed nothing, 16 the run waits for an operator, 18 the files of a run do not
-/// agree. Where several causes hold, 2 comes before 11 for too many playbooks, then 3, 4 and 11 of one file before those of the
-/// next, all of them before 5, 5 before 1, and 1 before those of a session, which come in its order.
-pub fn top<L: Shelf, S: Site>(alloc: Global, words: &[String], shelf: &mut L, site: &mut S) -> u8
+/// the run waits for a moment, 15 too many parcels changed nothing, 16 the run waits for an operator, 17 the peers failed, 18 the
+/// files of a run do not agree. Where several causes hold, 2 comes before 11 for too many playbooks, then 3, 4 and 11 of one file
+/// before those of the next, all of them before 5, 5 before 1, and 1 before those of a session, which come in its order; 17 comes
+/// behind 11, 12 and 13 of what a session or service came to, and before them where none began.
+pub fn top<L: Shelf, S: Site, P: Peers>(
+    alloc: Global,
+    words: &[String],
+    shelf: &mut L,
+    site: &mut S,
+    peers: &mut P,
+) -> u8
     // The headline.
-    ensures agreement { AgreesAtEachBeat (call (map string_bytes words.now) (L.told shelf.old) (S.view site.old) (S.view site.new) result) }
+    ensures agreement { InOneProcess AgreesAtEachBeat (call (map string_bytes words.now) (L.told shelf.old) (S.view site.old) (S.view site.new) result) }
 
     // Each status with its cause, and what holds on return.
-    ensures statuses { StatusesTell (call (map string_bytes words.now) (L.told shelf.old) (S.view site.old) (S.view site.new) result) }
-    ensures returned { HoldsOnReturn (call (map string_bytes words.now) (L.told shelf.old) (S.view site.old) (S.view site.new) result) }
+    ensures statuses { InOneProcess StatusesTell (call (map string_bytes words.now) (L.told shelf.old) (S.view site.old) (S.view site.new) result) }
+    ensures returned { InOneProcess HoldsOnReturn (call (map string_bytes words.now) (L.told shelf.old) (S.view site.old) (S.view site.new) result) }
 
     // All that the call does: what it reads, the work, the lines and the status.
-    ensures ended { Ended (asked (map string_bytes words.now))
+    ensures ended { IfAlone (map string_bytes words.now) (Ended (asked (map string_bytes words.now))
         (shelf_call (L.told shelf.old) (L.faults shelf.old) (L.faults shelf.new) (L.reads shelf.old) (L.reads shelf.new))
-        (S.view site.old) (S.view site.new) result }
+        (S.view site.old) (S.view site.new) result) }
+
+    // The same of words that ask for a peer.
+    ensures with_peer { EndsWithPeer (peer_request (map string_bytes words.now))
+        (shelf_call (L.told shelf.old) (L.faults shelf.old) (L.faults shelf.new) (L.reads shelf.old) (L.reads shelf.new))
+        (P.view peers.old) (P.view peers.new) (S.view site.old) (S.view site.new) result }
+    ensures peer_faults { TellsPeerFaults (peer_request (map string_bytes words.now)) (S.view site.old) (S.view site.new) result }
+    ensures own { IsPeerStatus (peer_request (map string_bytes words.now)) result }
+
+    // The peers.
+    ensures peers_failed { result ≡ 17 → Rose (P.view peers.old).faults (P.view peers.new).faults }
+    ensures peer_calls { CallsPeersFew (peer_request (map string_bytes words.now)) (P.view peers.old).calls (P.view peers.new).calls }
+    ensures apart { IfAlone (map string_bytes words.now) (peers.new ≡ peers.old) }
 
     // The shelf, and want of memory.
     ensures shelf_failed { result ≡ 3 → L.faults shelf.new ≡ next_count (L.faults shelf.old) }
@@ -97,10 +171,10 @@ pub fn top<L: Shelf, S: Site>(alloc: Global, words: &[String], shelf: &mut L, si
         → NoFault (L.faults shelf.old) (L.faults shelf.new) (S.view site.old) (S.view site.new) }
     ensures files { L.told shelf.new ≡ L.told shelf.old }
     ensures faults { L.faults shelf.old ≤ L.faults shelf.new }
-    ensures reads { ReadsAtMost (length (files_of (asked (map string_bytes words.now)))) (L.reads shelf.old) (L.reads shelf.new) }
-    ensures untouched { files_of (asked (map string_bytes words.now)) ≡ [] → shelf.new ≡ shelf.old }
+    ensures reads { ReadsAtMost (length (files_named (map string_bytes words.now))) (L.reads shelf.old) (L.reads shelf.new) }
+    ensures untouched { files_named (map string_bytes words.now) ≡ [] → shelf.new ≡ shelf.old }
 {
     complete_laws();
-    let end = perform(alloc, words, shelf, site);
+    let end = perform_any(alloc, words, shelf, site, peers);
     finish(alloc, &end, site)
 }

@@ -6,10 +6,9 @@ ghost use Rattle.cacao_cli_ends.specs.Told.{end_of};
 ghost use Rattle.cacao_cli_status_laws.specs.Ended.{Performed};
 ghost use Rattle.cacao_cli_ends.specs.Files.{files_of, shelf_call};
 
-use crate::run_parts::{names_of, split};
-use crate::start::start;
-use cacao_cli_ends::{End, Limit};
-use cacao_cli_looks::read_files;
+use cacao_cli_ends::End;
+use cacao_cli_session::hold;
+use cacao_cli_starts::{Ready, make_ready};
 use cacao_cli_words::RunWords;
 use cacao_site::{Shelf, Site};
 use std::alloc::Global;
@@ -28,19 +27,10 @@ pub fn run<'w, L: Shelf, S: Site>(
     ensures faults { L.faults shelf.old ≤ L.faults shelf.new }
     ensures untouched { files_of (Some (runs (run_request wanted.entry.now))) ≡ [] → shelf.new ≡ shelf.old }
 {
-    let limit = Limit::BookCount;
-    if wanted.books.as_slice().len() as u64 > limit.most() {
-        return End::Past { limit };
-    }
-    let Ok(names) = names_of(alloc, wanted) else {
-        return End::NoMemory;
-    };
-    let texts = match read_files(alloc, names.as_slice(), shelf) {
-        Ok(texts) => texts,
-        Err(end) => return end,
-    };
-    match split(alloc, wanted, texts) {
-        Ok(texts) => start(alloc, wanted, &texts, site),
-        Err(_) => End::NoMemory,
+    match make_ready(alloc, wanted, shelf) {
+        Ok(Ready { setup, answers }) => {
+            hold(alloc, setup, &answers, wanted.run, wanted.most, site)
+        }
+        Err(end) => end,
     }
 }

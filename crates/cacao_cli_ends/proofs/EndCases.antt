@@ -2,7 +2,7 @@
 use Rattle.std.proofs.Common.{◌≡◌, ◌⊎◌, inl, inr, refl, arith, ℕ, List, [], ◌∷◌}
 use Rattle.cacao_cli_ends.specs.Comes.{IsOneOf}
 use Rattle.cacao_cli_ends.specs.declared.limit.Limit.{Limit}
-use Rattle.cacao_cli_ends.specs.Ends.{End, status_of, done, accepted, agrees, disagrees, refused, bind_refused, ended_ok, ended_failed, paused, waiting, flooded, asked_for, other_run, other_book, run_used, not_understood, past, shelf_failed, no_such_file, not_readable, rehearsed, damaged, disk_failed, unsaid, no_memory}
+use Rattle.cacao_cli_ends.specs.Ends.{End, status_of, done, accepted, agrees, disagrees, refused, bind_refused, ended_ok, ended_failed, paused, waiting, flooded, asked_for, other_run, other_book, run_used, not_understood, past, shelf_failed, no_such_file, not_readable, rehearsed, damaged, peers_failed, disk_failed, unsaid, no_memory}
 
 pub nine-or-not : (end : End) → (end ≡ unsaid) ⊎ (status_of end ≡ 9 → ⊥)
 nine-or-not done = inr (λ e. omega (arith, e))
@@ -27,6 +27,7 @@ nine-or-not (no_such_file name) = inr (λ e. omega (arith, e))
 nine-or-not (not_readable name reason) = inr (λ e. omega (arith, e))
 nine-or-not (rehearsed positions records acts rules) = inr (λ e. omega (arith, e))
 nine-or-not (damaged file place) = inr (λ e. omega (arith, e))
+nine-or-not peers_failed = inr (λ e. omega (arith, e))
 nine-or-not disk_failed = inr (λ e. omega (arith, e))
 nine-or-not unsaid = inl refl
 nine-or-not no_memory = inr (λ e. omega (arith, e))
@@ -54,6 +55,7 @@ eight-is (no_such_file name) e = absurd (omega (arith, e))
 eight-is (not_readable name reason) e = absurd (omega (arith, e))
 eight-is (rehearsed positions records acts rules) e = absurd (omega (arith, e))
 eight-is (damaged file place) e = absurd (omega (arith, e))
+eight-is peers_failed e = absurd (omega (arith, e))
 eight-is disk_failed e = refl
 eight-is unsaid e = absurd (omega (arith, e))
 eight-is no_memory e = absurd (omega (arith, e))
@@ -94,6 +96,7 @@ session-end (no_such_file name) = record { failed = λ e. absurd (omega (arith, 
 session-end (not_readable name reason) = record { failed = λ e. absurd (omega (arith, e)); pauses = λ e. absurd (omega (arith, e)); another = λ e. absurd (omega (arith, e)); waits = λ e. absurd (omega (arith, e)); floods = λ e. absurd (omega (arith, e)); asks = λ e. absurd (omega (arith, e)); passes = λ e. absurd (omega (arith, e)); damage = λ e. absurd (omega (arith, e)) }
 session-end (rehearsed positions records acts rules) = record { failed = λ e. absurd (omega (arith, e)); pauses = λ e. absurd (omega (arith, e)); another = λ e. absurd (omega (arith, e)); waits = λ e. absurd (omega (arith, e)); floods = λ e. absurd (omega (arith, e)); asks = λ e. absurd (omega (arith, e)); passes = λ e. absurd (omega (arith, e)); damage = λ e. absurd (omega (arith, e)) }
 session-end (damaged file place) = record { failed = λ e. absurd (omega (arith, e)); pauses = λ e. absurd (omega (arith, e)); another = λ e. absurd (omega (arith, e)); waits = λ e. absurd (omega (arith, e)); floods = λ e. absurd (omega (arith, e)); asks = λ e. absurd (omega (arith, e)); passes = λ e. absurd (omega (arith, e)); damage = λ e. (file, place, refl) }
+session-end peers_failed = record { failed = λ e. absurd (omega (arith, e)); pauses = λ e. absurd (omega (arith, e)); another = λ e. absurd (omega (arith, e)); waits = λ e. absurd (omega (arith, e)); floods = λ e. absurd (omega (arith, e)); asks = λ e. absurd (omega (arith, e)); passes = λ e. absurd (omega (arith, e)); damage = λ e. absurd (omega (arith, e)) }
 session-end disk_failed = record { failed = λ e. absurd (omega (arith, e)); pauses = λ e. absurd (omega (arith, e)); another = λ e. absurd (omega (arith, e)); waits = λ e. absurd (omega (arith, e)); floods = λ e. absurd (omega (arith, e)); asks = λ e. absurd (omega (arith, e)); passes = λ e. absurd (omega (arith, e)); damage = λ e. absurd (omega (arith, e)) }
 session-end unsaid = record { failed = λ e. absurd (omega (arith, e)); pauses = λ e. absurd (omega (arith, e)); another = λ e. absurd (omega (arith, e)); waits = λ e. absurd (omega (arith, e)); floods = λ e. absurd (omega (arith, e)); asks = λ e. absurd (omega (arith, e)); passes = λ e. absurd (omega (arith, e)); damage = λ e. absurd (omega (arith, e)) }
 session-end no_memory = record { failed = λ e. absurd (omega (arith, e)); pauses = λ e. absurd (omega (arith, e)); another = λ e. absurd (omega (arith, e)); waits = λ e. absurd (omega (arith, e)); floods = λ e. absurd (omega (arith, e)); asks = λ e. absurd (omega (arith, e)); passes = λ e. absurd (omega (arith, e)); damage = λ e. absurd (omega (arith, e)) }

@@ -2,7 +2,7 @@
 use Rattle.std.proofs.Common.{◌≡◌, ◌∙◌, refl, ap, arith, ℕ, List, [], ◌∷◌, ◌++◌, Option, Some, None}
 use Rattle.cacao_site.specs.View.{SiteView}
 use Rattle.cacao_cli_words.specs.Words.{Text}
-use Rattle.cacao_cli_ends.specs.Ends.{End, status_of, text_of, done, accepted, refused, not_understood, past, shelf_failed, no_such_file, not_readable, agrees, disagrees, rehearsed, damaged, disk_failed, unsaid, no_memory, bind_refused, ended_ok, ended_failed, paused, waiting, flooded, asked_for, other_run, other_book, run_used}
+use Rattle.cacao_cli_ends.specs.Ends.{End, status_of, text_of, done, accepted, refused, not_understood, past, shelf_failed, no_such_file, not_readable, agrees, disagrees, rehearsed, damaged, peers_failed, disk_failed, unsaid, no_memory, bind_refused, ended_ok, ended_failed, paused, waiting, flooded, asked_for, other_run, other_book, run_used}
 use Rattle.cacao_cli_ends.specs.Lines.{Tells, TellsText}
 
 -- ---- the status and the line of an end
@@ -30,6 +30,7 @@ end-unsaid (agrees records acts) e = absurd (omega (arith, e))
 end-unsaid (disagrees file place) e = absurd (omega (arith, e))
 end-unsaid (rehearsed positions records acts rules) e = absurd (omega (arith, e))
 end-unsaid (damaged file place) e = absurd (omega (arith, e))
+end-unsaid peers_failed e = absurd (omega (arith, e))
 end-unsaid disk_failed e = absurd (omega (arith, e))
 end-unsaid unsaid e = refl
 end-unsaid no_memory e = refl
@@ -57,6 +58,7 @@ end-memory (agrees records acts) e = absurd (omega (arith, e))
 end-memory (disagrees file place) e = absurd (omega (arith, e))
 end-memory (rehearsed positions records acts rules) e = absurd (omega (arith, e))
 end-memory (damaged file place) e = absurd (omega (arith, e))
+end-memory peers_failed e = absurd (omega (arith, e))
 end-memory disk_failed e = absurd (omega (arith, e))
 end-memory unsaid e = refl
 end-memory no_memory e = refl
@@ -84,6 +86,7 @@ end-failed (agrees records acts) e = absurd (omega (arith, e))
 end-failed (disagrees file place) e = absurd (omega (arith, e))
 end-failed (rehearsed positions records acts rules) e = absurd (omega (arith, e))
 end-failed (damaged file place) e = absurd (omega (arith, e))
+end-failed peers_failed e = absurd (omega (arith, e))
 end-failed disk_failed e = absurd (omega (arith, e))
 end-failed unsaid e = absurd (omega (arith, e))
 end-failed no_memory e = absurd (omega (arith, e))

@@ -4,7 +4,7 @@ use Rattle.cacao_check.specs.declared.breaks.Break.{Break}
 use Rattle.cacao_cli_words.specs.Words.{Text}
 use Rattle.cacao_cli_ends.specs.declared.limit.Limit.{Limit}
 use Rattle.cacao_cli_ends.specs.declared.limit.Limit.TheVariants.{FileBytes, BookCount, TaskCount, JournalBytes, LastMoment}
-use Rattle.cacao_cli_ends.specs.declared.limit.Limit.TheVariants.{CommandBytes}
+use Rattle.cacao_cli_ends.specs.declared.limit.Limit.TheVariants.{CommandBytes, LineBytes}
 use Rattle.cacao_cli_ends.specs.declared.reason.Reason.{Reason}
 use Rattle.cacao_cli_ends.specs.declared.reason.Reason.TheVariants.{NotJson, RepeatedName, NotWhole, Line}
 
@@ -15,6 +15,7 @@ limit_name TaskCount = codes "tasks"
 limit_name JournalBytes = codes "journal"
 limit_name LastMoment = codes "moment"
 limit_name CommandBytes = codes "command"
+limit_name LineBytes = codes "line"
 
 -- the most that is taken
 abbrev pub most : Limit → ℕ
@@ -24,6 +25,7 @@ most TaskCount = 1000000
 most JournalBytes = 67108864
 most LastMoment = 9000000000000000
 most CommandBytes = 1048576
+most LineBytes = 1048610
 
 abbrev pub limit_text : Limit → Text
 limit_text limit = limit_name limit ++ (codes " " ++ decimal (most limit))
@@ -67,6 +69,7 @@ pub data End : Type 0 where
   disagrees : (file place : ℕ) → End  -- they do not
   rehearsed : (positions records acts rules : ℕ) → End  -- a rehearsal ended well, and this was counted
   damaged : (file place : ℕ) → End  -- a file of the disk holds nothing that the program wrote
+  peers_failed : End  -- a call of the peers failed
   disk_failed : End
   unsaid : End  -- a line could not be said
   no_memory : End
@@ -94,6 +97,7 @@ status_of (agrees records acts) = 0
 status_of (disagrees file place) = 18
 status_of (rehearsed positions records acts rules) = 0
 status_of (damaged file place) = 13
+status_of peers_failed = 17
 status_of disk_failed = 8
 status_of unsaid = 9
 status_of no_memory = 10
@@ -124,6 +128,7 @@ text_of (rehearsed positions records acts rules) =
     Some (codes "rehearsed " ++ (decimal positions ++ (codes ": " ++ (decimal records ++ (codes " records, "
     ++ (decimal acts ++ (codes " acts, " ++ (decimal rules ++ codes " rules, ended ok"))))))))
 text_of (damaged file place) = Some (codes "damaged: file " ++ (decimal file ++ (codes " place " ++ decimal place)))
+text_of peers_failed = Some (codes "peers failed")
 text_of disk_failed = Some (codes "disk failed")
 text_of unsaid = None
 text_of no_memory = None
@@ -152,6 +157,7 @@ is_fault (agrees records acts) = false
 is_fault (disagrees file place) = false
 is_fault (rehearsed positions records acts rules) = false
 is_fault (damaged file place) = false
+is_fault peers_failed = true
 is_fault disk_failed = true
 is_fault unsaid = true
 is_fault no_memory = false

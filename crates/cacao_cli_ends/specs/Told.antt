@@ -26,6 +26,7 @@ end_of (how.Agrees records acts) = as_said.agrees records acts
 end_of (how.Disagrees file place) = as_said.disagrees file place
 end_of (how.Rehearsed positions records acts rules) = as_said.rehearsed positions records acts rules
 end_of (how.Damaged file place) = as_said.damaged file place
+end_of how.PeersFailed = as_said.peers_failed
 end_of how.DiskFailed = as_said.disk_failed
 end_of how.Unsaid = as_said.unsaid
 end_of how.NoMemory = as_said.no_memory

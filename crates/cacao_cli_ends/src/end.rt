@@ -93,6 +93,8 @@ pub enum End<'w> {
         file: u8,
         place: u64,
     },
+    /// A call of the peers failed.
+    PeersFailed,
     /// The disk failed.
     DiskFailed,
     /// A line could not be said.
@@ -125,6 +127,7 @@ impl<'w> End<'w> {
             End::Waiting { .. } => 14,
             End::Flooded => 15,
             End::Asked { .. } => 16,
+            End::PeersFailed => 17,
             End::Disagrees { .. } => 18,
         }
     }
@@ -186,6 +189,7 @@ impl<'w> fmt::Display for End<'w> {
                 "rehearsed {positions}: {records} records, {acts} acts, {rules} rules, ended ok"
             ),
             End::Damaged { file, place } => write!(f, "damaged: file {file} place {place}"),
+            End::PeersFailed => f.write_str("peers failed"),
             End::DiskFailed => f.write_str("disk failed"),
         }
     }

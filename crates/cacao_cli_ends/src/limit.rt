@@ -16,6 +16,8 @@ pub enum Limit {
     LastMoment,
     /// The bytes of a filled command.
     CommandBytes,
+    /// The bytes of a line between two processes.
+    LineBytes,
 }
 
 impl Limit {
@@ -33,6 +35,7 @@ impl Limit {
             Limit::JournalBytes => "journal",
             Limit::LastMoment => "moment",
             Limit::CommandBytes => "command",
+            Limit::LineBytes => "line",
         }
     }
 
@@ -47,6 +50,7 @@ impl Limit {
             Limit::JournalBytes => 67_108_864,
             Limit::LastMoment => 9_000_000_000_000_000,
             Limit::CommandBytes => 1_048_576,
+            Limit::LineBytes => 1_048_610,
         }
     }
 }

@@ -48,6 +48,9 @@ pub fn finish<S: Site>(alloc: Global, end: &End<'_>, site: &mut S) -> u8
     if let End::ShelfFailed { line } = end {
         return say_last(line.as_bytes(), end.status(), site);
     }
+    if let End::PeersFailed = end {
+        return say_last(b"peers failed\n", end.status(), site);
+    }
     if let End::DiskFailed = end {
         return say_last(b"disk failed\n", end.status(), site);
     }

@@ -7,7 +7,7 @@ use Rattle.std.proofs.lemmas.Option.{none-some}
 use Rattle.base_decimals.specs.Numbers.{number}
 use Rattle.flow_core_rules.proofs.HereLemmas.{some_option}
 use Rattle.cacao_cli_words.specs.Words.{Text, Reading, read}
-use Rattle.cacao_cli_words.specs.Requests.{Command, Request, agent_number, at_least, audit_asks, canon_asks, check_asks, commands, decide_asks, if_apart, most_records, number_asks, pairs_of, positions_number, request, request_of, run_from, run_number, run_of, show_asks}
+use Rattle.cacao_cli_words.specs.Requests.{Command, Request, agent_number, at_least, audit_asks, canon_asks, check_asks, commands, decide_asks, if_apart, most_records, number_asks, pairs_of, positions_number, request, request_of, run_from, run_number, run_of, run_wanted, RunRequest, show_asks}
 use Rattle.cacao_cli_words.specs.Requests as words
 use Rattle.cacao_cli_ends.specs.Asked.{Asked, canonises, checks, runs, shows, lists_rules, decides, shadows, rehearses, audits, asked, built}
 
@@ -58,11 +58,18 @@ budget (Some text) most e = by (number 1_000_000_000 text) e
     by None f = absurd (none-some most f)
     by (Some n) f = at-least n most (nat_le 1 n) refl f
 
-from-room : (run steps bind answers : Option Text) (names : List Text) → IfSome (run_from run steps bind answers names) HasRoom
+abbrev HasMost : RunRequest → Type 0
+HasMost wanted = 1 ≤ wanted.most
+
+from-room : (run steps bind answers : Option Text) (names : List Text) → IfSome (run_from run steps bind answers names) HasMost
 from-room run steps bind answers [] = tt
 from-room run steps bind answers (book ∷ books) =
-    some_option (option_and_then run_number run) (λ n. option_and_then (run_of bind answers n (book ∷ books)) (most_records steps)) HasRoom (λ n e.
-    some_option (most_records steps) (run_of bind answers n (book ∷ books)) HasRoom (λ most f. budget steps most f))
+    some_option (option_and_then run_number run) (λ n. option_and_then (run_of bind answers n (book ∷ books)) (most_records steps)) HasMost (λ n e.
+    some_option (most_records steps) (run_of bind answers n (book ∷ books)) HasMost (λ most f. budget steps most f))
+
+run-room : (o : Option RunRequest) → IfSome o HasMost → IfSome (option_map words.runs o) HasRoom
+run-room None some = tt
+run-room (Some wanted) some = some
 
 -- ---- the other commands
 
@@ -96,7 +103,7 @@ audit-room (engine ∷ names) = mapped (words.audits engine) (option_and_then if
 
 -- ---- all
 
-abbrev AsksWithRoom : Command → Type 0
+abbrev AsksWithRoom : Command Request → Type 0
 AsksWithRoom c = (r : Reading) → IfSome (c.asks r) HasRoom
 
 each-command : AllByRecursion AsksWithRoom commands
@@ -105,7 +112,7 @@ each-command = (
   (
     λ r. check-room r.names,
     (
-      λ r. from-room _ _ _ _ r.names,
+      λ r. run-room (run_wanted r) (from-room _ _ _ _ r.names),
       (
         λ r. show-room r.names,
         (
@@ -126,7 +133,7 @@ each-command = (
   ),
 )
 
-found : (p : Command → Bool) (list : List Command) → AllByRecursion AsksWithRoom list → IfSome (find p list) AsksWithRoom
+found : (p : Command Request → Bool) (list : List (Command Request)) → AllByRecursion AsksWithRoom list → IfSome (find p list) AsksWithRoom
 found p [] all = tt
 found p (c ∷ list) all = by (p c) (found p list all.1)
   where
@@ -137,7 +144,7 @@ found p (c ∷ list) all = by (p c) (found p list all.1)
 request-room : (ws : List Text) → IfSome (request ws) HasRoom
 request-room [] = tt
 request-room (first ∷ ws) = some_option (find (λ c. bytes_eq first c.name) commands) (request_of ws) HasRoom (λ c e.
-    some_option (read c.options ws) c.asks HasRoom (λ r f. subst (λ (o : Option Command). IfSome o AsksWithRoom) e (found (λ c. bytes_eq first c.name) commands each-command) r))
+    some_option (read c.options ws) c.asks HasRoom (λ r f. subst (λ (o : Option (Command Request)). IfSome o AsksWithRoom) e (found (λ c. bytes_eq first c.name) commands each-command) r))
 
 built-budget : (q : Request) → HasRoom q → IfSome (built q) HasBudget
 built-budget (words.canonises book) room = tt

@@ -13,7 +13,7 @@ use Rattle.slpf_rules.specs.declared.rules.Rule.{Rule}
 use Rattle.slpf_shadow.specs.declared.shadow_lists.Shadow.{Shadow}
 use Rattle.cacao_cli_filters.specs.Lines.{decision_lines, rule_line, rule_lines, shadow_line, verdict_word}
 use Rattle.cacao_cli_words.specs.Words.{Text}
-use Rattle.cacao_cli_ends.specs.Ends.{End, text_of, done, accepted, agrees, disagrees, refused, bind_refused, ended_ok, ended_failed, paused, waiting, flooded, asked_for, other_run, other_book, run_used, not_understood, past, shelf_failed, no_such_file, not_readable, rehearsed, damaged, disk_failed, unsaid, no_memory}
+use Rattle.cacao_cli_ends.specs.Ends.{End, text_of, done, accepted, agrees, disagrees, refused, bind_refused, ended_ok, ended_failed, paused, waiting, flooded, asked_for, other_run, other_book, run_used, not_understood, past, shelf_failed, no_such_file, not_readable, rehearsed, damaged, disk_failed, peers_failed, unsaid, no_memory}
 use Rattle.cacao_cli_looks.specs.Openings.{AreLines}
 use Rattle.cacao_cli_ends.specs.Work.{Look, at_decisions, at_rules, at_shadows, canon_line}
 use Rattle.cacao_cli_looks.proofs.AgreeLemmas.{AreOtherLines, IsOtherLine}
@@ -143,6 +143,7 @@ last-other (agrees records acts) text is = begins (text_of (agrees records acts)
 last-other (disagrees file place) text is = begins (text_of (disagrees file place)) text is refl
 last-other (rehearsed positions records acts rules) text is = begins (text_of (rehearsed positions records acts rules)) text is refl
 last-other (damaged file place) text is = begins (text_of (damaged file place)) text is refl
+last-other peers_failed text is = begins (text_of peers_failed) text is refl
 last-other disk_failed text is = begins (text_of disk_failed) text is refl
 last-other unsaid text is = absurd (cc)
 last-other no_memory text is = absurd (cc)

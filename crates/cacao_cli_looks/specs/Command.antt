@@ -1,4 +1,4 @@
--- Promise: What the code of the commands reads and judges, as the definitions have it.
+-- Scaffold: What the code of the commands reads and judges, as the definitions have it.
 use Rattle.std.specs.Prelude.{◌≡◌, ◌⊎◌, ℕ, Some, List, [], ◌∷◌, map, Vec, Result, Ok, Err}
 use Rattle.std.specs.declared.alloc.Global.{Global}
 use Rattle.serde_json.specs.Data.{Data}

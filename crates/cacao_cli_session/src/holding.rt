@@ -11,7 +11,7 @@ use flow_world::{Close, WorldError, session};
 use std::alloc::Global;
 
 /// The quantity whose limit a session would pass.
-fn limit_of(what: LimitKind) -> Limit
+pub fn limit_of(what: LimitKind) -> Limit
     ensures { result ≡ limit_of what }
 {
     match what {

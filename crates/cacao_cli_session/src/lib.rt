@@ -3,4 +3,4 @@
 
 mod holding;
 
-pub use holding::{close_end, error_end, hold};
+pub use holding::{close_end, error_end, hold, limit_of};

@@ -102,21 +102,21 @@ error-eight (error.Damaged file place) e = absurd (cc)
 
 -- ---- the causes of refusals once the files are open
 
-cause-say : (cause : Cause) → refusal_of cause ≡ error.Say → cause ≡ not_said
+pub cause-say : (cause : Cause) → refusal_of cause ≡ error.Say → cause ≡ not_said
 cause-say failed_disk e = absurd (cc)
 cause-say not_said e = refl
 cause-say (used agent) e = absurd (cc)
 cause-say (past_limit what) e = absurd (cc)
 cause-say wants_memory e = absurd (cc)
 
-cause-disk : (cause : Cause) → refusal_of cause ≡ error.Disk → cause ≡ failed_disk
+pub cause-disk : (cause : Cause) → refusal_of cause ≡ error.Disk → cause ≡ failed_disk
 cause-disk failed_disk e = refl
 cause-disk not_said e = absurd (cc)
 cause-disk (used agent) e = absurd (cc)
 cause-disk (past_limit what) e = absurd (cc)
 cause-disk wants_memory e = absurd (cc)
 
-shown-as : (p q : Phase) (a b : World) → p ≡ q → Shows p a b → Shows q a b
+pub shown-as : (p q : Phase) (a b : World) → p ≡ q → Shows p a b → Shows q a b
 shown-as p q a b e h = subst (λ (x : Phase). Shows x a b) e h
 
 -- ---- an opening
@@ -149,15 +149,15 @@ module _ (given : Given) (run : ℕ) (old new : SiteView) where
   open-counts : (start : World) → AreOpen given run old start.site start.engine start.filters → start.site.counts.unsaid ≡ old.counts.unsaid
   open-counts start h = ap (λ (c : CountsView). c.unsaid) (h.others.rest.counts ∙ h.journal.opens.only.rest.counts)
 
-  refused-counts : (why : WorldError) → RefusesOpening why given run old new → new.counts.unsaid ≡ old.counts.unsaid
+  pub refused-counts : (why : WorldError) → RefusesOpening why given run old new → new.counts.unsaid ≡ old.counts.unsaid
   refused-counts why (inl h) = ap (λ (c : CountsView). c.unsaid) h.opens.only.rest.counts
   refused-counts why (inr h) = ap (λ (c : CountsView). c.unsaid) (h.refuses.refuses.opens.only.rest.counts ∙ h.refuses.before.rest.counts ∙ h.journal.opens.only.rest.counts)
 
-  refused-say : RefusesOpening error.Say given run old new → ⊥
+  pub refused-say : RefusesOpening error.Say given run old new → ⊥
   refused-say (inl h) = opening-say h.why (sym h.is)
   refused-say (inr h) = h.refuses.refuses.why
 
-  refused-disk : RefusesOpening error.Disk given run old new → Rose old.disk.faults new.disk.faults
+  pub refused-disk : RefusesOpening error.Disk given run old new → Rose old.disk.faults new.disk.faults
   refused-disk (inl h) = subst (λ (e : EngineError). IsRefusedOpening given run e old new) (opening-disk h.why (sym h.is)) h.refused
   refused-disk (inr h) = rose-later old.disk.faults h.refuses.middle.disk.faults new.disk.faults
       (let one = h.journal.opens.only.each.goes_on.faults in let two = h.refuses.before.goes_on.faults in omega (arith, one, two)) h.refuses.refuses.why

@@ -23,7 +23,7 @@ use Rattle.cacao_cli_rehearsal.specs.declared.error.RehearsalError.TheVariants a
 use Rattle.cacao_cli_rehearsal.specs.declared.summary.Summary.{Summary}
 use Rattle.cacao_cli_rehearsal.proofs.Lengths.{text_short}
 use Rattle.flow_engine_reports.proofs.AcceptLemmas.{not-accepted}
-use Rattle.cacao_cli_ends.specs.Ends.{End, accepted, agrees, asked_for, bind_refused, damaged, disagrees, disk_failed, done, ended_failed, ended_ok, flooded, no_memory, no_such_file, not_readable, not_understood, other_book, other_run, past, paused, refused, rehearsed, run_used, shelf_failed, status_of, text_of, unsaid, waiting}
+use Rattle.cacao_cli_ends.specs.Ends.{End, accepted, agrees, asked_for, bind_refused, damaged, disagrees, disk_failed, peers_failed, done, ended_failed, ended_ok, flooded, no_memory, no_such_file, not_readable, not_understood, other_book, other_run, past, paused, refused, rehearsed, run_used, shelf_failed, status_of, text_of, unsaid, waiting}
 use Rattle.cacao_cli_status_laws.specs.Exact.{HasRehearsed, IsRehearsed}
 use Rattle.cacao_cli_ends.specs.Comes.{IsOneOf, run_rehearsal_statuses}
 use Rattle.cacao_cli_session.specs.Holding.{close_end, error_end}
@@ -159,6 +159,7 @@ may-status (no_such_file name) h = refl
 may-status (not_readable name reason) h = refl
 may-status (rehearsed positions records acts rules) h = refl
 may-status (damaged file place) h = absurd h
+may-status peers_failed h = refl
 may-status disk_failed h = refl
 may-status unsaid h = refl
 may-status no_memory h = refl

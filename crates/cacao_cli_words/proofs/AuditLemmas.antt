@@ -1,5 +1,5 @@
 -- The words behind `audit`, two by two.
-use Rattle.std.proofs.Common.{◌≡◌, ◌∙◌, ◌==◌, ◌&&◌, ◌||◌, ◌+◌, ◌-◌, ◌≤◌, ◌<◌, ℕ, refl, sym, ap, arith, Bool, true, false, not, Bor, List, [], ◌∷◌, ◌++◌, length, map, take, drop, get_or, Some, None}
+use Rattle.std.proofs.Common.{◌≡◌, ◌∙◌, ◌==◌, ◌&&◌, ◌||◌, ◌-◌, ◌≤◌, ◌<◌, ℕ, refl, sym, ap, arith, Bool, true, false, not, Bor, List, [], ◌∷◌, ◌++◌, length, map, take, drop, get_or, Some, None}
 use Rattle.std.specs.Prelude.{option_map, option_and_then}
 use Rattle.std.specs.List.{list_any}
 use Rattle.std.proofs.lemmas.Bool.{true≢false}

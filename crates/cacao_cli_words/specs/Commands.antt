@@ -3,9 +3,11 @@ use Rattle.std.specs.Prelude.{ℕ, Option, map, option_map}
 use Rattle.std.specs.Borrow.{Bor}
 use Rattle.cacao_cli_words.specs.Words.{Text}
 use Rattle.cacao_cli_words.specs.Found.{Parts}
-use Rattle.cacao_cli_words.specs.Requests.{Request, RunRequest, canonises, checks, runs, shows, lists_rules, decides, rehearses, shadows, audits}
+use Rattle.cacao_cli_words.specs.Requests.{PeerRequest, Request, RunRequest, pairs, serves, canonises, checks, runs, shows, lists_rules, decides, rehearses, shadows, audits}
 use Rattle.cacao_cli_words.specs.declared.filter_file.FilterFile.{FilterFile}
 use Rattle.cacao_cli_words.specs.declared.reading.Found.{Found}
+use Rattle.cacao_cli_words.specs.declared.peer_words.PeerCommand.{PeerCommand}
+use Rattle.cacao_cli_words.specs.declared.peer_words.PeerCommand.TheVariants.{Filters, Pair}
 use Rattle.cacao_cli_words.specs.declared.run_words.RunWords.{RunWords}
 use Rattle.cacao_cli_words.specs.declared.words.Command.{Command}
 use Rattle.cacao_cli_words.specs.declared.words.Command.TheVariants.{Canon, Check, Run, Show, Rules, Decide, Rehearse, Shadow, Audit}
@@ -39,3 +41,7 @@ request_by (Decide agent packets) = decides agent.number packets.now
 request_by (Rehearse positions) = rehearses positions.count
 request_by (Shadow agent) = shadows agent.number
 request_by (Audit engine filters) = audits engine.now (map filter_of filters.items)
+
+abbrev pub peer_request_by : PeerCommand → PeerRequest
+peer_request_by (Pair wanted) = pairs (run_request wanted)
+peer_request_by Filters = serves

@@ -3,7 +3,7 @@ use Rattle.std.specs.Prelude.{List, [], ◌∷◌, Option, None, codes, if◌the
 use Rattle.std.specs.Str.{bytes_eq}
 use Rattle.cacao_cli_words.specs.Words.{Text}
 use Rattle.cacao_cli_words.specs.Found.{Parts}
-use Rattle.cacao_cli_words.specs.Requests.{Request, lists_rules, rehearses, shadows, agent_number, positions_number, canon_asks, check_asks, show_asks, decide_asks, number_asks, audit_asks, run_from}
+use Rattle.cacao_cli_words.specs.Requests.{Request, RunRequest, lists_rules, rehearses, shadows, agent_number, positions_number, canon_asks, check_asks, show_asks, decide_asks, number_asks, audit_asks, run_from}
 
 -- what the commands without options, but for `audit`, ask for with these names
 abbrev pub plain_asks : Text → List Text → Option Request
@@ -20,8 +20,8 @@ plain_asks first names =
 abbrev pub names_asks : Text → List Text → Option Request
 names_asks first names = if bytes_eq first (codes "audit") then audit_asks names else plain_asks first names
 
--- what `run` asks for with the values of its four options and these names
-abbrev pub run_by_values : List (Option Text) → List Text → Option Request
+-- what `run` and `pair` ask for with the values of their four options and these names
+abbrev pub run_by_values : List (Option Text) → List Text → Option RunRequest
 run_by_values [] names = None
 run_by_values (run ∷ []) names = None
 run_by_values (run ∷ steps ∷ []) names = None
@@ -29,5 +29,5 @@ run_by_values (run ∷ steps ∷ bind ∷ []) names = None
 run_by_values (run ∷ steps ∷ bind ∷ answers ∷ []) names = run_from run steps bind answers names
 run_by_values (run ∷ steps ∷ bind ∷ answers ∷ other ∷ values) names = None
 
-abbrev pub run_by : Parts → Option Request
+abbrev pub run_by : Parts → Option RunRequest
 run_by parts = run_by_values parts.values parts.names

@@ -5,7 +5,7 @@ use Rattle.std.specs.Str.{bytes_eq}
 use Rattle.base_decimals.specs.Numbers.{number}
 use Rattle.cacao_cli_words.specs.Words.{Text, Reading, read, value_in}
 
--- what `run` asks for
+-- what `run` and `pair` ask for
 pub record RunRequest : Type 0 where
   pub run : ℕ
   pub most : ℕ  -- the most records of this session
@@ -24,6 +24,11 @@ pub data Request : Type 0 where
   rehearses : (positions : ℕ) → Request
   shadows : (agent : ℕ) → Request
   audits : (engine : Text) (filters : List (ℕ × Text)) → Request
+
+-- what it is asked to do with a peer: to go on with a run whose filters stand in another process, or to be that process
+pub data PeerRequest : Type 0 where
+  pairs : (wanted : RunRequest) → PeerRequest
+  serves : PeerRequest
 
 -- a number from low to most, in decimal without a sign and without a leading zero
 abbrev pub at_least : ℕ → ℕ → Option ℕ
@@ -58,18 +63,18 @@ check_asks [] = None
 check_asks (book ∷ books) = Some (checks (book ∷ books))
 
 -- the same, with `--run`, and with `--steps`, `--bind` and `--answers` or without
-abbrev pub run_of : Option Text → Option Text → ℕ → List Text → ℕ → Option Request
+abbrev pub run_of : Option Text → Option Text → ℕ → List Text → ℕ → Option RunRequest
 run_of bind answers run books most =
-    Some (runs (record { run = run; most = most; bind = bind; answers = answers; books = books }))
+    Some (record { run = run; most = most; bind = bind; answers = answers; books = books })
 
-abbrev pub run_from : Option Text → Option Text → Option Text → Option Text → List Text → Option Request
+abbrev pub run_from : Option Text → Option Text → Option Text → Option Text → List Text → Option RunRequest
 run_from run steps bind answers [] = None
 run_from run steps bind answers (book ∷ books) =
     option_and_then (λ n. option_and_then (run_of bind answers n (book ∷ books)) (most_records steps))
     (option_and_then run_number run)
 
-abbrev pub run_asks : Reading → Option Request
-run_asks r = run_from (value_in (codes "run") r.options) (value_in (codes "steps") r.options)
+abbrev pub run_wanted : Reading → Option RunRequest
+run_wanted r = run_from (value_in (codes "run") r.options) (value_in (codes "steps") r.options)
     (value_in (codes "bind") r.options) (value_in (codes "answers") r.options) r.names
 
 -- no name
@@ -114,22 +119,22 @@ audit_asks [] = None
 audit_asks (engine ∷ names) = option_map (audits engine) (option_and_then if_apart (pairs_of names))
 
 -- a command: its name, its options, and what a reading of its words asks for
-pub record Command : Type 0 where
+pub record Command (A : Type 0) : Type 0 where
   pub name : Text
   pub options : List Text
-  pub asks : Reading → Option Request
+  pub asks : Reading → Option A
 
-abbrev pub command : Text → List Text → (Reading → Option Request) → Command
+abbrev pub command : {A : Type 0} → Text → List Text → (Reading → Option A) → Command A
 command name options asks = record { name = name; options = options; asks = asks }
 
 abbrev pub run_options : List Text
 run_options = codes "run" ∷ codes "steps" ∷ codes "bind" ∷ codes "answers" ∷ []
 
-abbrev pub commands : List Command
+abbrev pub commands : List (Command Request)
 commands =
     command (codes "canon") [] (λ r. canon_asks r.names)
     ∷ command (codes "check") [] (λ r. check_asks r.names)
-    ∷ command (codes "run") run_options run_asks
+    ∷ command (codes "run") run_options (λ r. option_map runs (run_wanted r))
     ∷ command (codes "show") [] (λ r. show_asks r.names)
     ∷ command (codes "rules") [] (λ r. number_asks agent_number lists_rules r.names)
     ∷ command (codes "decide") [] (λ r. decide_asks r.names)
@@ -138,10 +143,27 @@ commands =
     ∷ command (codes "audit") [] (λ r. audit_asks r.names)
     ∷ []
 
-abbrev pub request_of : List Text → Command → Option Request
+-- `pair` has the words of `run`, and `filters` no further ones
+abbrev pub serve_asks : List Text → Option PeerRequest
+serve_asks [] = Some serves
+serve_asks (name ∷ names) = None
+
+abbrev pub peer_commands : List (Command PeerRequest)
+peer_commands =
+    command (codes "pair") run_options (λ r. option_map pairs (run_wanted r))
+    ∷ command (codes "filters") [] (λ r. serve_asks r.names)
+    ∷ []
+
+abbrev pub request_of : {A : Type 0} → List Text → Command A → Option A
 request_of words c = option_and_then c.asks (read c.options words)
 
 -- the first word names the command
+abbrev pub request_in : {A : Type 0} → List (Command A) → List Text → Option A
+request_in commands [] = None
+request_in commands (first ∷ words) = option_and_then (request_of words) (find (λ c. bytes_eq first c.name) commands)
+
 abbrev pub request : List Text → Option Request
-request [] = None
-request (first ∷ words) = option_and_then (request_of words) (find (λ c. bytes_eq first c.name) commands)
+request = request_in commands
+
+abbrev pub peer_request : List Text → Option PeerRequest
+peer_request = request_in peer_commands

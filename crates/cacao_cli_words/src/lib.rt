@@ -5,12 +5,15 @@ mod audit_words;
 mod book_names;
 mod filter_file;
 mod numbers;
+mod peer_words;
 mod reading;
+mod run_reading;
 mod run_words;
 mod words;
 
 pub use book_names::BookNames;
 pub use filter_file::FilterFile;
 pub use numbers::{Agent, Positions};
+pub use peer_words::{PeerCommand, read_peer_words};
 pub use run_words::RunWords;
 pub use words::{Command, read_words};

@@ -1,9 +1,9 @@
-// What `run` asks for.
+// What `run` and `pair` ask for.
 ghost use Rattle.std.specs.Prelude.{◌≤◌};
 
 use crate::book_names::BookNames;
 
-/// What `run` asks for.
+/// What `run` and `pair` ask for.
 #[derive(Drop)]
 pub struct RunWords<'w> {
     /// The run's number, 1 to 9,007,199,254,740,991.

@@ -1,9 +1,9 @@
 // What the words ask for.
-ghost use Rattle.std.specs.Prelude.{◌≡◌, ◌<◌, ◌≤◌, [], IfOk, IfSome, option_map, option_and_then, map, string_bytes, drop, length};
+ghost use Rattle.std.specs.Prelude.{◌≡◌, ◌<◌, ◌≤◌, [], IfOk, IfSome, option_map, map, string_bytes, drop, length};
 ghost use Rattle.base_decimals.specs.Numbers.{number};
-ghost use Rattle.cacao_cli_words.specs.Commands.{found_parts, maybe_text, request_by};
-ghost use Rattle.cacao_cli_words.specs.Requests.{agent_number, canon_asks, check_asks, decide_asks, most_records, number_from, positions_number, request, lists_rules, number_asks, rehearses, run_asks, run_from, run_number, run_options, shadows, show_asks};
-ghost use Rattle.cacao_cli_words.specs.Parts.{names_asks, plain_asks, run_by};
+ghost use Rattle.cacao_cli_words.specs.Commands.{request_by};
+ghost use Rattle.cacao_cli_words.specs.Requests.{agent_number, canon_asks, check_asks, decide_asks, number_from, positions_number, request, lists_rules, number_asks, rehearses, shadows, show_asks};
+ghost use Rattle.cacao_cli_words.specs.Parts.{names_asks, plain_asks};
 ghost use Rattle.cacao_cli_words.specs.Words.{read};
 
 use crate::audit_words::audit_asked;
@@ -11,15 +11,10 @@ use crate::book_names::BookNames;
 use crate::filter_file::FilterFile;
 use crate::numbers::{Agent, Positions};
 use crate::reading::{Found, read_behind};
+use crate::run_reading::read_run;
 use crate::run_words::RunWords;
 use base_decimals::read_number;
 use std::alloc::{AllocError, Global};
-
-/// The greatest number of a run.
-const LAST_RUN: u64 = 9_007_199_254_740_991;
-
-/// The most records of one session, and how many it may append where nothing is said of them.
-const MOST_RECORDS: u64 = 1_000_000_000;
 
 /// The most positions of a rehearsal.
 const MOST_POSITIONS: u64 = 1_000;
@@ -74,7 +69,10 @@ pub fn read_words<'w>(alloc: Global, words: &'w [String]) -> Result<Option<Comma
     };
     let first = first.as_str();
     if first == "run" {
-        return read_run(alloc, words);
+        return match read_run(alloc, words)? {
+            Some(wanted) => Ok(Some(Command::Run { wanted })),
+            None => Ok(None),
+        };
     }
     match read_names(alloc, words)? {
         Some(names) => names_asked(alloc, first, names),
@@ -97,7 +95,10 @@ fn names_asked<'w>(
 }
 
 /// The names behind the first word, for a command without options; None where the words have no reading.
-fn read_names<'w>(alloc: Global, words: &'w [String]) -> Result<Option<Vec<&'w str>>, AllocError>
+pub(crate) fn read_names<'w>(
+    alloc: Global,
+    words: &'w [String],
+) -> Result<Option<Vec<&'w str>>, AllocError>
     requires { 0 < length words.now }
     ensures { IfOk result (λ o. option_map (λ names. map (λ name. name.now) names.items) o
         ≡ option_map (λ r. r.names) (read [] (drop 1 (map string_bytes words.entry.now)))) }
@@ -219,83 +220,14 @@ fn shadow_asked<'w>(names: &[&'w str]) -> Option<Command<'w>>
     }
 }
 
-/// What `run` asks for with the words behind it.
-fn read_run<'w>(alloc: Global, words: &'w [String]) -> Result<Option<Command<'w>>, AllocError>
-    requires { 0 < length words.now }
-    ensures { IfOk result (λ o. option_map request_by o
-        ≡ option_and_then run_asks (read run_options (drop 1 (map string_bytes words.entry.now)))) }
-{
-    match read_behind(alloc, &["run", "steps", "bind", "answers"], words)? {
-        Some(found) => Ok(run_asked(found)),
-        None => Ok(None),
-    }
-}
-
-/// What `run` asks for with these values of its options and these names.
-fn run_asked<'w>(found: Found<'w>) -> Option<Command<'w>>
-    ensures { option_map request_by result ≡ run_by (found_parts found.entry) }
-{
-    let Found { values, names } = found;
-    match values.as_slice() {
-        [run, steps, bind, answers] => run_with(*run, *steps, *bind, *answers, names),
-        _ => None,
-    }
-}
-
-fn run_with<'w>(
-    run: Option<&'w str>,
-    steps: Option<&'w str>,
-    bind: Option<&'w str>,
-    answers: Option<&'w str>,
-    names: Vec<&'w str>,
-) -> Option<Command<'w>>
-    ensures { option_map request_by result
-        ≡ run_from (maybe_text run.entry) (maybe_text steps.entry) (maybe_text bind.entry) (maybe_text answers.entry)
-        (map (λ name. name.now) names.entry.items) }
-{
-    if names.is_empty() {
-        return None;
-    }
-    let run = read_run_number(run?)?;
-    let most = most_records(steps)?;
-    let books = BookNames::new(names);
-    Some(Command::Run {
-        wanted: RunWords {
-            run,
-            most,
-            bind,
-            answers,
-            books,
-        },
-    })
-}
-
 /// The number of these bounds that a text is.
-fn read_from(low: u64, most: u64, text: &str) -> Option<u64>
+pub(crate) fn read_from(low: u64, most: u64, text: &str) -> Option<u64>
     ensures value { result ≡ number_from low most text.now }
     ensures low { IfSome result (λ n. low ≤ n) }
     ensures high { IfSome result (λ n. n ≤ most) }
 {
     let n = read_number(text.as_bytes(), most)?;
     if n >= low { Some(n) } else { None }
-}
-
-fn read_run_number(text: &str) -> Option<u64>
-    ensures value { result ≡ run_number text.now }
-    ensures low { IfSome result (λ n. 1 ≤ n) }
-    ensures high { IfSome result (λ n. n ≤ 9_007_199_254_740_991) }
-{
-    read_from(1, LAST_RUN, text)
-}
-
-fn most_records(steps: Option<&str>) -> Option<u64>
-    ensures value { result ≡ most_records (maybe_text steps.entry) }
-    ensures low { IfSome result (λ n. 1 ≤ n) }
-{
-    match steps {
-        Some(text) => read_from(1, MOST_RECORDS, text),
-        None => Some(MOST_RECORDS),
-    }
 }
 
 pub(crate) fn read_agent(text: &str) -> Option<Agent>

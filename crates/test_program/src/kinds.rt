@@ -8,6 +8,9 @@
 //     file NAME BYTES..         puts a file on the shelf
 //     fill FILE BYTES..         writes a file of the disk from its front on
 //     fail NUMBER               lets the read of the shelf of this number fail, from 0
+//     link ROOM CALL BYTES..    a link that the peers of the next call hand out: room for so many bytes to be sent, the call of it that fails
+//                               or a dash, and the bytes that come
+//     peers NUMBER              lets the call of this number of the peers of the next call fail, from 0
 //     crash CHOICE PLAN..       a crash that is picked so, and the site behind it, of that plan
 //
 // Calls of the program. The answer is the status and, where anything was said, a colon and the lines, with identifiers cut to their type
@@ -27,6 +30,7 @@
 //     commands NUMBER           how many of these were commands
 //     parcel NUMBER ANSWER      a parcel that was put, from 0: its way, agent, run, issue and bytes
 //     lines NUMBER              how many lines were said, in all
+//     sent BYTES                what went out over the link that the call before closed
 //     rehearsed POSITIONS ANSWER           the records, acts and rules that a rehearsal counts, called as a library
 //     rehearsal POSITIONS BYTES            the text of its playbook
 use crate::answers::{records, shown};
@@ -130,6 +134,8 @@ fn prepare(player: &mut Player, row: &Row) -> Result<Option<Came>, AllocError> {
         "file" => player.add(row)?,
         "fill" => player.fill(row)?,
         "crash" => player.crash(row)?,
+        "link" => player.link(row)?,
+        "peers" => player.fail_peers(row)?,
         "fail" => player.fail_read(row),
         _ => return Ok(None),
     };
@@ -160,6 +166,7 @@ fn look(player: &mut Player, row: &Row) -> Result<Came, AllocError> {
         "same" => same(player, row),
         "puts" => count(alloc, player.program.put_count()),
         "lines" => count(alloc, player.program.line_count()),
+        "sent" => Ok(Came::Said(player.program.sent().to_vec(alloc)?)),
         "commands" => count(alloc, player.commands() as usize),
         "parcel" => Ok(said(player.parcel(row)?)),
         "rehearsal" => rehearsal(alloc, row, true),

@@ -18,7 +18,7 @@ use std::rt::Files;
 use test_rows::{Row, Tally, read_file};
 
 /// The files of rows. The texts that the first one names stand for all.
-const FILES: [&str; 11] = [
+const FILES: [&str; 12] = [
     "texts.txt",
     "canon.txt",
     "words.txt",
@@ -27,6 +27,7 @@ const FILES: [&str; 11] = [
     "runs.txt",
     "worked.txt",
     "links.txt",
+    "wires.txt",
     "rehearsals.txt",
     "disks.txt",
     "limits.txt",

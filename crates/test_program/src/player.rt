@@ -110,6 +110,38 @@ impl Player {
         }
     }
 
+    /// A number, or none where a dash stands.
+    fn maybe(row: &Row, field: usize) -> Option<u32> {
+        match row.text(field).parse::<u32>() {
+            Ok(number) => Some(number),
+            Err(_) => None,
+        }
+    }
+
+    /// Adds a link for the next call.
+    pub(crate) fn link(&mut self, row: &Row) -> Result<bool, AllocError> {
+        let Ok(room) = row.text(1).parse::<u64>() else {
+            return Ok(false);
+        };
+        let Some(bytes) = self.rest(row, 3)? else {
+            return Ok(false);
+        };
+        self.program
+            .add_link(bytes.as_slice(), room, Player::maybe(row, 2))?;
+        Ok(true)
+    }
+
+    /// Lets a call of the peers fail.
+    pub(crate) fn fail_peers(&mut self, row: &Row) -> Result<bool, AllocError> {
+        match row.text(1).parse::<u32>() {
+            Ok(number) => {
+                self.program.fail_peers(number)?;
+                Ok(true)
+            }
+            Err(_) => Ok(false),
+        }
+    }
+
     /// Lets a crash come that is picked so.
     pub(crate) fn crash(&mut self, row: &Row) -> Result<bool, AllocError> {
         let Ok(choice) = row.text(1).parse::<u64>() else {

@@ -1,8 +1,10 @@
 // The program with the shelf and the site that it is called on.
 use cacao_cli::top;
-use cacao_site::{Disk, Parcel};
+use cacao_site::{Bytes, Disk, Parcel};
 use cacao_site_memory::{CallList, MemoryShelf, MemorySite, SitePlan, WeatherList};
+use oc2_wire_memory::{MemoryLink, MemoryLinks, MemoryPeers, Pieces};
 use std::alloc::{AllocError, Global};
+use std::mem;
 use std::str::from_utf8;
 use test_session_plays::Outside;
 
@@ -30,6 +32,11 @@ pub struct Program {
     alloc: Global,
     shelf: MemoryShelf,
     site: MemorySite,
+    /// The links that the peers of the next call hand out, and the calls of these that fail.
+    links: Vec<MemoryLink>,
+    failing_peers: Vec<u32>,
+    /// What went out over the link that the last call closed.
+    sent: Vec<u8>,
 }
 
 /// The device calls that fail.
@@ -76,16 +83,33 @@ impl Program {
             alloc,
             shelf: MemoryShelf::new(alloc),
             site,
+            links: Vec::new(alloc),
+            failing_peers: Vec::new(alloc),
+            sent: Vec::new(alloc),
         })
     }
 
     /// The program with its shelf, on its site after a crash that is picked so: 0 leaves what a read gives, 1 what was synced, and others
     /// something between.
     pub fn crash(self, choice: u64, outside: Outside) -> Result<Program, AllocError> {
-        let Program { alloc, shelf, site } = self;
+        let Program {
+            alloc,
+            shelf,
+            site,
+            links,
+            failing_peers,
+            sent,
+        } = self;
         let plan = plan(alloc, outside)?;
         let site = site.crash_with(choice, plan)?;
-        Ok(Program { alloc, shelf, site })
+        Ok(Program {
+            alloc,
+            shelf,
+            site,
+            links,
+            failing_peers,
+            sent,
+        })
     }
 
     /// Puts a file on the shelf.
@@ -96,6 +120,30 @@ impl Program {
     /// Lets the read of this number fail, from 0.
     pub fn fail_read(&mut self, number: u32) {
         self.shelf.fail_at(number);
+    }
+
+    /// Lets the peers of the next call hand out a link over which these bytes come, with room for so many bytes to be sent.
+    pub fn add_link(
+        &mut self,
+        bytes: &[u8],
+        room: u64,
+        fails: Option<u32>,
+    ) -> Result<(), AllocError> {
+        let mut pieces = Vec::new(self.alloc);
+        if !bytes.is_empty() {
+            pieces.push(Bytes::from_slice(self.alloc, bytes)?)?;
+        }
+        let failing = CallList::from_vec(failing(self.alloc, fails)?);
+        if let Ok(link) = MemoryLink::new(self.alloc, Pieces::from_vec(pieces), failing, room) {
+            self.links.push(link)?;
+        }
+        Ok(())
+    }
+
+    /// Lets the call of this number of the peers of the next call fail, from 0.
+    pub fn fail_peers(&mut self, number: u32) -> Result<(), AllocError> {
+        self.failing_peers.push(number)?;
+        Ok(())
     }
 
     /// Writes a file of the disk from its front on; false where there is no such file, or that failed.
@@ -139,14 +187,27 @@ impl Program {
     pub fn call(&mut self, line: &str) -> Result<Answer, AllocError> {
         let words = words(self.alloc, line)?;
         let first = self.site.line_count();
+        let links = mem::replace(&mut self.links, Vec::new(self.alloc));
+        let failing = mem::replace(&mut self.failing_peers, Vec::new(self.alloc));
+        let mut peers = MemoryPeers::new(MemoryLinks::from_vec(links), CallList::from_vec(failing));
         let status = top(
             self.alloc,
             words.as_slice(),
             &mut self.shelf,
             &mut self.site,
+            &mut peers,
         );
+        self.sent = match peers.closed() {
+            Some(link) => link.sent().to_vec(self.alloc)?,
+            None => Vec::new(self.alloc),
+        };
         let said = self.said_from(first)?;
         Ok(Answer { status, said })
+    }
+
+    /// The bytes that went out over the link that the last call closed.
+    pub fn sent(&self) -> &[u8] {
+        self.sent.as_slice()
     }
 
     /// How many lines were said.

@@ -1,15 +1,21 @@
--- Each clause holds of a call that went as `Ended` says.
-use Rattle.std.proofs.Common.{ℕ, Option, map, string_bytes}
+-- Each clause holds of a call that went as `Ended` says, or, where it asks for a peer, as `EndsWithPeer` says.
+use Rattle.std.proofs.Common.{◌≡◌, refl, sym, ap, subst, ℕ, length, Option, Some, None, map, string_bytes}
 use Rattle.cacao_site.specs.View.{SiteView}
 use Rattle.cacao_cli_ends.specs.Asked.{Asked, asked}
 use Rattle.cacao_cli_ends.specs.Told.{end_of}
 use Rattle.cacao_cli_status_laws.specs.Ended.{Ended, Performed}
+use Rattle.oc2_wire_link.specs.Peering.{PeersView}
+use Rattle.cacao_cli_words.specs.Requests.{PeerRequest, RunRequest, pairs, peer_request, serves}
+use Rattle.cacao_cli_ends.specs.Stays.{ReadsAtMost}
+use Rattle.cacao_cli.specs.WithPeers.{EndsWithPeer, PerformsWithPeer, files_for}
+use Rattle.cacao_cli.proofs.FaultLemmas.{faults-with}
+use Rattle.cacao_cli.proofs.PeerLemmas.{ended-with, no-files, none-read-at, own-with, pair-failed, pair-memory, pair-reads, pair-rose, pair-steady, serve-memory, serve-never, serve-rose, seventeen-out}
 use Rattle.cacao_cli_ends.specs.Ends.{End}
 use Rattle.cacao_cli_ends.specs.Files.{ShelfCall}
 use Rattle.cacao_cli_ends.specs.Lines.{Tells}
 use Rattle.cacao_cli_status_laws.proofs.AgreedLemmas.{agrees-ended}
 use Rattle.cacao_cli_looks.proofs.BudgetLemmas.{asked-budget}
-use Rattle.cacao_cli_status_laws.proofs.AnswerLemmas.{answers-ended, disk-ended}
+use Rattle.cacao_cli_status_laws.proofs.AnswerLemmas.{answers-ended, disk-ended, never}
 use Rattle.cacao_cli_status_laws.proofs.ClockLemmas.{reached-ended}
 use Rattle.cacao_cli_status_laws.proofs.CompleteLemmas.{completes-ended}
 use Rattle.cacao_cli_status_laws.proofs.CountLemmas.{failed-ended, steady-ended, unsaid-ended, said-ended, memory-ended}
@@ -28,60 +34,106 @@ use Rattle.cacao_cli.proofs.program.top.Goals as goal
 abbrev came : {asked : Option Asked} {shelf : ShelfCall} {old mid new : SiteView} {last : End} {answer : ℕ} → Performed asked shelf old mid last → Tells last mid new answer → Ended asked shelf old new answer
 came {mid = mid} {last = last} performed tells = record { last = last; between = mid; performed = performed; tells = tells }
 
-pub returns-clause-shelf_failed : goal.returns-clause-shelf_failed
-returns-clause-shelf_failed g c = failed-ended _ _ _ _ _ (came c.perform-end.ensures.performed c.finish.ensures)
+-- what a clause says by the words
+by-words : (asked : Option PeerRequest) (T : Type 0) → (asked ≡ None → T) → ((wanted : RunRequest) → asked ≡ Some (pairs wanted) → T) → (asked ≡ Some serves → T) → T
+by-words None T alone pair filters = alone refl
+by-words (Some (pairs wanted)) T alone pair filters = pair wanted refl
+by-words (Some serves) T alone pair filters = filters refl
 
-pub returns-clause-shelf_steady : goal.returns-clause-shelf_steady
-returns-clause-shelf_steady g c = steady-ended _ _ _ _ _ (came c.perform-end.ensures.performed c.finish.ensures)
-
-pub returns-clause-no_memory : goal.returns-clause-no_memory
-returns-clause-no_memory g c = memory-ended _ _ _ _ _ (came c.perform-end.ensures.performed c.finish.ensures)
-
-pub returns-clause-reads : goal.returns-clause-reads
-returns-clause-reads g c = few-ended _ _ _ _ _ (came c.perform-end.ensures.performed c.finish.ensures)
+-- how a call ended that asks for a peer, by what its words ask
+with-words : (asked : Option PeerRequest) (shelf : ShelfCall) (before after : PeersView) (old mid new : SiteView) (last : End) (answer : ℕ) → PerformsWithPeer asked shelf before after old mid last → Tells last mid new answer
+    → (other : Option PeerRequest) → asked ≡ other → EndsWithPeer other shelf before after old new answer
+with-words asked shelf before after old mid new last answer h tells other is =
+    subst (λ (a : Option PeerRequest). EndsWithPeer a shelf before after old new answer) is (ended-with asked shelf before after old mid new last answer h tells)
 
 pub returns-clause-agreement : goal.returns-clause-agreement
-returns-clause-agreement g c =
-    agrees-ended (asked (map string_bytes c.args.words.now)) _ (g.S.Disk.view c.args.site.now) (g.S.Disk.view c.perform-end.new.site) (g.S.Disk.view c.finish.new.site) (end_of c.perform-end.result) c.finish.result
-    (g.met.S.Disk.sound c.args.site.now) (g.met.S.Disk.sound c.perform-end.new.site) c.perform-end.ensures.performed c.finish.ensures
+returns-clause-agreement g c none =
+    agrees-ended (asked (map string_bytes c.args.words.now)) _ (g.S.Disk.view c.args.site.now) (g.S.Disk.view c.perform_any-end.new.site) (g.S.Disk.view c.finish.new.site) (end_of c.perform_any-end.result) c.finish.result
+    (g.met.S.Disk.sound c.args.site.now) (g.met.S.Disk.sound c.perform_any-end.new.site) (c.perform_any-end.ensures.alone none) c.finish.ensures
 
 pub returns-clause-statuses : goal.returns-clause-statuses
-returns-clause-statuses g c = record {
-  exactly = exact-ended _ _ _ _ _ (came c.perform-end.ensures.performed c.finish.ensures);
-  answers = answers-ended _ _ _ _ _ (came c.perform-end.ensures.performed c.finish.ensures);
-  done = done-ended (asked (map string_bytes c.args.words.now)) _ _ (g.S.Disk.view c.finish.new.site) _ (sound-reads _ (g.met.S.Disk.sound c.finish.new.site)) (asked-budget (map string_bytes c.args.words.now)) (came c.perform-end.ensures.performed c.finish.ensures);
-  refused = refused-ended _ _ _ _ _ (came c.perform-end.ensures.performed c.finish.ensures);
-  not_understood = words-ended _ _ _ _ _ (came c.perform-end.ensures.performed c.finish.ensures);
-  missing = missing-ended _ _ _ _ _ (came c.perform-end.ensures.performed c.finish.ensures);
-  unreadable = unreadable-ended _ _ _ _ _ (came c.perform-end.ensures.performed c.finish.ensures);
-  past_limit = past-ended (asked (map string_bytes c.args.words.now)) _ _ (g.S.Disk.view c.finish.new.site) _ (sound-reads _ (g.met.S.Disk.sound c.finish.new.site)) (asked-budget (map string_bytes c.args.words.now)) (came c.perform-end.ensures.performed c.finish.ensures);
-  too_much = much-ended _ _ _ _ _ (came c.perform-end.ensures.performed c.finish.ensures);
-  damaged = damaged-ended (asked (map string_bytes c.args.words.now)) _ _ (g.S.Disk.view c.finish.new.site) _ (sound-reads _ (g.met.S.Disk.sound c.finish.new.site)) (asked-budget (map string_bytes c.args.words.now)) (came c.perform-end.ensures.performed c.finish.ensures);
-  disagreement = disagreement-ended _ _ _ _ _ (came c.perform-end.ensures.performed c.finish.ensures);
-  failed = failed-run-ended (asked (map string_bytes c.args.words.now)) _ _ (g.S.Disk.view c.finish.new.site) _ (sound-reads _ (g.met.S.Disk.sound c.finish.new.site)) (asked-budget (map string_bytes c.args.words.now)) (came c.perform-end.ensures.performed c.finish.ensures);
-  pauses = paused-ended (asked (map string_bytes c.args.words.now)) _ _ (g.S.Disk.view c.finish.new.site) _ (sound-reads _ (g.met.S.Disk.sound c.finish.new.site)) (asked-budget (map string_bytes c.args.words.now)) (came c.perform-end.ensures.performed c.finish.ensures);
-  another_run = another-ended (asked (map string_bytes c.args.words.now)) _ _ (g.S.Disk.view c.finish.new.site) _ (sound-reads _ (g.met.S.Disk.sound c.finish.new.site)) (asked-budget (map string_bytes c.args.words.now)) (came c.perform-end.ensures.performed c.finish.ensures);
-  waits = waiting-ended (asked (map string_bytes c.args.words.now)) _ _ (g.S.Disk.view c.finish.new.site) _ (sound-reads _ (g.met.S.Disk.sound c.finish.new.site)) (asked-budget (map string_bytes c.args.words.now)) (came c.perform-end.ensures.performed c.finish.ensures);
-  floods = flooded-ended (asked (map string_bytes c.args.words.now)) _ _ (g.S.Disk.view c.finish.new.site) _ (sound-reads _ (g.met.S.Disk.sound c.finish.new.site)) (asked-budget (map string_bytes c.args.words.now)) (came c.perform-end.ensures.performed c.finish.ensures);
-  asks = asked-ended (asked (map string_bytes c.args.words.now)) _ _ (g.S.Disk.view c.finish.new.site) _ (sound-reads _ (g.met.S.Disk.sound c.finish.new.site)) (asked-budget (map string_bytes c.args.words.now)) (came c.perform-end.ensures.performed c.finish.ensures);
-  disk_failed = disk-ended _ _ _ _ _ (came c.perform-end.ensures.performed c.finish.ensures);
-  disk_steady = disk-steady-ended _ _ _ _ _ (came c.perform-end.ensures.performed c.finish.ensures);
-  unsaid = unsaid-ended _ _ _ _ _ (came c.perform-end.ensures.performed c.finish.ensures);
-  said = said-ended _ _ _ _ _ (came c.perform-end.ensures.performed c.finish.ensures);
-  stands_short = short-ended _ _ _ _ _ (came c.perform-end.ensures.performed c.finish.ensures);
-  stands_reached = reached-ended _ _ _ _ _ (came c.perform-end.ensures.performed c.finish.ensures);
+returns-clause-statuses g c none = record {
+  exactly = exact-ended _ _ _ _ _ (came (c.perform_any-end.ensures.alone none) c.finish.ensures);
+  answers = answers-ended _ _ _ _ _ (came (c.perform_any-end.ensures.alone none) c.finish.ensures);
+  done = done-ended (asked (map string_bytes c.args.words.now)) _ _ (g.S.Disk.view c.finish.new.site) _ (sound-reads _ (g.met.S.Disk.sound c.finish.new.site)) (asked-budget (map string_bytes c.args.words.now)) (came (c.perform_any-end.ensures.alone none) c.finish.ensures);
+  refused = refused-ended _ _ _ _ _ (came (c.perform_any-end.ensures.alone none) c.finish.ensures);
+  not_understood = words-ended _ _ _ _ _ (came (c.perform_any-end.ensures.alone none) c.finish.ensures);
+  missing = missing-ended _ _ _ _ _ (came (c.perform_any-end.ensures.alone none) c.finish.ensures);
+  unreadable = unreadable-ended _ _ _ _ _ (came (c.perform_any-end.ensures.alone none) c.finish.ensures);
+  past_limit = past-ended (asked (map string_bytes c.args.words.now)) _ _ (g.S.Disk.view c.finish.new.site) _ (sound-reads _ (g.met.S.Disk.sound c.finish.new.site)) (asked-budget (map string_bytes c.args.words.now)) (came (c.perform_any-end.ensures.alone none) c.finish.ensures);
+  too_much = much-ended _ _ _ _ _ (came (c.perform_any-end.ensures.alone none) c.finish.ensures);
+  damaged = damaged-ended (asked (map string_bytes c.args.words.now)) _ _ (g.S.Disk.view c.finish.new.site) _ (sound-reads _ (g.met.S.Disk.sound c.finish.new.site)) (asked-budget (map string_bytes c.args.words.now)) (came (c.perform_any-end.ensures.alone none) c.finish.ensures);
+  disagreement = disagreement-ended _ _ _ _ _ (came (c.perform_any-end.ensures.alone none) c.finish.ensures);
+  failed = failed-run-ended (asked (map string_bytes c.args.words.now)) _ _ (g.S.Disk.view c.finish.new.site) _ (sound-reads _ (g.met.S.Disk.sound c.finish.new.site)) (asked-budget (map string_bytes c.args.words.now)) (came (c.perform_any-end.ensures.alone none) c.finish.ensures);
+  pauses = paused-ended (asked (map string_bytes c.args.words.now)) _ _ (g.S.Disk.view c.finish.new.site) _ (sound-reads _ (g.met.S.Disk.sound c.finish.new.site)) (asked-budget (map string_bytes c.args.words.now)) (came (c.perform_any-end.ensures.alone none) c.finish.ensures);
+  another_run = another-ended (asked (map string_bytes c.args.words.now)) _ _ (g.S.Disk.view c.finish.new.site) _ (sound-reads _ (g.met.S.Disk.sound c.finish.new.site)) (asked-budget (map string_bytes c.args.words.now)) (came (c.perform_any-end.ensures.alone none) c.finish.ensures);
+  waits = waiting-ended (asked (map string_bytes c.args.words.now)) _ _ (g.S.Disk.view c.finish.new.site) _ (sound-reads _ (g.met.S.Disk.sound c.finish.new.site)) (asked-budget (map string_bytes c.args.words.now)) (came (c.perform_any-end.ensures.alone none) c.finish.ensures);
+  floods = flooded-ended (asked (map string_bytes c.args.words.now)) _ _ (g.S.Disk.view c.finish.new.site) _ (sound-reads _ (g.met.S.Disk.sound c.finish.new.site)) (asked-budget (map string_bytes c.args.words.now)) (came (c.perform_any-end.ensures.alone none) c.finish.ensures);
+  asks = asked-ended (asked (map string_bytes c.args.words.now)) _ _ (g.S.Disk.view c.finish.new.site) _ (sound-reads _ (g.met.S.Disk.sound c.finish.new.site)) (asked-budget (map string_bytes c.args.words.now)) (came (c.perform_any-end.ensures.alone none) c.finish.ensures);
+  disk_failed = disk-ended _ _ _ _ _ (came (c.perform_any-end.ensures.alone none) c.finish.ensures);
+  disk_steady = disk-steady-ended _ _ _ _ _ (came (c.perform_any-end.ensures.alone none) c.finish.ensures);
+  unsaid = unsaid-ended _ _ _ _ _ (came (c.perform_any-end.ensures.alone none) c.finish.ensures);
+  said = said-ended _ _ _ _ _ (came (c.perform_any-end.ensures.alone none) c.finish.ensures);
+  stands_short = short-ended _ _ _ _ _ (came (c.perform_any-end.ensures.alone none) c.finish.ensures);
+  stands_reached = reached-ended _ _ _ _ _ (came (c.perform_any-end.ensures.alone none) c.finish.ensures);
 }
 
 pub returns-clause-returned : goal.returns-clause-returned
-returns-clause-returned g c = record {
-  on_return = returns-ended (asked (map string_bytes c.args.words.now)) _ (g.S.Disk.view c.args.site.now) (g.S.Disk.view c.perform-end.new.site) (g.S.Disk.view c.finish.new.site) (end_of c.perform-end.result) c.finish.result
-      (asked-budget (map string_bytes c.args.words.now)) (g.met.S.Disk.sound c.perform-end.new.site) c.perform-end.ensures.performed c.finish.ensures;
+returns-clause-returned g c none = record {
+  on_return = returns-ended (asked (map string_bytes c.args.words.now)) _ (g.S.Disk.view c.args.site.now) (g.S.Disk.view c.perform_any-end.new.site) (g.S.Disk.view c.finish.new.site) (end_of c.perform_any-end.result) c.finish.result
+      (asked-budget (map string_bytes c.args.words.now)) (g.met.S.Disk.sound c.perform_any-end.new.site) (c.perform_any-end.ensures.alone none) c.finish.ensures;
   undamaged = λ told good. undamaged-ended c.complete_laws.ensures.undamaged c.complete_laws.ensures.no_damage _ (g.S.Disk.view c.args.site.now) (g.S.Disk.view c.finish.new.site) c.finish.result
-      (g.met.S.Disk.sound c.args.site.now) told good (asked (map string_bytes c.args.words.now)) (came c.perform-end.ensures.performed c.finish.ensures) (g.met.S.Disk.sound c.perform-end.new.site);
+      (g.met.S.Disk.sound c.args.site.now) told good (asked (map string_bytes c.args.words.now)) (came (c.perform_any-end.ensures.alone none) c.finish.ensures) (g.met.S.Disk.sound c.perform_any-end.new.site);
   completes = completes-ended c.complete_laws.ensures.no_other_run c.complete_laws.ensures.completes (asked (map string_bytes c.args.words.now)) _ (g.S.Disk.view c.args.site.now)
-      (g.S.Disk.view c.perform-end.new.site) (g.S.Disk.view c.finish.new.site) (end_of c.perform-end.result) c.finish.result (g.met.S.Disk.sound c.args.site.now) (g.met.S.Disk.sound c.perform-end.new.site)
-      c.perform-end.ensures.performed c.finish.ensures;
-  uses_few = uses-ended _ _ _ _ _ (came c.perform-end.ensures.performed c.finish.ensures);
-  stays = stays-ended _ _ _ _ _ (came c.perform-end.ensures.performed c.finish.ensures);
-  leaves = leaves-ended _ _ _ _ _ (came c.perform-end.ensures.performed c.finish.ensures);
+      (g.S.Disk.view c.perform_any-end.new.site) (g.S.Disk.view c.finish.new.site) (end_of c.perform_any-end.result) c.finish.result (g.met.S.Disk.sound c.args.site.now) (g.met.S.Disk.sound c.perform_any-end.new.site)
+      (c.perform_any-end.ensures.alone none) c.finish.ensures;
+  uses_few = uses-ended _ _ _ _ _ (came (c.perform_any-end.ensures.alone none) c.finish.ensures);
+  stays = stays-ended _ _ _ _ _ (came (c.perform_any-end.ensures.alone none) c.finish.ensures);
+  leaves = leaves-ended _ _ _ _ _ (came (c.perform_any-end.ensures.alone none) c.finish.ensures);
 }
+
+pub returns-clause-ended : goal.returns-clause-ended
+returns-clause-ended g c none = came (c.perform_any-end.ensures.alone none) c.finish.ensures
+
+pub returns-clause-with_peer : goal.returns-clause-with_peer
+returns-clause-with_peer g c = with-words (peer_request (map string_bytes c.args.words.now)) (record { told = g.L.Shelf.told c.args.shelf.now; before = g.L.Shelf.faults c.args.shelf.now; after = g.L.Shelf.faults c.perform_any-end.new.shelf; reads_before = g.L.Shelf.reads c.args.shelf.now; reads_after = g.L.Shelf.reads c.perform_any-end.new.shelf }) (g.P.Peers.view c.args.peers.now) (g.P.Peers.view c.perform_any-end.new.peers) (g.S.Disk.view c.args.site.now) (g.S.Disk.view c.perform_any-end.new.site) (g.S.Disk.view c.finish.new.site) (end_of c.perform_any-end.result) c.finish.result c.perform_any-end.ensures.with_peer c.finish.ensures (peer_request (map string_bytes c.args.words.now)) refl
+
+pub returns-clause-peer_faults : goal.returns-clause-peer_faults
+returns-clause-peer_faults g c = faults-with (peer_request (map string_bytes c.args.words.now)) (record { told = g.L.Shelf.told c.args.shelf.now; before = g.L.Shelf.faults c.args.shelf.now; after = g.L.Shelf.faults c.perform_any-end.new.shelf; reads_before = g.L.Shelf.reads c.args.shelf.now; reads_after = g.L.Shelf.reads c.perform_any-end.new.shelf }) (g.P.Peers.view c.args.peers.now) (g.P.Peers.view c.perform_any-end.new.peers) (g.S.Disk.view c.args.site.now) (g.S.Disk.view c.finish.new.site) c.finish.result (with-words (peer_request (map string_bytes c.args.words.now)) (record { told = g.L.Shelf.told c.args.shelf.now; before = g.L.Shelf.faults c.args.shelf.now; after = g.L.Shelf.faults c.perform_any-end.new.shelf; reads_before = g.L.Shelf.reads c.args.shelf.now; reads_after = g.L.Shelf.reads c.perform_any-end.new.shelf }) (g.P.Peers.view c.args.peers.now) (g.P.Peers.view c.perform_any-end.new.peers) (g.S.Disk.view c.args.site.now) (g.S.Disk.view c.perform_any-end.new.site) (g.S.Disk.view c.finish.new.site) (end_of c.perform_any-end.result) c.finish.result c.perform_any-end.ensures.with_peer c.finish.ensures (peer_request (map string_bytes c.args.words.now)) refl)
+
+pub returns-clause-own : goal.returns-clause-own
+returns-clause-own g c = own-with (peer_request (map string_bytes c.args.words.now)) (record { told = g.L.Shelf.told c.args.shelf.now; before = g.L.Shelf.faults c.args.shelf.now; after = g.L.Shelf.faults c.perform_any-end.new.shelf; reads_before = g.L.Shelf.reads c.args.shelf.now; reads_after = g.L.Shelf.reads c.perform_any-end.new.shelf }) (g.P.Peers.view c.args.peers.now) (g.P.Peers.view c.perform_any-end.new.peers) (g.S.Disk.view c.args.site.now) (g.S.Disk.view c.finish.new.site) c.finish.result (with-words (peer_request (map string_bytes c.args.words.now)) (record { told = g.L.Shelf.told c.args.shelf.now; before = g.L.Shelf.faults c.args.shelf.now; after = g.L.Shelf.faults c.perform_any-end.new.shelf; reads_before = g.L.Shelf.reads c.args.shelf.now; reads_after = g.L.Shelf.reads c.perform_any-end.new.shelf }) (g.P.Peers.view c.args.peers.now) (g.P.Peers.view c.perform_any-end.new.peers) (g.S.Disk.view c.args.site.now) (g.S.Disk.view c.perform_any-end.new.site) (g.S.Disk.view c.finish.new.site) (end_of c.perform_any-end.result) c.finish.result c.perform_any-end.ensures.with_peer c.finish.ensures (peer_request (map string_bytes c.args.words.now)) refl)
+
+pub returns-clause-peers_failed : goal.returns-clause-peers_failed
+returns-clause-peers_failed g c seventeen = by-words (peer_request (map string_bytes c.args.words.now)) _
+    (λ none. absurd (never (asked (map string_bytes c.args.words.now)) _ _ _ c.finish.result 17 (seventeen-out (asked (map string_bytes c.args.words.now))) (came (c.perform_any-end.ensures.alone none) c.finish.ensures) seventeen))
+    (λ wanted is. pair-rose _ _ _ _ _ _ wanted (with-words (peer_request (map string_bytes c.args.words.now)) (record { told = g.L.Shelf.told c.args.shelf.now; before = g.L.Shelf.faults c.args.shelf.now; after = g.L.Shelf.faults c.perform_any-end.new.shelf; reads_before = g.L.Shelf.reads c.args.shelf.now; reads_after = g.L.Shelf.reads c.perform_any-end.new.shelf }) (g.P.Peers.view c.args.peers.now) (g.P.Peers.view c.perform_any-end.new.peers) (g.S.Disk.view c.args.site.now) (g.S.Disk.view c.perform_any-end.new.site) (g.S.Disk.view c.finish.new.site) (end_of c.perform_any-end.result) c.finish.result c.perform_any-end.ensures.with_peer c.finish.ensures (Some (pairs wanted)) is) seventeen)
+    (λ is. serve-rose _ _ _ _ _ (with-words (peer_request (map string_bytes c.args.words.now)) (record { told = g.L.Shelf.told c.args.shelf.now; before = g.L.Shelf.faults c.args.shelf.now; after = g.L.Shelf.faults c.perform_any-end.new.shelf; reads_before = g.L.Shelf.reads c.args.shelf.now; reads_after = g.L.Shelf.reads c.perform_any-end.new.shelf }) (g.P.Peers.view c.args.peers.now) (g.P.Peers.view c.perform_any-end.new.peers) (g.S.Disk.view c.args.site.now) (g.S.Disk.view c.perform_any-end.new.site) (g.S.Disk.view c.finish.new.site) (end_of c.perform_any-end.result) c.finish.result c.perform_any-end.ensures.with_peer c.finish.ensures (Some serves) is) seventeen)
+
+pub returns-clause-shelf_failed : goal.returns-clause-shelf_failed
+returns-clause-shelf_failed g c three = by-words (peer_request (map string_bytes c.args.words.now)) _
+    (λ none. failed-ended _ _ _ _ _ (came (c.perform_any-end.ensures.alone none) c.finish.ensures) three)
+    (λ wanted is. pair-failed _ _ _ _ _ _ wanted (with-words (peer_request (map string_bytes c.args.words.now)) (record { told = g.L.Shelf.told c.args.shelf.now; before = g.L.Shelf.faults c.args.shelf.now; after = g.L.Shelf.faults c.perform_any-end.new.shelf; reads_before = g.L.Shelf.reads c.args.shelf.now; reads_after = g.L.Shelf.reads c.perform_any-end.new.shelf }) (g.P.Peers.view c.args.peers.now) (g.P.Peers.view c.perform_any-end.new.peers) (g.S.Disk.view c.args.site.now) (g.S.Disk.view c.perform_any-end.new.site) (g.S.Disk.view c.finish.new.site) (end_of c.perform_any-end.result) c.finish.result c.perform_any-end.ensures.with_peer c.finish.ensures (Some (pairs wanted)) is) three)
+    (λ is. absurd (serve-never _ _ _ _ _ (with-words (peer_request (map string_bytes c.args.words.now)) (record { told = g.L.Shelf.told c.args.shelf.now; before = g.L.Shelf.faults c.args.shelf.now; after = g.L.Shelf.faults c.perform_any-end.new.shelf; reads_before = g.L.Shelf.reads c.args.shelf.now; reads_after = g.L.Shelf.reads c.perform_any-end.new.shelf }) (g.P.Peers.view c.args.peers.now) (g.P.Peers.view c.perform_any-end.new.peers) (g.S.Disk.view c.args.site.now) (g.S.Disk.view c.perform_any-end.new.site) (g.S.Disk.view c.finish.new.site) (end_of c.perform_any-end.result) c.finish.result c.perform_any-end.ensures.with_peer c.finish.ensures (Some serves) is) 3 refl three))
+
+pub returns-clause-shelf_steady : goal.returns-clause-shelf_steady
+returns-clause-shelf_steady g c no3 no9 = by-words (peer_request (map string_bytes c.args.words.now)) _
+    (λ none. steady-ended _ _ _ _ _ (came (c.perform_any-end.ensures.alone none) c.finish.ensures) no3 no9)
+    (λ wanted is. pair-steady _ _ _ _ _ _ wanted (with-words (peer_request (map string_bytes c.args.words.now)) (record { told = g.L.Shelf.told c.args.shelf.now; before = g.L.Shelf.faults c.args.shelf.now; after = g.L.Shelf.faults c.perform_any-end.new.shelf; reads_before = g.L.Shelf.reads c.args.shelf.now; reads_after = g.L.Shelf.reads c.perform_any-end.new.shelf }) (g.P.Peers.view c.args.peers.now) (g.P.Peers.view c.perform_any-end.new.peers) (g.S.Disk.view c.args.site.now) (g.S.Disk.view c.perform_any-end.new.site) (g.S.Disk.view c.finish.new.site) (end_of c.perform_any-end.result) c.finish.result c.perform_any-end.ensures.with_peer c.finish.ensures (Some (pairs wanted)) is) no3 no9)
+    (λ is. ap g.L.Shelf.faults (c.perform_any-end.ensures.untouched (no-files (asked (map string_bytes c.args.words.now)) is)))
+
+pub returns-clause-no_memory : goal.returns-clause-no_memory
+returns-clause-no_memory g c ten = by-words (peer_request (map string_bytes c.args.words.now)) _
+    (λ none. memory-ended _ _ _ _ _ (came (c.perform_any-end.ensures.alone none) c.finish.ensures) ten)
+    (λ wanted is. pair-memory _ _ _ _ _ _ wanted (with-words (peer_request (map string_bytes c.args.words.now)) (record { told = g.L.Shelf.told c.args.shelf.now; before = g.L.Shelf.faults c.args.shelf.now; after = g.L.Shelf.faults c.perform_any-end.new.shelf; reads_before = g.L.Shelf.reads c.args.shelf.now; reads_after = g.L.Shelf.reads c.perform_any-end.new.shelf }) (g.P.Peers.view c.args.peers.now) (g.P.Peers.view c.perform_any-end.new.peers) (g.S.Disk.view c.args.site.now) (g.S.Disk.view c.perform_any-end.new.site) (g.S.Disk.view c.finish.new.site) (end_of c.perform_any-end.result) c.finish.result c.perform_any-end.ensures.with_peer c.finish.ensures (Some (pairs wanted)) is) ten)
+    (λ is. serve-memory _ _ _ _ _ (with-words (peer_request (map string_bytes c.args.words.now)) (record { told = g.L.Shelf.told c.args.shelf.now; before = g.L.Shelf.faults c.args.shelf.now; after = g.L.Shelf.faults c.perform_any-end.new.shelf; reads_before = g.L.Shelf.reads c.args.shelf.now; reads_after = g.L.Shelf.reads c.perform_any-end.new.shelf }) (g.P.Peers.view c.args.peers.now) (g.P.Peers.view c.perform_any-end.new.peers) (g.S.Disk.view c.args.site.now) (g.S.Disk.view c.perform_any-end.new.site) (g.S.Disk.view c.finish.new.site) (end_of c.perform_any-end.result) c.finish.result c.perform_any-end.ensures.with_peer c.finish.ensures (Some serves) is) (record { told = g.L.Shelf.told c.args.shelf.now; before = g.L.Shelf.faults c.args.shelf.now; after = g.L.Shelf.faults c.perform_any-end.new.shelf; reads_before = g.L.Shelf.reads c.args.shelf.now; reads_after = g.L.Shelf.reads c.perform_any-end.new.shelf })
+    (ap g.L.Shelf.faults (c.perform_any-end.ensures.untouched (no-files (asked (map string_bytes c.args.words.now)) is))) ten)
+
+pub returns-clause-reads : goal.returns-clause-reads
+returns-clause-reads g c = by-words (peer_request (map string_bytes c.args.words.now)) _
+    (λ none. subst (λ (a : Option PeerRequest). ReadsAtMost (length (files_for a (asked (map string_bytes c.args.words.now)))) (g.L.Shelf.reads c.args.shelf.now) (g.L.Shelf.reads c.perform_any-end.new.shelf)) (sym none)
+    (few-ended _ _ _ _ _ (came (c.perform_any-end.ensures.alone none) c.finish.ensures)))
+    (λ wanted is. subst (λ (a : Option PeerRequest). ReadsAtMost (length (files_for a (asked (map string_bytes c.args.words.now)))) (g.L.Shelf.reads c.args.shelf.now) (g.L.Shelf.reads c.perform_any-end.new.shelf)) (sym is)
+    (pair-reads _ _ _ _ _ _ wanted (with-words (peer_request (map string_bytes c.args.words.now)) (record { told = g.L.Shelf.told c.args.shelf.now; before = g.L.Shelf.faults c.args.shelf.now; after = g.L.Shelf.faults c.perform_any-end.new.shelf; reads_before = g.L.Shelf.reads c.args.shelf.now; reads_after = g.L.Shelf.reads c.perform_any-end.new.shelf }) (g.P.Peers.view c.args.peers.now) (g.P.Peers.view c.perform_any-end.new.peers) (g.S.Disk.view c.args.site.now) (g.S.Disk.view c.perform_any-end.new.site) (g.S.Disk.view c.finish.new.site) (end_of c.perform_any-end.result) c.finish.result c.perform_any-end.ensures.with_peer c.finish.ensures (Some (pairs wanted)) is)))
+    (λ is. subst (λ (a : Option PeerRequest). ReadsAtMost (length (files_for a (asked (map string_bytes c.args.words.now)))) (g.L.Shelf.reads c.args.shelf.now) (g.L.Shelf.reads c.perform_any-end.new.shelf)) (sym is)
+    (none-read-at (g.L.Shelf.reads c.args.shelf.now) (g.L.Shelf.reads c.perform_any-end.new.shelf) (ap g.L.Shelf.reads (c.perform_any-end.ensures.untouched (no-files (asked (map string_bytes c.args.words.now)) is)))))

@@ -1,5 +1,5 @@
 -- The words so far pass.
-use Rattle.std.proofs.Common.{◌≡◌, ◌∙◌, ◌||◌, sym, ap, true, false, string_bytes}
+use Rattle.std.proofs.Common.{◌≡◌, ◌∙◌, ◌||◌, sym, ap, true, string_bytes}
 use Rattle.std.specs.Str.{bytes_eq}
 use Rattle.cacao_cli_words.specs.Words.{dashes}
 use Rattle.cacao_cli_words.specs.Hyphens.{word_passes}

@@ -17,10 +17,10 @@ asked-names (word ∷ words) first names here other named =
     let is : first ≡ word = cc in
     ap (λ o. option_and_then (names_asks (string_bytes first)) o) named ∙ request-names (string_bytes first) (map string_bytes words) other ∙ ap (λ (w : String Global). request (string_bytes w ∷ map string_bytes words)) is
 
-pub returns-in-Some-2 : goal.returns-in-Some-2
-returns-in-Some-2 c =
+pub returns-in-Some-3 : goal.returns-in-Some-3
+returns-in-Some-3 c =
     subst (λ (r : Option Request). IfOk c.names_asked.result (λ o. option_map request_by o ≡ r))
-    (ap (λ (w : Text). names_asks w (map (λ (name : Bor Text). name.now) c.in-Some-2.names.items)) c.as_str-first.ensures.value
-    ∙ asked-names c.args.words.now c.in-Some.first.now (map (λ (name : Bor Text). name.now) c.in-Some-2.names.items) c.in-Some.ensures.value
-    (ap (λ (w : Text). bytes_eq w (codes "run")) (sym c.as_str-first.ensures.value) ∙ sym c.eq.ensures ∙ c.if-eq.false) (ap (option_map (λ names. map (λ (name : Bor Text). name.now) names.items)) (sym c.in-Some-2.is) ∙ c.in_ok-names.ensures))
+    (ap (λ (w : Text). names_asks w (map (λ (name : Bor Text). name.now) c.in-Some-3.names.items)) c.as_str-first.ensures.value
+    ∙ asked-names c.args.words.now c.in-Some.first.now (map (λ (name : Bor Text). name.now) c.in-Some-3.names.items) c.in-Some.ensures.value
+    (ap (λ (w : Text). bytes_eq w (codes "run")) (sym c.as_str-first.ensures.value) ∙ sym c.eq.ensures ∙ c.if-eq.false) (ap (option_map (λ names. map (λ (name : Bor Text). name.now) names.items)) (sym c.in-Some-3.is) ∙ c.in_ok-names.ensures))
     c.names_asked.ensures

@@ -1,0 +1,3 @@
+pub mod FilterServing
+pub mod Pairing
+pub mod PeerCounts

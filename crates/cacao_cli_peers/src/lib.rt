@@ -1,0 +1,9 @@
+//! The commands that work with a peer: a session whose filters stand in another process, and these filters.
+#![tactic(auto)]
+
+mod ending;
+mod pairing;
+mod serving;
+
+pub use pairing::pair;
+pub use serving::serve;

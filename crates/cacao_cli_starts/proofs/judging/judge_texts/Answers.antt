@@ -1,0 +1,15 @@
+-- Texts that are accepted, and bindings that break a rule.
+use Rattle.std.proofs.Common.{subst, ℕ, List}
+use Rattle.cacao_check.specs.Fits.{FitsKind}
+use Rattle.flow_core.specs.SetupReading.{BreaksBindRule}
+use Rattle.flow_core.specs.Setups.{AreAccepted}
+use Rattle.flow_core_rules.specs.Accepted.{Accepted}
+use Rattle.cacao_cli_words.specs.Commands.{run_request}
+use Rattle.cacao_cli_starts.proofs.BeginLemmas.{begins-bind, bind-lacking}
+use Rattle.cacao_cli_starts.proofs.judging.judge_texts.Goals as goal
+
+pub returns-in-Ok-others_of-3-clause-refused : goal.returns-in-Ok-others_of-3-clause-refused
+returns-in-Ok-others_of-3-clause-refused c =
+    begins-bind (run_request c.args.wanted.now) c.args.texts.now c.in-Err-Bind.rule c.in-Ok-others_of-3.field-0
+    (subst (λ (books : List (List ℕ)). BreaksBindRule books c.args.texts.now.bind c.in-Err-Bind.rule) c.as_slice.ensures.value (rw c.in-Err-Bind.field-0-is at c.in-Err-Bind.ensures.err))
+    c.in-Ok-others_of-3.ensures.bind c.in-Ok-others_of-3.ensures.ok

@@ -1,0 +1,2 @@
+pub mod ReadyRuns
+pub mod Starting
