@@ -1,110 +1,190 @@
 -- What holds of a call that went as `Ended` says, request by request.
-use Rattle.std.proofs.Common.{◌≡◌, ◌⊎◌, sym, ◌∙◌, arith, inl, inr, ℕ, [], ◌∷◌}
+use Rattle.std.proofs.Common.{◌≡◌, ◌⊎◌, ◌∙◌, inl, inr, refl, sym, subst, arith, ℕ, true, List, [], ◌∷◌}
 use Rattle.cacao_site.specs.Counts.{next_count}
 use Rattle.cacao_site.specs.View.{SiteView}
-use Rattle.cacao_view_words.specs.Requests.{Request, helps, helps_with, tells_version, explains, lacks}
+use Rattle.cacao_cli_ends.specs.Comes.{ComesExactly, IsOneOf}
+use Rattle.cacao_cli_ends.specs.Ends as cacao
+use Rattle.cacao_cli_ends.specs.Files.{ShelfCall}
+use Rattle.cacao_cli_ends.proofs.EndLemmas.{end-failed}
+use Rattle.cacao_cli_ends.proofs.LineLemmas.{IsCutOff}
+use Rattle.cacao_cli_ends.proofs.StatusLists.{are_among, not-among, widen}
+use Rattle.cacao_view_words.specs.Requests.{Request, helps, helps_with, tells_version, graphs, explains, lacks}
 use Rattle.cacao_view_words.specs.Rules.{rule_lines}
+use Rattle.cacao_view_words.specs.Texts.{Text}
 use Rattle.cacao_view_words.specs.Topics.{all_words, topic_lines, version_lines}
-use Rattle.cacao_view.specs.Comes.{CanBeDone, ComesExactly, IsNotUnderstood, IsOneOf, faults_of, statuses_of}
-use Rattle.cacao_view.specs.Ends.{End, done, not_understood}
+use Rattle.cacao_view.specs.Comes.{IsNotUnderstood, StatusesTell, statuses_of}
+use Rattle.cacao_view.specs.Drawing.{Draws}
+use Rattle.cacao_view.specs.Ends.{End, done, not_understood, status_of}
 use Rattle.cacao_view.specs.Lines.{Tells, unsaid_count}
 use Rattle.cacao_view.specs.Looks.{Ended, Looks, OnlyLooks}
-use Rattle.cacao_view.specs.Work.{work}
-use Rattle.cacao_view.proofs.SayLemmas.{Answers, Keeps, keeps-told, keeps-work, only-looks, work-answers}
+use Rattle.cacao_view.specs.Reports.{Reports}
+use Rattle.cacao_view.specs.Work.{Work, files_of, draws, says, work}
+use Rattle.cacao_view.proofs.DrawLemmas.{draws-failed, draws-listed, draws-status, draws-steady}
+use Rattle.cacao_view.proofs.BookLemmas.{books_list}
+use Rattle.cacao_view.proofs.ReportLemmas.{report-disk, report-said, report-some, report-status, report-unsaid, shelf-failure, some-looks}
+use Rattle.cacao_view.proofs.SayLemmas.{Answers, IsPlain, work-answers, work-looks, work-steady}
 
--- ---- the status where all was said
+-- ---- the work of each request
 
-abbrev own_status : Request → ℕ
-own_status helps = 0
-own_status (helps_with topic) = 0
-own_status tells_version = 0
-own_status (explains rule) = 0
-own_status (lacks wanted) = 2
+-- words that read nothing end plainly
+abbrev IsPlainWork : Work → Type 0
+IsPlainWork (says lines end) = IsPlain end × ((status_of end ≡ 0) ⊎ (status_of end ≡ 2))
+IsPlainWork (draws books) = Unit {0}
 
-looks-keeps : (r : Request) (old mid : SiteView) (last : End) → Looks (work r) old mid last → Keeps old mid
-looks-keeps helps old mid last h = keeps-work all_words done old mid last h
-looks-keeps (helps_with topic) old mid last h = keeps-work (topic_lines topic) done old mid last h
-looks-keeps tells_version old mid last h = keeps-work version_lines done old mid last h
-looks-keeps (explains rule) old mid last h = keeps-work (rule_lines rule) done old mid last h
-looks-keeps (lacks wanted) old mid last h = keeps-work [] (not_understood wanted) old mid last h
+work-plain : (r : Request) → IsPlainWork (work r)
+work-plain helps = (tt, inl refl)
+work-plain (helps_with topic) = (tt, inl refl)
+work-plain tells_version = (tt, inl refl)
+work-plain (graphs books) = tt
+work-plain (explains rule) = (tt, inl refl)
+work-plain (lacks wanted) = (tt, inr refl)
 
-looks-answers : (r : Request) (old mid new : SiteView) (last : End) (answer : ℕ) → Looks (work r) old mid last → Tells last mid new answer → Answers (own_status r) old new answer
-looks-answers helps old mid new last answer h tells = work-answers all_words done old mid new last answer h tells
-looks-answers (helps_with topic) old mid new last answer h tells = work-answers (topic_lines topic) done old mid new last answer h tells
-looks-answers tells_version old mid new last answer h tells = work-answers version_lines done old mid new last answer h tells
-looks-answers (explains rule) old mid new last answer h tells = work-answers (rule_lines rule) done old mid new last answer h tells
-looks-answers (lacks wanted) old mid new last answer h tells = work-answers [] (not_understood wanted) old mid new last answer h tells
+zero-or-two : (n : ℕ) → (n ≡ 0) ⊎ (n ≡ 2) → n ≡ 9 → ⊥
+zero-or-two n (inl f) e = omega (arith, e, f)
+zero-or-two n (inr f) e = omega (arith, e, f)
 
-ended-answers : (r : Request) (old new : SiteView) (answer : ℕ) → Ended r old new answer → Answers (own_status r) old new answer
-ended-answers r old new answer h = looks-answers r old h.between new h.last answer h.looks h.tells
+-- a status that is not in the list
+other : (n m : ℕ) (ns : List ℕ) → IsOneOf n ns → (IsOneOf m ns → ⊥) → n ≡ m → ⊥
+other n m ns h none e = none (subst (λ (k : ℕ). IsOneOf k ns) e h)
 
-pub looks-ended : (r : Request) (old new : SiteView) (answer : ℕ) → Ended r old new answer → OnlyLooks old new
-looks-ended r old new answer h = only-looks old h.between new (looks-keeps r old h.between h.last h.looks) (keeps-told h.last h.between new answer h.tells)
+no-nine : (Told : List Text → cacao.End → Type 0) (old mid : SiteView) (last : End) (ns : List ℕ) → (IsOneOf 9 ns → ⊥) → (h : Reports Told old mid last) → IsOneOf (cacao.status_of h.end) ns → cacao.status_of h.end ≡ 9 → ⊥
+no-nine Told old mid last ns none h one e = other (cacao.status_of h.end) 9 ns one none e
 
--- ---- which status comes
+module _ (shelf : ShelfCall) (old mid new : SiteView) (last : End) (answer : ℕ) (tells : Tells last mid new answer) where
+  -- ---- what stays
 
-one-of : (status : ℕ) (old new : SiteView) (answer : ℕ) → Answers status old new answer → (answer ≡ status) ⊎ ((answer ≡ 9) ⊎ ⊥)
-one-of status old new answer (inl h) = inl h.0
-one-of status old new answer (inr h) = inr (inl h.0)
+  work-only : (w : Work) → IsPlainWork w → Looks w shelf old mid last → OnlyLooks old new
+  work-only (says lines end) plain h = work-looks lines end old mid new last answer plain.0 h tells
+  work-only (draws books) plain h = some-looks old new (report-some (Draws books shelf) old mid new last answer h tells)
 
-own : (r : Request) (answer : ℕ) → (answer ≡ own_status r) ⊎ ((answer ≡ 9) ⊎ ⊥) → IsOneOf answer (statuses_of r)
-own helps answer h = h
-own (helps_with topic) answer h = h
-own tells_version answer h = h
-own (explains rule) answer h = h
-own (lacks wanted) answer h = h
+  -- ---- lines that could not be said
 
-pub answers-ended : (r : Request) (old new : SiteView) (answer : ℕ) → Ended r old new answer → IsOneOf answer (statuses_of r)
-answers-ended r old new answer h = own r answer (one-of (own_status r) old new answer (ended-answers r old new answer h))
+  plain-said : (status : ℕ) → Answers status old new answer → (answer ≡ 9 → ⊥) → unsaid_count new ≡ unsaid_count old
+  plain-said status (inl h) unlike = h.1
+  plain-said status (inr h) unlike = absurd (unlike h.0)
 
--- neither this status nor the other is a third
-neither : (n a b : ℕ) → (n ≡ a) ⊎ ((n ≡ b) ⊎ ⊥) → (c : ℕ) → n ≡ c → (c ≡ a → ⊥) → (c ≡ b → ⊥) → ⊥
-neither n a b (inl e) c is not_a not_b = not_a (sym is ∙ e)
-neither n a b (inr (inl e)) c is not_a not_b = not_b (sym is ∙ e)
-neither n a b (inr (inr none)) c is not_a not_b = absurd none
+  plain-unsaid : (status : ℕ) → (status ≡ 9 → ⊥) → Answers status old new answer → answer ≡ 9 → unsaid_count new ≡ next_count (unsaid_count old)
+  plain-unsaid status unlike (inl h) e = absurd (unlike (sym h.0 ∙ e))
+  plain-unsaid status unlike (inr h) e = h.1
 
-can-be-done : (r : Request) (answer : ℕ) → IsOneOf answer (statuses_of r) → ComesExactly 0 (faults_of r) (CanBeDone r) answer
-can-be-done helps answer h = record { only = λ e. tt; always = λ c. h }
-can-be-done (helps_with topic) answer h = record { only = λ e. tt; always = λ c. h }
-can-be-done tells_version answer h = record { only = λ e. tt; always = λ c. h }
-can-be-done (explains rule) answer h = record { only = λ e. tt; always = λ c. h }
-can-be-done (lacks wanted) answer h = record { only = λ e. neither answer 2 9 h 0 e (λ f. omega (arith, f)) (λ f. omega (arith, f)); always = λ c. absurd c }
+  work-said : (w : Work) → IsPlainWork w → Looks w shelf old mid last → (answer ≡ 9 → ⊥) → unsaid_count new ≡ unsaid_count old
+  work-said (says lines end) plain h unlike = plain-said (status_of end) (work-answers lines end old mid new last answer plain.0 h tells) unlike
+  work-said (draws books) plain h unlike = report-said (Draws books shelf) old mid new last answer h tells unlike
 
-pub done-ended : (r : Request) (old new : SiteView) (answer : ℕ) → Ended r old new answer → ComesExactly 0 (faults_of r) (CanBeDone r) answer
-done-ended r old new answer h = can-be-done r answer (answers-ended r old new answer h)
+  work-unsaid : (w : Work) → IsPlainWork w → Looks w shelf old mid last → answer ≡ 9 → unsaid_count new ≡ next_count (unsaid_count old)
+  work-unsaid (says lines end) plain h e = plain-unsaid (status_of end) (zero-or-two (status_of end) plain.1) (work-answers lines end old mid new last answer plain.0 h tells) e
+  work-unsaid (draws books) plain h e =
+      report-unsaid (Draws books shelf) old mid new last answer h tells
+      (no-nine (Draws books shelf) old mid last books_list (not-among 9 books_list refl) h (draws-listed books shelf h.lines h.end h.told)) e
 
-never : (answer : ℕ) → (answer ≡ 0) ⊎ ((answer ≡ 9) ⊎ ⊥) → answer ≡ 2 → ⊥
-never answer h e = neither answer 0 9 h 2 e (λ f. omega (arith, f)) (λ f. omega (arith, f))
+  -- ---- which statuses come
 
-is-lacking : (r : Request) (answer : ℕ) → IsOneOf answer (statuses_of r) → ComesExactly 2 (9 ∷ []) (IsNotUnderstood r) answer
-is-lacking helps answer h = record { only = never answer h; always = λ c. absurd c }
-is-lacking (helps_with topic) answer h = record { only = never answer h; always = λ c. absurd c }
-is-lacking tells_version answer h = record { only = never answer h; always = λ c. absurd c }
-is-lacking (explains rule) answer h = record { only = never answer h; always = λ c. absurd c }
-is-lacking (lacks wanted) answer h = record { only = λ e. tt; always = λ c. h }
+  listed : (ns ms : List ℕ) (n : ℕ) → are_among ns ms ≡ true → are_among (9 ∷ 10 ∷ []) ms ≡ true → IsOneOf n ns → (answer ≡ n) ⊎ IsCutOff answer → IsOneOf answer ms
+  listed ns ms n all cut one (inl e) = widen answer ns ms all (subst (λ (k : ℕ). IsOneOf k ns) (sym e) one)
+  listed ns ms n all cut one (inr c) = widen answer (9 ∷ 10 ∷ []) ms cut c
 
-pub lacking-ended : (r : Request) (old new : SiteView) (answer : ℕ) → Ended r old new answer → ComesExactly 2 (9 ∷ []) (IsNotUnderstood r) answer
-lacking-ended r old new answer h = is-lacking r answer (answers-ended r old new answer h)
+  plain-one : (status : ℕ) → Answers status old new answer → IsOneOf answer (status ∷ 9 ∷ [])
+  plain-one status (inl h) = inl h.0
+  plain-one status (inr h) = inr (inl h.0)
 
--- ---- what is counted
+  pub answers-one : (r : Request) → Looks (work r) shelf old mid last → IsOneOf answer (statuses_of r)
+  answers-one helps h = plain-one 0 (work-answers all_words done old mid new last answer tt h tells)
+  answers-one (helps_with topic) h = plain-one 0 (work-answers (topic_lines topic) done old mid new last answer tt h tells)
+  answers-one tells_version h = plain-one 0 (work-answers version_lines done old mid new last answer tt h tells)
+  answers-one (graphs books) h =
+      listed books_list (statuses_of (graphs books)) (cacao.status_of h.end) refl refl (draws-listed books shelf h.lines h.end h.told) (report-status (Draws books shelf) old mid new last answer h tells)
+  answers-one (explains rule) h = plain-one 0 (work-answers (rule_lines rule) done old mid new last answer tt h tells)
+  answers-one (lacks wanted) h = plain-one 2 (work-answers [] (not_understood wanted) old mid new last answer tt h tells)
 
-not-nine : (r : Request) → own_status r ≡ 9 → ⊥
-not-nine helps e = omega (arith, e)
-not-nine (helps_with topic) e = omega (arith, e)
-not-nine tells_version e = omega (arith, e)
-not-nine (explains rule) e = omega (arith, e)
-not-nine (lacks wanted) e = omega (arith, e)
+  -- always, but for a line that could not be said
+  always : (status : ℕ) → Answers status old new answer → ComesExactly status (9 ∷ []) (Unit {0}) answer
+  always status h = record { only = λ e. tt; always = λ c. plain-one status h }
 
-counts : (status : ℕ) (old new : SiteView) (answer : ℕ) → (status ≡ 9 → ⊥) → Answers status old new answer → answer ≡ 9 → unsaid_count new ≡ next_count (unsaid_count old)
-counts status old new answer other (inl h) e = absurd (other (sym h.0 ∙ e))
-counts status old new answer other (inr h) e = h.1
+  pub statuses-told : (r : Request) → Looks (work r) shelf old mid last → StatusesTell r shelf.told answer
+  statuses-told helps h = always 0 (work-answers all_words done old mid new last answer tt h tells)
+  statuses-told (helps_with topic) h = always 0 (work-answers (topic_lines topic) done old mid new last answer tt h tells)
+  statuses-told tells_version h = always 0 (work-answers version_lines done old mid new last answer tt h tells)
+  statuses-told (graphs books) h = draws-status books shelf h.lines h.end h.told answer (report-status (Draws books shelf) old mid new last answer h tells)
+  statuses-told (explains rule) h = always 0 (work-answers (rule_lines rule) done old mid new last answer tt h tells)
+  statuses-told (lacks wanted) h = always 2 (work-answers [] (not_understood wanted) old mid new last answer tt h tells)
 
-pub unsaid-ended : (r : Request) (old new : SiteView) (answer : ℕ) → Ended r old new answer → answer ≡ 9 → unsaid_count new ≡ next_count (unsaid_count old)
-unsaid-ended r old new answer h e = counts (own_status r) old new answer (not-nine r) (ended-answers r old new answer h) e
+  never-two : (ns : List ℕ) → (IsOneOf 2 ns → ⊥) → IsOneOf answer ns → ComesExactly 2 (9 ∷ []) ⊥ answer
+  never-two ns none one = record { only = λ e. other answer 2 ns one none e; always = λ c. absurd c }
 
-steady : (status : ℕ) (old new : SiteView) (answer : ℕ) → Answers status old new answer → (answer ≡ 9 → ⊥) → unsaid_count new ≡ unsaid_count old
-steady status old new answer (inl h) unlike = h.1
-steady status old new answer (inr h) unlike = absurd (unlike h.0)
+  pub lacking : (r : Request) → IsOneOf answer (statuses_of r) → ComesExactly 2 (9 ∷ []) (IsNotUnderstood r) answer
+  lacking helps one = never-two (0 ∷ 9 ∷ []) (not-among 2 (0 ∷ 9 ∷ []) refl) one
+  lacking (helps_with topic) one = never-two (0 ∷ 9 ∷ []) (not-among 2 (0 ∷ 9 ∷ []) refl) one
+  lacking tells_version one = never-two (0 ∷ 9 ∷ []) (not-among 2 (0 ∷ 9 ∷ []) refl) one
+  lacking (graphs books) one = never-two (statuses_of (graphs books)) (not-among 2 (statuses_of (graphs books)) refl) one
+  lacking (explains rule) one = never-two (0 ∷ 9 ∷ []) (not-among 2 (0 ∷ 9 ∷ []) refl) one
+  lacking (lacks wanted) one = record { only = λ e. tt; always = λ c. one }
 
-pub said-ended : (r : Request) (old new : SiteView) (answer : ℕ) → Ended r old new answer → (answer ≡ 9 → ⊥) → unsaid_count new ≡ unsaid_count old
-said-ended r old new answer h unlike = steady (own_status r) old new answer (ended-answers r old new answer h) unlike
+  -- ---- faults of the disk
+
+  neither : (n : ℕ) → (answer ≡ n) ⊎ (answer ≡ 9) → (answer ≡ n → ⊥) → (answer ≡ 9 → ⊥) → ⊥
+  neither n (inl e) a b = a e
+  neither n (inr e) a b = b e
+
+  work-disk : (w : Work) → IsPlainWork w → Looks w shelf old mid last → new.disk.faults ≡ old.disk.faults
+  work-disk (says lines end) plain h = work-steady lines end old mid new last answer plain.0 h tells
+  work-disk (draws books) plain h = report-disk (Draws books shelf) old mid new last answer h tells
+
+  -- ---- failures of the shelf
+
+  three-or-not : (n : ℕ) → (answer ≡ n) ⊎ IsCutOff answer → answer ≡ 3 → n ≡ 3
+  three-or-not n (inl e) f = sym e ∙ f
+  three-or-not n (inr (inl e)) f = absurd (omega (arith, e, f))
+  three-or-not n (inr (inr (inl e))) f = absurd (omega (arith, e, f))
+  three-or-not n (inr (inr (inr none))) f = absurd none
+
+  never-three : (ns : List ℕ) → (IsOneOf 3 ns → ⊥) → IsOneOf answer ns → answer ≡ 3 → ⊥
+  never-three ns none one e = other answer 3 ns one none e
+
+  pub shelf-failed : (r : Request) → Looks (work r) shelf old mid last → answer ≡ 3 → shelf.after ≡ next_count shelf.before
+  shelf-failed helps h e = absurd (never-three (0 ∷ 9 ∷ []) (not-among 3 (0 ∷ 9 ∷ []) refl) (answers-one helps h) e)
+  shelf-failed (helps_with topic) h e = absurd (never-three (0 ∷ 9 ∷ []) (not-among 3 (0 ∷ 9 ∷ []) refl) (answers-one (helps_with topic) h) e)
+  shelf-failed tells_version h e = absurd (never-three (0 ∷ 9 ∷ []) (not-among 3 (0 ∷ 9 ∷ []) refl) (answers-one tells_version h) e)
+  shelf-failed (graphs books) h e =
+      draws-failed books shelf h.lines h.end h.told (three-or-not (cacao.status_of h.end) (report-status (Draws books shelf) old mid new last answer h tells) e)
+  shelf-failed (explains rule) h e = absurd (never-three (0 ∷ 9 ∷ []) (not-among 3 (0 ∷ 9 ∷ []) refl) (answers-one (explains rule) h) e)
+  shelf-failed (lacks wanted) h e = absurd (never-three (2 ∷ 9 ∷ []) (not-among 3 (2 ∷ 9 ∷ []) refl) (answers-one (lacks wanted) h) e)
+
+  not-three : (Told : List Text → cacao.End → Type 0) (h : Reports Told old mid last) → (answer ≡ 3 → ⊥) → (answer ≡ 9 → ⊥) → cacao.status_of h.end ≡ 3 → ⊥
+  not-three Told h a b e = let f = end-failed h.end e in neither 3 (shelf-failure Told old mid new last answer h tells f.0 f.1) a b
+
+  -- where the words read files
+  pub shelf-steady : (r : Request) → Looks (work r) shelf old mid last → (files_of r ≡ [] → shelf.after ≡ shelf.before) → (answer ≡ 3 → ⊥) → (answer ≡ 9 → ⊥) → shelf.after ≡ shelf.before
+  shelf-steady helps h none a b = none refl
+  shelf-steady (helps_with topic) h none a b = none refl
+  shelf-steady tells_version h none a b = none refl
+  shelf-steady (graphs books) h none a b = draws-steady books shelf h.lines h.end h.told (not-three (Draws books shelf) h a b)
+  shelf-steady (explains rule) h none a b = none refl
+  shelf-steady (lacks wanted) h none a b = none refl
+
+module _ (r : Request) (shelf : ShelfCall) (old new : SiteView) (answer : ℕ) (h : Ended r shelf old new answer) where
+  pub looks-ended : OnlyLooks old new
+  looks-ended = work-only shelf old h.between new h.last answer h.tells (work r) (work-plain r) h.looks
+
+  pub answers-ended : IsOneOf answer (statuses_of r)
+  answers-ended = answers-one shelf old h.between new h.last answer h.tells r h.looks
+
+  pub statuses-ended : StatusesTell r shelf.told answer
+  statuses-ended = statuses-told shelf old h.between new h.last answer h.tells r h.looks
+
+  pub lacking-ended : ComesExactly 2 (9 ∷ []) (IsNotUnderstood r) answer
+  lacking-ended = lacking shelf old h.between new h.last answer h.tells r answers-ended
+
+  pub unsaid-ended : answer ≡ 9 → unsaid_count new ≡ next_count (unsaid_count old)
+  unsaid-ended e = work-unsaid shelf old h.between new h.last answer h.tells (work r) (work-plain r) h.looks e
+
+  pub said-ended : (answer ≡ 9 → ⊥) → unsaid_count new ≡ unsaid_count old
+  said-ended unlike = work-said shelf old h.between new h.last answer h.tells (work r) (work-plain r) h.looks unlike
+
+  pub disk-steady-ended : new.disk.faults ≡ old.disk.faults
+  disk-steady-ended = work-disk shelf old h.between new h.last answer h.tells (work r) (work-plain r) h.looks
+
+  pub shelf-failed-ended : answer ≡ 3 → shelf.after ≡ next_count shelf.before
+  shelf-failed-ended e = shelf-failed shelf old h.between new h.last answer h.tells r h.looks e
+
+  pub shelf-steady-ended : (files_of r ≡ [] → shelf.after ≡ shelf.before) → (answer ≡ 3 → ⊥) → (answer ≡ 9 → ⊥) → shelf.after ≡ shelf.before
+  shelf-steady-ended none a b = shelf-steady shelf old h.between new h.last answer h.tells r h.looks none a b

@@ -7,7 +7,7 @@ use Rattle.cacao_site.specs.SayCalls.{KeepsTime, SaysOnly}
 use Rattle.cacao_site.specs.View.{DiskView, SiteView}
 use Rattle.cacao_site.proofs.Beats.{each-keeps, goes_on-refl, goes_on-trans, since-start, stays-trans}
 use Rattle.cacao_view_words.specs.Texts.{Text, lines_in}
-use Rattle.cacao_view.specs.Ends.{End, last_line, status_of}
+use Rattle.cacao_view.specs.Ends.{End, done, ends_as, last_line, not_understood, status_of, unsaid}
 use Rattle.cacao_view.specs.Lines.{FailsAmong, FailsToSay, SaysAll, SaysLine, SaysWork, Tells, TellsLine, unsaid_count}
 use Rattle.cacao_view.specs.Looks.{OnlyLooks}
 
@@ -116,7 +116,7 @@ keeps-all (line ∷ lines) old new h = keeps-trans old h.0 new (keeps-only old h
 keeps-among : (lines : List Text) (old new : SiteView) → FailsAmong lines old new → Keeps old new
 keeps-among lines old new h = keeps-trans old h.between new (keeps-all h.front old h.between h.says) (keeps-only h.between new h.fails.only)
 
-pub keeps-work : (lines : List Text) (end : End) (old mid : SiteView) (last : End) → SaysWork lines end old mid last → Keeps old mid
+keeps-work : (lines : List Text) (end : End) (old mid : SiteView) (last : End) → SaysWork lines end old mid last → Keeps old mid
 keeps-work lines end old mid last (inl h) = keeps-all lines old mid h.0
 keeps-work lines end old mid last (inr h) = keeps-among lines old mid h.0
 
@@ -125,10 +125,27 @@ keeps-line None status mid new answer h = keeps-same mid new h.0
 keeps-line (Some line) status mid new answer (inl h) = keeps-only mid new h.0.only
 keeps-line (Some line) status mid new answer (inr h) = keeps-only mid new h.0.only
 
-pub keeps-told : (last : End) (mid new : SiteView) (answer : ℕ) → Tells last mid new answer → Keeps mid new
-keeps-told last mid new answer h = keeps-line (last_line last) (status_of last) mid new answer h
+-- the end is not that of a command of `cacao`
+abbrev pub IsPlain : End → Type 0
+IsPlain done = Unit {0}
+IsPlain (not_understood wanted) = Unit {0}
+IsPlain unsaid = Unit {0}
+IsPlain (ends_as end) = ⊥
 
-pub only-looks : (old mid new : SiteView) → Keeps old mid → Keeps mid new → OnlyLooks old new
+as-line : (end : End) (mid new : SiteView) (answer : ℕ) → IsPlain end → Tells end mid new answer → TellsLine (last_line end) (status_of end) mid new answer
+as-line done mid new answer plain h = h
+as-line (not_understood wanted) mid new answer plain h = h
+as-line unsaid mid new answer plain h = h
+as-line (ends_as end) mid new answer plain h = absurd plain
+
+plain-last : (lines : List Text) (end : End) (old mid : SiteView) (last : End) → IsPlain end → SaysWork lines end old mid last → IsPlain last
+plain-last lines end old mid last plain (inl h) = subst IsPlain (sym h.1) plain
+plain-last lines end old mid last plain (inr h) = subst IsPlain (sym h.1) tt
+
+keeps-told : (last : End) (mid new : SiteView) (answer : ℕ) → IsPlain last → Tells last mid new answer → Keeps mid new
+keeps-told last mid new answer plain h = keeps-line (last_line last) (status_of last) mid new answer (as-line last mid new answer plain h)
+
+only-looks : (old mid new : SiteView) → Keeps old mid → Keeps mid new → OnlyLooks old new
 only-looks old mid new p q = let k : Keeps old new = keeps-trans old mid new p q in record {
   images = λ file. each-keeps (since-start old.disk file) k.disk;
   written = omega (arith, k.disk.written);
@@ -159,10 +176,18 @@ line-answers None status mid new answer h = inl (h.1, ap unsaid_count h.0)
 line-answers (Some line) status mid new answer (inl h) = inl (h.1, h.0.count)
 line-answers (Some line) status mid new answer (inr h) = inr (h.1, h.0.count)
 
-pub work-answers : (lines : List Text) (end : End) (old mid new : SiteView) (last : End) (answer : ℕ) → SaysWork lines end old mid last → Tells last mid new answer → Answers (status_of end) old new answer
-work-answers lines end old mid new last answer (inl h) tells =
+pub work-looks : (lines : List Text) (end : End) (old mid new : SiteView) (last : End) (answer : ℕ) → IsPlain end → SaysWork lines end old mid last → Tells last mid new answer → OnlyLooks old new
+work-looks lines end old mid new last answer plain h tells =
+    only-looks old mid new (keeps-work lines end old mid last h) (keeps-told last mid new answer (plain-last lines end old mid last plain h) tells)
+
+pub work-steady : (lines : List Text) (end : End) (old mid new : SiteView) (last : End) (answer : ℕ) → IsPlain end → SaysWork lines end old mid last → Tells last mid new answer → new.disk.faults ≡ old.disk.faults
+work-steady lines end old mid new last answer plain h tells =
+    (keeps-told last mid new answer (plain-last lines end old mid last plain h) tells).disk.faults ∙ (keeps-work lines end old mid last h).disk.faults
+
+pub work-answers : (lines : List Text) (end : End) (old mid new : SiteView) (last : End) (answer : ℕ) → IsPlain end → SaysWork lines end old mid last → Tells last mid new answer → Answers (status_of end) old new answer
+work-answers lines end old mid new last answer plain (inl h) tells =
     subst (λ (n : ℕ). ((answer ≡ status_of end) × (unsaid_count new ≡ n)) ⊎ ((answer ≡ 9) × (unsaid_count new ≡ next_count n))) (all-counts lines old mid h.0)
-    (line-answers (last_line end) (status_of end) mid new answer (subst (λ (e : End). Tells e mid new answer) h.1 tells))
-work-answers lines end old mid new last answer (inr h) tells =
+    (line-answers (last_line end) (status_of end) mid new answer (as-line end mid new answer plain (subst (λ (e : End). Tells e mid new answer) h.1 tells)))
+work-answers lines end old mid new last answer plain (inr h) tells =
     let told : (new ≡ mid) × (answer ≡ 9) = subst (λ (e : End). Tells e mid new answer) h.1 tells in
     inr (told.1, ap unsaid_count told.0 ∙ among-counts lines old mid h.0)

@@ -1,6 +1,10 @@
+pub mod BookReading
+pub mod BookStatuses
 pub mod Comes
+pub mod Drawing
 pub mod Ends
 pub mod Lines
 pub mod Looks
+pub mod Reports
 pub mod Told
 pub mod Work

@@ -4,8 +4,9 @@ use Rattle.cacao_site.specs.Counts.{next_count}
 use Rattle.cacao_site.specs.LinkCalls.{Gains}
 use Rattle.cacao_site.specs.SayCalls.{SaysOnly}
 use Rattle.cacao_site.specs.View.{SiteView}
+use Rattle.cacao_cli_ends.specs.Lines as of_cacao
 use Rattle.cacao_view_words.specs.Texts.{Text}
-use Rattle.cacao_view.specs.Ends.{End, last_line, status_of, unsaid}
+use Rattle.cacao_view.specs.Ends.{End, done, ends_as, last_line, not_understood, status_of, unsaid}
 
 -- how often `say` has failed
 abbrev pub unsaid_count : SiteView → ℕ
@@ -59,4 +60,7 @@ TellsLine (Some line) status old new answer = SaysLast line status old new answe
 
 -- the last line, if the end has one, and its status
 abbrev pub Tells : End → SiteView → SiteView → ℕ → Type 0
-Tells end = TellsLine (last_line end) (status_of end)
+Tells done = TellsLine (last_line done) (status_of done)
+Tells (not_understood wanted) = TellsLine (last_line (not_understood wanted)) (status_of (not_understood wanted))
+Tells unsaid = TellsLine (last_line unsaid) (status_of unsaid)
+Tells (ends_as end) = of_cacao.Tells end

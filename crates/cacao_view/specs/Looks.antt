@@ -3,10 +3,13 @@ use Rattle.std.specs.Prelude.{◌≡◌, ℕ, ◌≤◌}
 use Rattle.cacao_site.specs.DiskCalls.{EachBeat, IsLeft}
 use Rattle.cacao_site.specs.SayCalls.{KeepsTime}
 use Rattle.cacao_site.specs.View.{SiteView}
+use Rattle.cacao_cli_ends.specs.Files.{ShelfCall}
 use Rattle.cacao_view_words.specs.Requests.{Request}
+use Rattle.cacao_view.specs.Drawing.{Draws}
 use Rattle.cacao_view.specs.Ends.{End}
 use Rattle.cacao_view.specs.Lines.{SaysWork, Tells}
-use Rattle.cacao_view.specs.Work.{Work, says, work}
+use Rattle.cacao_view.specs.Reports.{Reports}
+use Rattle.cacao_view.specs.Work.{Work, draws, says, work}
 
 -- No file was written, nothing was put or taken, and no time went by: each image that a crash may leave of a file at each beat of
 -- the call is one that it could leave before.
@@ -21,12 +24,13 @@ pub record OnlyLooks (old new : SiteView) : Type 0 where
   pub mishaps : new.counts.mishaps ≡ old.counts.mishaps
 
 -- the work was done, from the one site to the other, all but the last line
-abbrev pub Looks : Work → SiteView → SiteView → End → Type 0
-Looks (says lines end) old new last = SaysWork lines end old new last
+abbrev pub Looks : Work → ShelfCall → SiteView → SiteView → End → Type 0
+Looks (says lines end) shelf old new last = SaysWork lines end old new last
+Looks (draws books) shelf old new last = Reports (Draws books shelf) old new last
 
 -- the work of the request was done, its last line was said, if it has one, and its status answered
-pub record Ended (request : Request) (old new : SiteView) (answer : ℕ) : Type 0 where
+pub record Ended (request : Request) (shelf : ShelfCall) (old new : SiteView) (answer : ℕ) : Type 0 where
   pub between : SiteView
   pub last : End
-  pub looks : Looks (work request) old between last
+  pub looks : Looks (work request) shelf old between last
   pub tells : Tells last between new answer

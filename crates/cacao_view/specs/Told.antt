@@ -1,4 +1,5 @@
 -- Scaffold: An end of the code as that of the definitions.
+use Rattle.cacao_cli_ends.specs.Told as of_cacao
 use Rattle.cacao_view.specs.Ends as as_said
 use Rattle.cacao_view.specs.declared.end.End.{End}
 use Rattle.cacao_view.specs.declared.end.End.TheVariants as how
@@ -7,3 +8,4 @@ abbrev pub end_of : End → as_said.End
 end_of how.Done = as_said.done
 end_of (how.NotUnderstood wanted) = as_said.not_understood wanted
 end_of how.Unsaid = as_said.unsaid
+end_of (how.As end) = as_said.ends_as (of_cacao.end_of end)

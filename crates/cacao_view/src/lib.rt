@@ -2,6 +2,7 @@
 #![tactic(auto)]
 
 mod end;
+mod graph_word;
 mod program;
 mod say;
 

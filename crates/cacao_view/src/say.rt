@@ -5,10 +5,11 @@ ghost use Rattle.cacao_view.specs.Told.{end_of};
 
 use crate::end::End;
 use cacao_site::Site;
+use std::alloc::Global;
 
 /// Says these lines in order; the end is this one, if all were said.
-pub(crate) fn say_all<S: Site>(lines: &[&str], end: End, site: &mut S) -> End
-    ensures { SaysWork (lines_in lines.now) (end_of end) (S.view site.old) (S.view site.new) (end_of result) }
+pub(crate) fn say_all<'w, S: Site>(lines: &[&str], end: End<'w>, site: &mut S) -> End<'w>
+    ensures { SaysWork (lines_in lines.now) (end_of end.entry) (S.view site.old) (S.view site.new) (end_of result) }
 {
     if say_lines(lines, site) {
         end
@@ -31,12 +32,14 @@ fn say_lines<S: Site>(lines: &[&str], site: &mut S) -> bool
 }
 
 /// Says the last line, if the end has one, and answers its status.
-pub(crate) fn finish<S: Site>(end: End, site: &mut S) -> u8
-    ensures { Tells (end_of end) (S.view site.old) (S.view site.new) result }
+pub(crate) fn finish<S: Site>(alloc: Global, end: &End<'_>, site: &mut S) -> u8
+    ensures { Tells (end_of end.entry.now) (S.view site.old) (S.view site.new) result }
 {
     match end {
+        End::Done => 0,
         End::NotUnderstood { wanted } => say_last(wanted.line().as_bytes(), 2, site),
-        End::Done | End::Unsaid => end.status(),
+        End::Unsaid => 9,
+        End::As { end } => cacao_cli_ends::finish(alloc, end, site),
     }
 }
 

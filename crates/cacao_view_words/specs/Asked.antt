@@ -1,4 +1,5 @@
 -- Scaffold: The values of the code as those of the definitions.
+use Rattle.std.specs.Prelude.{◌∷◌, map, string_bytes}
 use Rattle.cacao_view_words.specs.Requests as asked
 use Rattle.cacao_view_words.specs.Rules.{rule_of}
 use Rattle.cacao_view_words.specs.declared.words.Request.{Request}
@@ -8,5 +9,6 @@ abbrev pub request_by : Request → asked.Request
 request_by how.Help = asked.helps
 request_by (how.HelpWith topic) = asked.helps_with topic
 request_by how.Version = asked.tells_version
+request_by (how.Graph book libraries) = asked.graphs (book.now ∷ map string_bytes libraries.now)
 request_by (how.Explain rule) = asked.explains (rule_of rule)
 request_by (how.Lacks wanted) = asked.lacks wanted

@@ -1,5 +1,6 @@
 -- Promise: What the words ask for: one case and one row a word.
-use Rattle.std.specs.Prelude.{List, [], ◌∷◌, Option, Some, None, codes}
+use Rattle.std.specs.Prelude.{Bool, false, not, ◌&&◌, ◌==◌, nat_lt, nat_le, List, [], ◌∷◌, length, Option, Some, None, codes, if◌then◌else◌}
+use Rattle.std.specs.List.{list_all}
 use Rattle.cacao_view_words.specs.Rules.{NamedRule, rule_in}
 use Rattle.cacao_view_words.specs.Texts.{Text}
 use Rattle.cacao_view_words.specs.Topics.{Named, first_named, named, topic_in}
@@ -12,6 +13,7 @@ pub data Request : Type 0 where
   helps : Request
   helps_with : (topic : Topic) → Request
   tells_version : Request
+  graphs : (books : List Text) → Request
   explains : (rule : NamedRule) → Request
   lacks : (wanted : Wanted) → Request
 
@@ -31,6 +33,19 @@ abbrev pub version_asks : List Text → Request
 version_asks [] = tells_version
 version_asks (name ∷ names) = lacks want.NoMore
 
+abbrev pub begins_hyphen : Text → Bool
+begins_hyphen [] = false
+begins_hyphen (c ∷ cs) = c == 45
+
+-- the name of a file has 1 to 1,024 bytes and begins with no hyphen
+abbrev pub is_name : Text → Bool
+is_name word = nat_lt 0 (length word) && (nat_le (length word) 1024 && not (begins_hyphen word))
+
+-- the names of the files of playbooks, at least one
+abbrev pub graph_asks : List Text → Request
+graph_asks [] = lacks want.Graph
+graph_asks (book ∷ libraries) = if is_name book && list_all is_name libraries then graphs (book ∷ libraries) else lacks want.Graph
+
 -- one name, which is a rule's
 abbrev pub explain_asks : List Text → Request
 explain_asks [] = lacks want.Rule
@@ -45,6 +60,7 @@ commands =
     ∷ named (codes "-h") help_asks
     ∷ named (codes "version") version_asks
     ∷ named (codes "--version") version_asks
+    ∷ named (codes "graph") graph_asks
     ∷ named (codes "explain") explain_asks
     ∷ []
 

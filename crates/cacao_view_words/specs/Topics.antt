@@ -4,8 +4,8 @@ use Rattle.std.specs.Str.{bytes_eq}
 use Rattle.cacao_view_words.specs.Texts.{Text}
 use Rattle.cacao_view_words.specs.declared.topic.Topic.{Topic}
 use Rattle.cacao_view_words.specs.declared.topic.Topic.TheVariants as word
-use Rattle.cacao_view_words.specs.declared.topic_texts.TheConstants.{CANON, CHECK, RUN, SHOW, RULES, DECIDE, SHADOW, AUDIT}
-use Rattle.cacao_view_words.specs.declared.topic_texts.TheConstants.{REHEARSE, HELP, VERSION, EXPLAIN, ALL_WORDS, VERSION_LINES}
+use Rattle.cacao_view_words.specs.declared.topic_texts.TheConstants.{CANON, CHECK, RUN, PAIR, FILTERS, SHOW, RULES, DECIDE, SHADOW, AUDIT}
+use Rattle.cacao_view_words.specs.declared.topic_texts.TheConstants.{REHEARSE, HELP, VERSION, GRAPH, EXPLAIN, ALL_WORDS, VERSION_LINES}
 
 -- a word, and what stands for it
 pub record Named (A : Type 0) : Type 0 where
@@ -26,6 +26,8 @@ topics =
     named (codes "canon") word.Canon
     ∷ named (codes "check") word.Check
     ∷ named (codes "run") word.Run
+    ∷ named (codes "pair") word.Pair
+    ∷ named (codes "filters") word.Filters
     ∷ named (codes "show") word.Show
     ∷ named (codes "rules") word.Rules
     ∷ named (codes "decide") word.Decide
@@ -34,6 +36,7 @@ topics =
     ∷ named (codes "rehearse") word.Rehearse
     ∷ named (codes "help") word.Help
     ∷ named (codes "version") word.Version
+    ∷ named (codes "graph") word.Graph
     ∷ named (codes "explain") word.Explain
     ∷ []
 
@@ -44,6 +47,8 @@ abbrev pub topic_lines : Topic → List Text
 topic_lines word.Canon = map (λ line. line.now) CANON.now
 topic_lines word.Check = map (λ line. line.now) CHECK.now
 topic_lines word.Run = map (λ line. line.now) RUN.now
+topic_lines word.Pair = map (λ line. line.now) PAIR.now
+topic_lines word.Filters = map (λ line. line.now) FILTERS.now
 topic_lines word.Show = map (λ line. line.now) SHOW.now
 topic_lines word.Rules = map (λ line. line.now) RULES.now
 topic_lines word.Decide = map (λ line. line.now) DECIDE.now
@@ -52,6 +57,7 @@ topic_lines word.Audit = map (λ line. line.now) AUDIT.now
 topic_lines word.Rehearse = map (λ line. line.now) REHEARSE.now
 topic_lines word.Help = map (λ line. line.now) HELP.now
 topic_lines word.Version = map (λ line. line.now) VERSION.now
+topic_lines word.Graph = map (λ line. line.now) GRAPH.now
 topic_lines word.Explain = map (λ line. line.now) EXPLAIN.now
 
 -- what is said of all words, and of the version

@@ -4,8 +4,8 @@ ghost use Rattle.cacao_view_words.specs.Texts.{AreLines, lines_in};
 ghost use Rattle.cacao_view_words.specs.Topics.{all_words, topic_in, topic_lines, version_lines};
 
 use crate::topic_texts::{
-    ALL_WORDS, AUDIT, CANON, CHECK, DECIDE, EXPLAIN, HELP, REHEARSE, RULES, RUN, SHADOW, SHOW,
-    VERSION, VERSION_LINES,
+    ALL_WORDS, AUDIT, CANON, CHECK, DECIDE, EXPLAIN, FILTERS, GRAPH, HELP, PAIR, REHEARSE, RULES,
+    RUN, SHADOW, SHOW, VERSION, VERSION_LINES,
 };
 
 /// A word of one of the two programs.
@@ -14,6 +14,8 @@ pub enum Topic {
     Canon,
     Check,
     Run,
+    Pair,
+    Filters,
     Show,
     Rules,
     Decide,
@@ -22,6 +24,7 @@ pub enum Topic {
     Rehearse,
     Help,
     Version,
+    Graph,
     Explain,
 }
 
@@ -35,6 +38,8 @@ impl Topic {
             Topic::Canon => CANON,
             Topic::Check => CHECK,
             Topic::Run => RUN,
+            Topic::Pair => PAIR,
+            Topic::Filters => FILTERS,
             Topic::Show => SHOW,
             Topic::Rules => RULES,
             Topic::Decide => DECIDE,
@@ -43,6 +48,7 @@ impl Topic {
             Topic::Rehearse => REHEARSE,
             Topic::Help => HELP,
             Topic::Version => VERSION,
+            Topic::Graph => GRAPH,
             Topic::Explain => EXPLAIN,
         }
     }
@@ -60,6 +66,12 @@ pub(crate) fn topic_in(word: &str) -> Option<Topic>
     }
     if word == "run" {
         return Some(Topic::Run);
+    }
+    if word == "pair" {
+        return Some(Topic::Pair);
+    }
+    if word == "filters" {
+        return Some(Topic::Filters);
     }
     if word == "show" {
         return Some(Topic::Show);
@@ -84,6 +96,9 @@ pub(crate) fn topic_in(word: &str) -> Option<Topic>
     }
     if word == "version" {
         return Some(Topic::Version);
+    }
+    if word == "graph" {
+        return Some(Topic::Graph);
     }
     if word == "explain" {
         return Some(Topic::Explain);

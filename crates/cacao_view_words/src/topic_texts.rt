@@ -5,6 +5,8 @@ pub(crate) const ALL_WORDS: &[&str] = &[
     "cacao canon BOOK: says the canonical text of a playbook, as in: cacao canon a.json\n",
     "cacao check BOOK [LIBRARY..]: says whether playbooks are accepted, or which rule they break first, as in: cacao check a.json b.json\n",
     "cacao run --run N [--steps N] [--bind FILE] [--answers FILE] BOOK [LIBRARY..]: begins run N of a playbook or goes on with it, as in: cacao run --run 7 a.json\n",
+    "cacao pair --run N [--steps N] [--bind FILE] [--answers FILE] BOOK [LIBRARY..]: does what run does, with the filters in a process of their own, as in: cacao pair --run 7 a.json\n",
+    "cacao filters: is that process, which says its port and answers the commands that come, as in: cacao filters\n",
     "cacao show: says how the run in this folder stands, as in: cacao show\n",
     "cacao rules AGENT: says the rules that a filter holds, as in: cacao rules 1\n",
     "cacao decide AGENT PACKETS: says what a filter decides for packets, as in: cacao decide 1 p.txt\n",
@@ -13,6 +15,7 @@ pub(crate) const ALL_WORDS: &[&str] = &[
     "cacao rehearse N: makes a playbook of N positions and runs it in memory, as in: cacao rehearse 3\n",
     "cacao-view help [WORD]: says these lines, or what there is to know of one word, as in: cacao-view help run\n",
     "cacao-view version: says the version, and of which standards, as in: cacao-view version\n",
+    "cacao-view graph BOOK [LIBRARY..]: says playbooks as a picture in DOT, as in: cacao-view graph a.json\n",
     "cacao-view explain RULE: says a rule and how a break of it is usually mended, as in: cacao-view explain K22\n",
 ];
 
@@ -37,6 +40,20 @@ pub(crate) const RUN: &[&str] = &[
     "--bind FILE: which agent is which filter, 1 to 16, and texts of external variables. An agent that is not bound is filter 1. --answers FILE: lines RUN ISSUE STATUS TEXT of what operators answered.\n",
     "Status 0: ended ok. 6: ended failed. 7: paused, as many records as --steps allows. 14: waits for a moment. 15: too many messages changed nothing. 16: waits for an operator's answer.\n",
     "Status 1: a rule K1 to K25 or B1 to B3 is broken. 3, 4 and 5: a file could not be read, is not there, or has no reading. 8: the disk failed. 11: a limit would be passed. 12: the files are those of another run or of other playbooks. 13: a file is damaged.\n",
+    "Status 2: the words were not understood. 9: a line could not be written. 10: memory was wanted.\n",
+];
+
+pub(crate) const PAIR: &[&str] = &[
+    "cacao pair --run N [--steps N] [--bind FILE] [--answers FILE] BOOK [LIBRARY..]\n",
+    "Does what cacao run does, and says its lines, with the filters in a process of their own: it starts cacao filters in this folder, and commands and replies go between the two as lines over a socket of this machine. Where that breaks, the run goes on alone: commands without a reply expire.\n",
+    "The options are those of cacao run. Use a run's number once: what the filters did under it before is not seen.\n",
+    "The statuses are those of cacao run. 17: the other process could not be started, connected to or waited for.\n",
+];
+
+pub(crate) const FILTERS: &[&str] = &[
+    "cacao filters\n",
+    "Says port P, waits for one connection to that port of this machine, opens the files of all sixteen filters in this folder, and answers the commands that come, a line each, up to the end of input. cacao pair starts it, and it may be started by hand.\n",
+    "Status 0: the input ended. 8: the disk failed. 11: a line was too long, or a limit would be passed. 13: a file is damaged. 15: too many lines changed nothing. 17: it could not listen or accept, or the connection failed.\n",
     "Status 2: the words were not understood. 9: a line could not be written. 10: memory was wanted.\n",
 ];
 
@@ -92,6 +109,13 @@ pub(crate) const VERSION: &[&str] = &[
     "cacao-view version\n",
     "Says the version, and of which standards. --version is the same.\n",
     "Status 0: it was said. 2: there were more words. 9: a line could not be written. 10: memory was wanted.\n",
+];
+
+pub(crate) const GRAPH: &[&str] = &[
+    "cacao-view graph BOOK [LIBRARY..]\n",
+    "Says the playbooks, where they together break none of the rules K1 to K25, as a picture in DOT, the language of Graphviz: cacao-view graph a.json | dot -Tsvg -o a.svg. Each playbook and each region of a control step is a cluster, each step a node, each link an edge. At most 16 playbooks. It reads their files and no other.\n",
+    "Status 0: it was said. 1, 3, 4, 5 and 11: as for cacao check.\n",
+    "Status 2: the words were not understood. 9: a line could not be written. 10: memory was wanted.\n",
 ];
 
 pub(crate) const EXPLAIN: &[&str] = &[

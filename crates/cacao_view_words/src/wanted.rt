@@ -5,7 +5,7 @@ ghost use Rattle.cacao_view_words.specs.Wants.{wanted_line};
 
 /// What the line says where a word is wanted that begins the words.
 pub(crate) const WANTED_FIRST: &str =
-    "words not understood: help, version or explain is wanted first; cacao-view help says more\n";
+    "words not understood: help, version, graph or explain is wanted first; cacao-view help says more\n";
 
 /// And where one word of the programs, or no word more, is wanted behind `help`.
 pub(crate) const WANTED_TOPIC: &str =
@@ -13,6 +13,10 @@ pub(crate) const WANTED_TOPIC: &str =
 
 /// And where no word more is wanted.
 pub(crate) const WANTED_NO_MORE: &str = "words not understood: version takes no word more\n";
+
+/// And where names of playbooks alone may stand.
+pub(crate) const WANTED_GRAPH: &str =
+    "words not understood: graph takes the name of a playbook, and then those of others\n";
 
 /// And where a rule is wanted.
 pub(crate) const WANTED_RULE: &str =
@@ -27,6 +31,8 @@ pub enum Wanted {
     Topic,
     /// Behind `version`, nothing.
     NoMore,
+    /// Behind `graph`, the names of playbooks.
+    Graph,
     /// Behind `explain`, a rule.
     Rule,
 }
@@ -41,6 +47,7 @@ impl Wanted {
             Wanted::First => WANTED_FIRST,
             Wanted::Topic => WANTED_TOPIC,
             Wanted::NoMore => WANTED_NO_MORE,
+            Wanted::Graph => WANTED_GRAPH,
             Wanted::Rule => WANTED_RULE,
         }
     }

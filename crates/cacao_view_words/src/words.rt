@@ -1,21 +1,30 @@
 // What the words ask for.
-ghost use Rattle.std.specs.Prelude.{◌≡◌, map, string_bytes};
+ghost use Rattle.std.specs.Prelude.{◌≡◌, ◌∷◌, map, string_bytes};
+ghost use Rattle.std.specs.List.{list_all};
 ghost use Rattle.cacao_view_words.specs.Asked.{request_by};
-ghost use Rattle.cacao_view_words.specs.Requests.{explain_asks, first_asks, help_asks, request, version_asks};
+ghost use Rattle.cacao_view_words.specs.Requests.{explain_asks, first_asks, graph_asks, help_asks, is_name, request, version_asks};
 
 use crate::rule::{Rule, rule_in};
 use crate::topic::{Topic, topic_in};
 use crate::wanted::Wanted;
 
+/// The most bytes of the name of a file.
+const NAME_LIMIT: usize = 1024;
+
 /// What the words ask the program to do.
 #[derive(Clone, Copy)]
-pub enum Request {
+pub enum Request<'w> {
     /// To say the words of both programs.
     Help,
     /// To say what there is to know of this word.
     HelpWith(Topic),
     /// To say the version, and of which standards.
     Version,
+    /// To say the picture of the playbook in the file of this name, and of those that it may call.
+    Graph {
+        book: &'w str,
+        libraries: &'w [String],
+    },
     /// To say this rule, and how a break of it is usually mended.
     Explain(Rule),
     /// To say what was wanted, since the words have no reading.
@@ -23,8 +32,8 @@ pub enum Request {
 }
 
 /// What the words after the program's name ask for. It takes no memory.
-pub fn read_words(words: &[String]) -> Request
-    ensures { request_by result ≡ request (map string_bytes words.now) }
+pub fn read_words<'w>(words: &'w [String]) -> Request<'w>
+    ensures { request_by result ≡ request (map string_bytes words.entry.now) }
 {
     match words {
         [] => Request::Help,
@@ -33,8 +42,8 @@ pub fn read_words(words: &[String]) -> Request
 }
 
 /// What the names behind this first word ask for.
-fn first_asks(first: &str, names: &[String]) -> Request
-    ensures { request_by result ≡ first_asks first.now (map string_bytes names.now) }
+fn first_asks<'w>(first: &str, names: &'w [String]) -> Request<'w>
+    ensures { request_by result ≡ first_asks first.entry.now (map string_bytes names.entry.now) }
 {
     if first == "help" || first == "--help" || first == "-h" {
         return help_asks(names);
@@ -42,14 +51,17 @@ fn first_asks(first: &str, names: &[String]) -> Request
     if first == "version" || first == "--version" {
         return version_asks(names);
     }
+    if first == "graph" {
+        return graph_asks(names);
+    }
     if first == "explain" {
         return explain_asks(names);
     }
     Request::Lacks(Wanted::First)
 }
 
-fn help_asks(names: &[String]) -> Request
-    ensures { request_by result ≡ help_asks (map string_bytes names.now) }
+fn help_asks<'w>(names: &'w [String]) -> Request<'w>
+    ensures { request_by result ≡ help_asks (map string_bytes names.entry.now) }
 {
     match names {
         [] => Request::Help,
@@ -61,8 +73,8 @@ fn help_asks(names: &[String]) -> Request
     }
 }
 
-fn version_asks(names: &[String]) -> Request
-    ensures { request_by result ≡ version_asks (map string_bytes names.now) }
+fn version_asks<'w>(names: &'w [String]) -> Request<'w>
+    ensures { request_by result ≡ version_asks (map string_bytes names.entry.now) }
 {
     if names.is_empty() {
         Request::Version
@@ -71,8 +83,51 @@ fn version_asks(names: &[String]) -> Request
     }
 }
 
-fn explain_asks(names: &[String]) -> Request
-    ensures { request_by result ≡ explain_asks (map string_bytes names.now) }
+/// Whether this is the name of a file.
+fn is_name(word: &[u8]) -> bool
+    ensures { result ≡ is_name word.now }
+{
+    match word {
+        [first, ..] => word.len() <= NAME_LIMIT && *first != b'-',
+        [] => false,
+    }
+}
+
+fn graph_asks<'w>(names: &'w [String]) -> Request<'w>
+    ensures { request_by result ≡ graph_asks (map string_bytes names.entry.now) }
+{
+    match names {
+        [] => Request::Lacks(Wanted::Graph),
+        [book, libraries @ ..] => books_asked(book.as_str(), libraries),
+    }
+}
+
+/// The picture of the playbooks in the files of these names is asked for, if each is a name.
+fn books_asked<'w>(book: &'w str, libraries: &'w [String]) -> Request<'w>
+    ensures { request_by result ≡ graph_asks (book.entry.now ∷ map string_bytes libraries.entry.now) }
+{
+    if is_name(book.as_bytes()) && are_names(libraries) {
+        Request::Graph { book, libraries }
+    } else {
+        Request::Lacks(Wanted::Graph)
+    }
+}
+
+/// Whether each of these is the name of a file.
+fn are_names(names: &[String]) -> bool
+    ensures { result ≡ list_all is_name (map string_bytes names.now) }
+{
+    each_is_name(names)
+}
+
+fn each_is_name(names: &[String]) -> bool
+    ensures { result ≡ list_all (λ name. is_name (string_bytes name)) names.now }
+{
+    names.iter().all(|name| is_name(name.as_bytes()))
+}
+
+fn explain_asks<'w>(names: &'w [String]) -> Request<'w>
+    ensures { request_by result ≡ explain_asks (map string_bytes names.entry.now) }
 {
     match names {
         [name] => match rule_in(name.as_str()) {

@@ -1,90 +1,58 @@
-//! The program that only looks on a site in memory, played by rows: the words of a call with a space between each two, the number of the
-//! call of `say` that fails, if one does, and in the last field the status and the lines that are to come.
+//! The program that only looks on a site in memory, played by rows. Those of words have the words of a call with a space between each two,
+//! the number of the call of `say` that fails, if one does, and in the last field the status and the lines that are to come. Those of
+//! pictures have all playbooks on the shelf, and beside that number that of the read that fails.
 #![tactic(auto)]
 
-use cacao_site_memory::{CallList, MemoryShelf, MemorySite, SitePlan, WeatherList};
-use cacao_view::view;
-use std::alloc::{AllocError, Global};
+mod calls;
+
+use calls::answer;
 use std::io;
 use std::process::ExitCode;
 use std::rt::Files;
 use test_rows::{Row, Tally, read_file};
 
-/// The device calls that fail: the one of this number, or none.
-fn failing(alloc: Global, call: Option<i128>) -> Result<CallList, AllocError> {
-    let mut calls = Vec::new(alloc);
-    if let Some(call) = call {
-        if let Ok(call) = u32::try_from(call) {
-            calls.push(call)?;
-        }
-    }
-    Ok(CallList::from_vec(calls))
+/// Plays a row of words, and compares what came of it.
+fn play_word(rt: &(impl Print + AllocGlobal), tally: &mut Tally, row: &Row) -> io::Result<()> {
+    let came = answer(rt.alloc(), row.text(0), &[], None, row.whole(1))?;
+    tally.compare(rt, row, came.as_slice())
 }
 
-/// A site in memory on which this call fails.
-fn site(alloc: Global, failing: CallList) -> Result<MemorySite, AllocError> {
-    let plan = SitePlan {
-        room: 4096,
-        calls: 64,
-        start: 0,
-        stop_clock: u64::MAX,
-        failing,
-        weather: WeatherList::from_vec(Vec::new(alloc)),
-    };
-    MemorySite::new(alloc, plan)
-}
-
-/// The words of a line; an empty line has none.
-fn words(alloc: Global, line: &str) -> Result<Vec<String>, AllocError> {
-    let mut words = Vec::new(alloc);
-    if line.is_empty() {
-        return Ok(words);
-    }
-    for word in line.split(' ') {
-        words.push(String::from_str(alloc, word)?)?;
-    }
-    Ok(words)
-}
-
-/// The bytes of a line said; none where there is no line of that number.
-fn line_said(site: &MemorySite, n: usize) -> &[u8] {
-    if n >= site.line_count() {
-        return b"";
-    }
-    site.line(n)
-}
-
-/// The status of a call with these words, and behind it the lines that it said.
-fn answer(alloc: Global, line: &str, call: Option<i128>) -> Result<Vec<u8>, AllocError> {
-    let words = words(alloc, line)?;
-    let mut shelf = MemoryShelf::new(alloc);
-    let mut site = site(alloc, failing(alloc, call)?)?;
-    let status = view(alloc, words.as_slice(), &mut shelf, &mut site);
-    let mut came = format!(in alloc; "{status}: ")?.into_bytes();
-    for n in 0..site.line_count() {
-        came.extend_from_slice(line_said(&site, n))?;
-    }
-    Ok(came)
-}
-
-/// Plays a file of rows; true where all rows agreed.
-fn play_file(rt: &(impl Print + Files + AllocGlobal), name: &str) -> io::Result<bool> {
-    let rows = read_file(rt, name)?;
-    let mut tally = Tally::new(rt.alloc(), name)?;
+/// Plays the rows of words; true where all agreed.
+fn play_words(rt: &(impl Print + Files + AllocGlobal)) -> io::Result<bool> {
+    let rows = read_file(rt, "words.txt")?;
+    let mut tally = Tally::new(rt.alloc(), "words.txt")?;
     for row in &rows {
-        play(rt, &mut tally, row)?;
+        play_word(rt, &mut tally, row)?;
     }
     tally.end(rt)
 }
 
-/// Plays a row, and compares what came of it.
-fn play(rt: &(impl Print + AllocGlobal), tally: &mut Tally, row: &Row) -> io::Result<()> {
-    let came = answer(rt.alloc(), row.text(0), row.whole(1))?;
+/// Plays a row of pictures over these playbooks, and compares what came of it.
+fn play_graph(
+    rt: &(impl Print + AllocGlobal),
+    books: &[Row],
+    tally: &mut Tally,
+    row: &Row,
+) -> io::Result<()> {
+    let came = answer(rt.alloc(), row.text(0), books, row.whole(1), row.whole(2))?;
     tally.compare(rt, row, came.as_slice())
 }
 
+/// Plays the rows of pictures; true where all agreed.
+fn play_graphs(rt: &(impl Print + Files + AllocGlobal)) -> io::Result<bool> {
+    let books = read_file(rt, "books.txt")?;
+    let rows = read_file(rt, "graphs.txt")?;
+    let mut tally = Tally::new(rt.alloc(), "graphs.txt")?;
+    for row in &rows {
+        play_graph(rt, books.as_slice(), &mut tally, row)?;
+    }
+    tally.end(rt)
+}
+
 fn main(rt: HostRuntime) -> io::Result<ExitCode> {
-    if play_file(&rt, "words.txt")? {
+    let words = play_words(&rt)?;
+    let graphs = play_graphs(&rt)?;
+    if words && graphs {
         Ok(ExitCode::SUCCESS)
     } else {
         Ok(ExitCode::FAILURE)

@@ -1,0 +1,8 @@
+use Rattle.std.proofs.Common.{map, take}
+use Rattle.cacao_json.specs.Tree.{data_of}
+use Rattle.cacao_view_graph.specs.Pictures.{AreDrawn}
+use Rattle.cacao_view_graph.specs.Placing.{drawn_book}
+use Rattle.cacao_view_graph.proofs.placing.placed_books.Given as goal
+
+abbrev pub invariant-loop-n : goal.invariant-loop-n
+invariant-loop-n l = AreDrawn (map data_of (take l.n l.trees)) (map drawn_book l.placed.items)

@@ -1,0 +1,10 @@
+pub mod Quoting
+pub mod Labels
+pub mod Statements
+pub mod Homes
+pub mod Drawings
+pub mod Pictures
+pub mod Finding
+pub mod Places
+pub mod Placing
+pub mod Laws

@@ -1,0 +1,98 @@
+// Texts, added to what is written, as they are or quoted.
+ghost use Rattle.std.specs.Prelude.{◌≡◌, ◌<◌, ◌∷◌, ◌++◌, [], OnOk, decimal, flat_map};
+ghost use Rattle.cacao_view_graph.specs.Quoting.{is_control, quoted, quoted_byte, shown_byte, symbol};
+
+use itoa::Buffer;
+use std::alloc::AllocError;
+
+/// Adds a text.
+pub(crate) fn add(out: &mut Vec<u8>, text: &[u8]) -> Result<(), AllocError>
+    ensures { OnOk result (out.new.items ≡ out.old.items ++ text.now) }
+{
+    out.extend_from_slice(text)?;
+    Ok(())
+}
+
+/// Adds a number in decimal.
+pub(crate) fn add_number(out: &mut Vec<u8>, number: u32) -> Result<(), AllocError>
+    ensures { OnOk result (out.new.items ≡ out.old.items ++ decimal number) }
+{
+    let mut buffer = Buffer::new();
+    add(out, buffer.format(number).as_bytes())
+}
+
+/// Whether a byte is a control character but the line feed.
+fn is_control(byte: u8) -> bool
+    ensures { result ≡ is_control byte }
+{
+    (byte < 32 && byte != b'\n') || byte == 127
+}
+
+/// The last byte of the symbol of a control character.
+fn symbol_end(byte: u8) -> u8
+    requires { byte < 128 }
+    ensures { 226 ∷ 144 ∷ result ∷ [] ≡ symbol byte }
+{
+    if byte == 127 { 161 } else { 128 + byte }
+}
+
+/// Adds the symbol of a control character.
+fn add_symbol(out: &mut Vec<u8>, byte: u8) -> Result<(), AllocError>
+    requires { byte < 128 }
+    ensures { OnOk result (out.new.items ≡ out.old.items ++ symbol byte) }
+{
+    let end = symbol_end(byte);
+    out.push(226)?;
+    out.push(144)?;
+    out.push(end)?;
+    Ok(())
+}
+
+/// Adds what is shown of a byte.
+fn add_shown(out: &mut Vec<u8>, byte: u8) -> Result<(), AllocError>
+    ensures { OnOk result (out.new.items ≡ out.old.items ++ shown_byte byte) }
+{
+    if is_control(byte) {
+        return add_symbol(out, byte);
+    }
+    out.push(byte)?;
+    Ok(())
+}
+
+/// Adds what stands in a quoted label for a byte.
+fn add_byte(out: &mut Vec<u8>, byte: u8) -> Result<(), AllocError>
+    ensures { OnOk result (out.new.items ≡ out.old.items ++ quoted_byte byte) }
+{
+    if byte == b'\n' {
+        return add(out, b"\\n");
+    }
+    if byte == b'"' {
+        return add(out, b"\\\"");
+    }
+    if byte == b'&' {
+        return add(out, b"&amp;");
+    }
+    if byte == b'\\' {
+        return add(out, b"\\\\");
+    }
+    add_shown(out, byte)
+}
+
+/// Adds what stands in a quoted label for each byte of a text.
+fn add_bytes(out: &mut Vec<u8>, text: &[u8]) -> Result<(), AllocError>
+    ensures { OnOk result (out.new.items ≡ out.old.items ++ flat_map quoted_byte text.now) }
+{
+    for byte in text {
+        add_byte(out, *byte)?;
+    }
+    Ok(())
+}
+
+/// Adds a text, quoted.
+pub(crate) fn add_quoted(out: &mut Vec<u8>, text: &[u8]) -> Result<(), AllocError>
+    ensures { OnOk result (out.new.items ≡ out.old.items ++ quoted text.now) }
+{
+    add(out, b"\"")?;
+    add_bytes(out, text)?;
+    add(out, b"\"")
+}
