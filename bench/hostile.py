@@ -1,7 +1,7 @@
 #!/usr/bin/env python3
 """Plays the built program as a hostile world would, on real files in temporary folders, and prints what was tried and what was found.
 
-usage: hostile.py [PROGRAM] [--rounds N] [--jobs N] [--seed N] [--only kill|stop|lies|memory|fault|disk|depth|rows|hands].. [--examples FOLDER]
+usage: hostile.py [PROGRAM] [--rounds N] [--jobs N] [--seed N] [--only kill|stop|lies|memory|fault|disk|depth|rows|hands|pair].. [--examples FOLDER]
   kill    `run` is killed at random moments, and played again until it ends
   stop    `run` is stopped before each of its calls to the outside, also with torn writes
   lies    the same on a disk that syncs nothing: there something has to be found, or the comparison sees nothing
@@ -11,6 +11,7 @@ usage: hostile.py [PROGRAM] [--rounds N] [--jobs N] [--seed N] [--only kill|stop
   depth   the longest chains and the deepest nests that the limits allow, on a stack of 8 MiB
   rows    bad input: cut files, broken bytes, texts at the edge of a limit
   hands   several programs in one folder at one time, as often as there are rounds
+  pair    two processes over a socket: killed, refused, failed on either side; hostile clients and servers; others beside them
 PROGRAM is the one that `./prove` leaves, if none is named. It ends with status 1 where anything was found. docs/HOSTILE.md says what is compared.
 """
 import argparse
@@ -22,7 +23,7 @@ import subprocess
 import sys
 import tempfile
 
-from hostile_parts import books, depth, disk, hands, play, rows, stops
+from hostile_parts import books, depth, disk, hands, peers, play, rows, stops
 
 HERE = os.path.dirname(os.path.realpath(__file__))
 TOP = os.path.dirname(HERE)
@@ -36,6 +37,7 @@ PARTS = {
     "depth": depth.depth,
     "rows": rows.rows,
     "hands": hands.hands,
+    "pair": peers.pair,
 }
 
 

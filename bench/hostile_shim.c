@@ -9,18 +9,25 @@
 //   HOSTILE_TEAR=SEED      and what it wrote since the last sync of a file is left as a lost page leaves it: kept, lost, cut or noise
 //   HOSTILE_LIES=1         a sync does nothing, so that a tear takes all that was ever written
 //   HOSTILE_TELL=FILE      at the end the numbers of requests and of calls are written to FILE
+//   HOSTILE_ONLY=WORD      all this in a process whose first word is WORD, and not in those that it starts or that started it
 //
-// Calls to the outside are open, read, write, lseek, fsync, fdatasync, ftruncate, statx and close, counted together from 1.
+// Calls to the outside are open, read, write, lseek, fsync, fdatasync, ftruncate, statx and close; those of a socket: socket, bind, listen,
+// accept, getsockname, connect, send and recv; and those of a process: pipe, posix_spawn, kill, waitid and waitpid. They are counted together
+// from 1.
 #define _GNU_SOURCE
 #include <dlfcn.h>
 #include <errno.h>
 #include <fcntl.h>
 #include <signal.h>
+#include <spawn.h>
 #include <stdarg.h>
 #include <stdio.h>
 #include <stdlib.h>
 #include <string.h>
+#include <sys/socket.h>
 #include <sys/stat.h>
+#include <sys/syscall.h>
+#include <sys/wait.h>
 #include <unistd.h>
 
 #define FILES 256
@@ -36,7 +43,7 @@ static struct {
 
 static char writable[FILES];
 static long requests, calls, refuse, refuse_from, failing, failing_from, shortened, stopping, seed, lies;
-static int is_set, error_number;
+static int is_set, is_asleep, error_number;
 
 // The function of the C library, looked up once.
 #define REAL(name) \
@@ -51,10 +58,23 @@ static long number(const char *name) {
     return text ? atol(text) : 0;
 }
 
+// Whether the first word of this process is another than the one that is asked for.
+static int is_other(const char *word) {
+    char words[4096] = {0};
+    long file = syscall(SYS_openat, AT_FDCWD, "/proc/self/cmdline", O_RDONLY | O_CLOEXEC);
+    long count = syscall(SYS_read, file, words, sizeof words - 1);
+    syscall(SYS_close, file);
+    size_t first = strlen(words) + 1;
+    return count <= (long)first || strcmp(words + first, word);
+}
+
 static void set_up(void) {
     if (is_set)
         return;
     is_set = 1;
+    is_asleep = getenv("HOSTILE_ONLY") && is_other(getenv("HOSTILE_ONLY"));
+    if (is_asleep)
+        return;
     refuse = number("HOSTILE_REFUSE");
     refuse_from = number("HOSTILE_REFUSE_FROM");
     failing = number("HOSTILE_FAIL");
@@ -69,6 +89,8 @@ static void set_up(void) {
 // Counts a request for memory; answers whether it gets none, and sets the error.
 static int is_refused(void) {
     set_up();
+    if (is_asleep)
+        return 0;
     ++requests;
     if (requests != refuse && !(refuse_from && requests >= refuse_from))
         return 0;
@@ -101,12 +123,14 @@ static void stop(void) {
     for (int file = 0; seed && file < FILES; file++)
         if (unsynced[file].held)
             tear(file);
-    kill(getpid(), SIGKILL);
+    REAL(kill)(getpid(), SIGKILL);
 }
 
 // Counts a call; answers whether it is to fail.
 static int fails(void) {
     set_up();
+    if (is_asleep)
+        return 0;
     ++calls;
     if (calls == stopping)
         stop();
@@ -219,10 +243,41 @@ int close(int file) {
     return -1;
 }
 
+int socket(int family, int kind, int protocol) { return fails() ? -1 : REAL(socket)(family, kind, protocol); }
+
+int bind(int file, const struct sockaddr *at, socklen_t size) { return fails() ? -1 : REAL(bind)(file, at, size); }
+
+int listen(int file, int most) { return fails() ? -1 : REAL(listen)(file, most); }
+
+int accept4(int file, struct sockaddr *from, socklen_t *size, int flags) { return fails() ? -1 : REAL(accept4)(file, from, size, flags); }
+
+int accept(int file, struct sockaddr *from, socklen_t *size) { return fails() ? -1 : REAL(accept)(file, from, size); }
+
+int getsockname(int file, struct sockaddr *at, socklen_t *size) { return fails() ? -1 : REAL(getsockname)(file, at, size); }
+
+int connect(int file, const struct sockaddr *to, socklen_t size) { return fails() ? -1 : REAL(connect)(file, to, size); }
+
+ssize_t send(int file, const void *bytes, size_t count, int flags) { return fails() ? -1 : REAL(send)(file, bytes, moved(count), flags); }
+
+ssize_t recv(int file, void *into, size_t count, int flags) { return fails() ? -1 : REAL(recv)(file, into, moved(count), flags); }
+
+int pipe2(int files[2], int flags) { return fails() ? -1 : REAL(pipe2)(files, flags); }
+
+int posix_spawn(pid_t *pid, const char *name, const posix_spawn_file_actions_t *actions, const posix_spawnattr_t *how, char *const words[], char *const set[]) {
+    return fails() ? errno : REAL(posix_spawn)(pid, name, actions, how, words, set);
+}
+
+int kill(pid_t pid, int number) { return fails() ? -1 : REAL(kill)(pid, number); }
+
+int waitid(idtype_t kind, id_t number, siginfo_t *told, int options) { return fails() ? -1 : REAL(waitid)(kind, number, told, options); }
+
+pid_t waitpid(pid_t pid, int *status, int options) { return fails() ? -1 : REAL(waitpid)(pid, status, options); }
+
 __attribute__((destructor)) static void tell(void) {
     const char *name = getenv("HOSTILE_TELL");
     char text[64];
-    if (!name)
+    set_up();
+    if (!name || is_asleep)
         return;
     int file = REAL(open)(name, O_WRONLY | O_CREAT | O_TRUNC, 0666);
     REAL(write)(file, text, (size_t)snprintf(text, sizeof text, "%ld %ld\n", requests, calls));

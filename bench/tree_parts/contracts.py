@@ -2,7 +2,7 @@
 
 A row of a table with the heads `Promise` and `Contract` names functions, and behind a colon their clauses. Groups of these stand between semicolons, and
 what stands in brackets tells more and is not looked at. A plain name behind `Type::name` or `crate::name` is one of the same type or crate.
-Where a clause is a record of the crate's own `specs/`, each field of it counts as a clause.
+Where a clause is a record of the crate's own `specs/`, or one behind a condition on the words, each field of it counts as a clause.
 """
 import collections
 import re
@@ -14,6 +14,8 @@ OWNER = re.compile(r"(?:impl(?:<.*?>)? (?:[\w:]+(?:<.*>)? for )?|(?:pub )?trait 
 CLAUSE = re.compile(r"\s*ensures(?: (\w+))? \{ ?(\w*)")
 RECORD = re.compile(r"(?:pub )?record (\w+)")
 FIELD = re.compile(r"  (?:pub )?(\w+) :")
+# What a clause begins with that speaks of some words alone; what it then says stands behind it, on its line or the next.
+CONDITIONS = ("IfAlone", "InOneProcess")
 HEAD = re.compile(r"\|(?: \d* ?\|)? Promise \| Contract")
 
 
@@ -43,14 +45,17 @@ def clauses_of(root):
     found, records = collections.defaultdict(set), records_of(root)
     for path in sources(root):
         crate, owner, names = crate_of(root, path), None, []
-        for line in text_of(path).split("\n") if path.suffix == ".rt" else ():
+        lines = text_of(path).split("\n") if path.suffix == ".rt" else []
+        for line, following in zip(lines, [*lines[1:], ""]):
             if here := OWNER.match(line):
                 owner = here[1]
             elif function := FUNCTION.match(line):
                 names = names_of(crate, owner if function[1] else None, function[2])
                 [found[name] for name in names]
             elif clause := CLAUSE.match(line):
-                [found[name].update({clause[1]}, records[crate, clause[2]]) for name in names]
+                said = re.findall(r"\w+", line + following) if clause[2] in CONDITIONS else [clause[2]]
+                fields = set().union(*(records[crate, word] for word in said))
+                [found[name].update({clause[1]}, fields) for name in names]
     return found
 
 
