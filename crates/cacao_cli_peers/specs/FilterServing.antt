@@ -1,14 +1,18 @@
 -- Promise: The filters of a run that stand in this process, for an engine in another.
-use Rattle.std.specs.Prelude.{◌≡◌, ◌≢◌, ◌⊎◌, ℕ, ◌≤◌, ◌++◌, Bool, true, false, codes, decimal, IsTrue, Result, Ok, Err}
+use Rattle.std.specs.Prelude.{◌≡◌, ◌≢◌, ◌⊎◌, ℕ, ◌≤◌, ◌++◌, Bool, true, false, List, codes, decimal, IsTrue, Result, Ok, Err}
 use Rattle.cacao_site.specs.Counts.{Rose}
+use Rattle.cacao_site.specs.LinkCalls.{GainsAll}
+use Rattle.cacao_site.specs.declared.parcel.Parcel.{Parcel}
 use Rattle.cacao_site.specs.View.{SiteView}
-use Rattle.oc2_wire.specs.Answering.{Served}
+use Rattle.oc2_wire.specs.Answering.{Served, TellsLink}
+use Rattle.oc2_wire.specs.Reading.{FiltersKeepByLines}
 use Rattle.oc2_wire.specs.declared.error.WireError.{WireError}
 use Rattle.oc2_wire.specs.declared.error.WireError.TheVariants as error
 use Rattle.oc2_wire_laws.specs.Ends.{IsFiltersStart}
 use Rattle.oc2_wire_laws.specs.Since.{FiltersKeepSince}
 use Rattle.oc2_wire_link.specs.Peering.{IsAsTold, PeersView, accepted, bound}
 use Rattle.oc2_wire_site.specs.LineLinks.{IsLineLink}
+use Rattle.oc2_wire_site.specs.ReadLines.{KeepsLinesSince}
 use Rattle.oc2_wire_site.specs.Wires.{WireView}
 use Rattle.cacao_cli_words.specs.Words.{Text}
 use Rattle.cacao_cli_ends.specs.Ends.{End, done, no_memory, peers_failed, unsaid}
@@ -34,6 +38,10 @@ pub record ServesLink (before after : PeersView) (old new : SiteView) (last : En
   pub served : Served how first wire
   pub kept : IsTrue first.site.disk.told → IsFiltersStart first.site → FiltersKeepSince first.site wire.site
   pub lines : IsLineLink wire.lines
+  pub link : how ≢ Err error.Flooded → TellsLink how wire
+  pub read : (taken puts : List (ℕ × Parcel)) → GainsAll first.site.link.taken taken wire.site.link.taken
+      → GainsAll first.site.link.puts puts wire.site.link.puts → KeepsLinesSince first wire taken puts
+  pub by_lines : IsTrue first.site.disk.told → IsFiltersStart first.site → ∥ FiltersKeepByLines first wire ∥₁
   pub failed : how ≡ Err error.Disk → Rose first.site.disk.faults wire.site.disk.faults
   pub steady : how ≢ Err error.Disk → wire.site.disk.faults ≡ first.site.disk.faults
   pub fails : Bool

@@ -17,7 +17,7 @@ use Rattle.oc2_wire.specs.FilterTurns.{AnsweredAs, Asks, Handed, HandsOn, IsLate
 use Rattle.oc2_wire.proofs.LentWires.{kept_reads_none}
 
 abbrev pub asks_now : (old new : WireView) (now : ℕ) → IsSound old.site → Reaches 0 now old.site new.site → KeepsWire old new → Asks old new
-asks_now old new now sound reaches keeps = record { sound = sound; now = now; reaches = reaches; reads_none = kept_reads_none old new keeps }
+asks_now old new now sound reaches keeps = record { sound = sound; lines = keeps.lines; now = now; reaches = reaches; reads_none = kept_reads_none old new keeps }
 
 pub ready_now : (old new : WireView) (now : ℕ) (fs : List ActuatorView) → Reaches 0 now old.site new.site → FiltersReady fs old.site → FiltersReady fs new.site
 ready_now old new now fs reaches ready = filters_stay fs old.site new.site reaches.disk.disk ready

@@ -1,12 +1,16 @@
 -- A wire that was lent to a call that knows of no wire, and came back.
-use Rattle.std.proofs.Common.{◌≡◌, ◌≢◌, ◌⊎◌, inl, inr, ℕ, zero, suc, ◌+◌, ◌/◌, Bool, true, false, List, ◌∷◌, length, refl, sym, ◌∙◌, subst, ap, arith}
-use Rattle.std.specs.Prelude.{IfErr, IfOk, OnOk, Result, Ok, Err}
-use Rattle.cacao_site.specs.DiskCalls.{CallsOn}
+use Rattle.std.proofs.Common.{◌≡◌, ◌≢◌, ◌⊎◌, inl, inr, ℕ, zero, suc, ◌+◌, ◌/◌, ◌<◌, ◌≤◌, Bool, true, false, List, [], ◌∷◌, ◌++◌, length, refl, sym, ◌∙◌, subst, ap, arith, length-append}
+use Rattle.std.specs.Prelude.{IfErr, IfOk, IsSome, OnErr, OnOk, Option, Some, None, Result, Ok, Err}
+use Rattle.std.proofs.lemmas.Bool.{false≢true}
+use Rattle.cacao_site.specs.Counts.{DidNotRise, last_count, next_count}
+use Rattle.cacao_site.specs.DiskCalls.{CallsOn, SameRest}
+use Rattle.cacao_site.specs.LinkCalls.{Gains}
 use Rattle.cacao_site.specs.SayCalls.{SaysOnly}
 use Rattle.cacao_site.specs.SiteCalls.{Puts, Reaches}
-use Rattle.cacao_site.specs.View.{DiskView, SiteView}
+use Rattle.cacao_site.specs.View.{CountsView, DiskView, LinkView, SiteView}
 use Rattle.cacao_site.specs.declared.parcel.Parcel.{Parcel}
 use Rattle.flow_laws.proofs.Basics.{same_or_not}
+use Rattle.slpf_actuator.specs.ActuatorCalls.{MayHaveDone}
 use Rattle.slpf_actuator.specs.ActuatorView.{ActuatorView}
 use Rattle.slpf_actuator.specs.declared.error.ActError.{ActError}
 use Rattle.slpf_actuator.specs.declared.error.ActError.TheVariants as act_error
@@ -18,12 +22,13 @@ use Rattle.flow_world_parts.specs.declared.error.WorldError.TheVariants as world
 use Rattle.oc2_wire_lines.specs.Lines.{IsCarried}
 use Rattle.oc2_wire_site.specs.WireCalls.{KeepsWire, PutsLine}
 use Rattle.oc2_wire_site.specs.LineLinks.{LinesView}
+use Rattle.oc2_wire_site.specs.ReadLines.{count_told}
 use Rattle.oc2_wire_site.specs.Wires.{WireView}
 use Rattle.oc2_wire_site.specs.declared.link_state.LinkState.{LinkState}
 use Rattle.oc2_wire_site.specs.declared.link_state.LinkState.TheVariants as state
 use Rattle.oc2_wire.specs.Answering.{ReadsNoLine, found_by}
 use Rattle.oc2_wire.specs.FilterTurns.{Handed, Opened, OpenedAs}
-use Rattle.oc2_wire.specs.ReplyWires.{bit, lent_wire, marks, relabel}
+use Rattle.oc2_wire.specs.ReplyWires.{KeepsLink, StaysWhole, bit, lent_wire, marks, relabel}
 use Rattle.oc2_wire.proofs.Relabel.{acts_as, calls_as, on_as, only_as, puts_as, reaches_as, ready_as, refuses_as, repeats_as, rest_as, says_as, stays_as}
 
 -- ---- calls that read no line
@@ -80,34 +85,127 @@ module _ (parcel : Parcel) (old new : WireView) (puts : PutsLine parcel old new)
   pub put_reads_none : ReadsNoLine old new
   put_reads_none = record { asking = puts.asking; passed = passed_stays; found_as = found_stays }
 
+-- ---- a link that stays as it was, but for what is put
+
+-- nothing was put or lost
+pub keeps_on : (lent old new : WireView) → KeepsLink lent old → new.lines ≡ old.lines → new.site.link.puts ≡ old.site.link.puts → new.site.counts.mishaps ≡ old.site.counts.mishaps → KeepsLink lent new
+keeps_on lent old new keeps lines puts mishaps =
+    let state : new.lines.state ≡ old.lines.state = ap (λ (l : LinesView). l.state) lines in
+    record {
+      put = subst (λ (o : Option (List (ℕ × Parcel))). count_told lent.site.link.puts ≤ count_told o) (sym puts) keeps.put;
+      later = omega (arith, keeps.later, mishaps);
+      failed = λ e. subst (λ (o : Option (List (ℕ × Parcel))). count_told lent.site.link.puts < count_told o) (sym puts) (keeps.failed (sym state ∙ e));
+      lost = λ broken calm. keeps.lost (λ whole. broken (state ∙ whole)) (subst (λ (n : ℕ). DidNotRise lent.site.counts.mishaps n) mishaps calm);
+    }
+
+-- by a call of the disk
+pub keeps_call : (lent old new : WireView) → KeepsLink lent old → KeepsWire old new → SameRest old.site new.site → KeepsLink lent new
+keeps_call lent old new keeps wire rest =
+    keeps_on lent old new keeps wire.lines (ap (λ (l : LinkView). l.puts) rest.link) (ap (λ (c : CountsView). c.mishaps) rest.counts)
+
+gains_count : (old new : Option (List (ℕ × Parcel))) (e : ℕ × Parcel) → IsSome old → Gains old e new → count_told old < count_told new
+gains_count (Some old) (Some new) e some gains =
+    let same : length new ≡ length (old ++ e ∷ []) = ap (λ (l : List (ℕ × Parcel)). length l) gains in
+    omega (arith, same, length-append old (e ∷ []))
+gains_count (Some old) None e some gains = absurd gains
+gains_count None new e some gains = absurd (false≢true some)
+
+-- a count that took one more rose, unless it stands at its end
+rises : (first was is : ℕ) → first ≤ was → is ≡ next_count was → DidNotRise first is → ⊥
+rises first was is le counted calm = omega (arith, le, counted, calm.0, calm.1)
+
+-- by a put
+module _ (lent old new : WireView) (parcel : Parcel) (line : PutsLine parcel old new) (puts : Puts parcel old.site new.site) (told : IsSome old.site.link.puts) (keeps : KeepsLink lent old) where
+  more_put : count_told old.site.link.puts ≤ count_told new.site.link.puts
+  more_put = elim puts.puts [
+    | inl gained ↦ let more = gains_count old.site.link.puts new.site.link.puts (new.site.disk.beat, parcel) told gained in omega (arith, more)
+    | inr gone ↦ let same : count_told new.site.link.puts ≡ count_told old.site.link.puts = ap (λ (o : Option (List (ℕ × Parcel))). count_told o) gone.0 in omega (arith, same)
+  ]
+
+  put_still : count_told lent.site.link.puts ≤ count_told new.site.link.puts
+  put_still = omega (arith, keeps.put, more_put)
+
+  later_still : lent.site.counts.mishaps ≤ new.site.counts.mishaps
+  later_still = let more = puts.mishaps in omega (arith, keeps.later, more)
+
+  by_loss : new.site.counts.mishaps ≡ next_count old.site.counts.mishaps → DidNotRise lent.site.counts.mishaps new.site.counts.mishaps → ⊥
+  by_loss counted calm = rises lent.site.counts.mishaps old.site.counts.mishaps new.site.counts.mishaps keeps.later counted calm
+
+  pub keeps_put : KeepsLink lent new
+  keeps_put = elim (whole_or_not new.lines.state) [
+    | inl still ↦ record { put = put_still; later = later_still; failed = λ e. let f : state.Whole ≡ state.Failed = sym still ∙ e in absurd (cc); lost = λ broken calm. broken still }
+    | inr broke ↦ elim (whole_or_not old.lines.state) [
+      | inr broken ↦
+          let lost = line.broken broken in
+          record {
+            put = put_still;
+            later = later_still;
+            failed = λ e. let was = keeps.failed (sym (ap (λ (l : LinesView). l.state) lost.lines) ∙ e) in let more = more_put in omega (arith, was, more);
+            lost = λ ne calm. by_loss lost.counted calm;
+          }
+      | inl whole ↦ elim (line.breaks whole broke) [
+        | inl fails ↦ record {
+          put = put_still;
+          later = later_still;
+          failed = λ e. let more = gains_count old.site.link.puts new.site.link.puts (new.site.disk.beat, parcel) told fails.puts in omega (arith, keeps.put, more);
+          lost = λ ne calm. by_loss fails.counted calm;
+        }
+        | inr unkept ↦ record {
+          put = put_still;
+          later = later_still;
+          failed = λ e. let f : state.NoMemory ≡ state.Failed = sym (ap (λ (l : LinesView). l.state) unkept.lines) ∙ e in absurd (cc);
+          lost = λ ne calm. by_loss unkept.counted calm;
+        }
+      ]
+    ]
+  ]
+
+-- so it is where none was put or lost
+stays_whole : (lent now : WireView) (before : SiteView) → KeepsLink lent now → count_told lent.site.link.puts ≡ count_told before.link.puts → lent.site.counts.mishaps ≡ before.counts.mishaps
+    → now.site.link ≡ before.link → now.site.counts ≡ before.counts → StaysWhole now
+stays_whole lent now before keeps was lost link counts =
+    let count : count_told now.site.link.puts ≡ count_told before.link.puts = ap (λ (l : LinkView). count_told l.puts) link in
+    let same : now.site.counts.mishaps ≡ lent.site.counts.mishaps = ap (λ (c : CountsView). c.mishaps) counts ∙ sym lost in
+    record {
+      not_failed = λ e. let more = keeps.failed e in omega (arith, more, count, was);
+      whole = λ can. elim (whole_or_not now.lines.state) [
+        | inl whole ↦ whole
+        | inr broken ↦ absurd (keeps.lost broken (same, subst (λ (n : ℕ). n < last_count) same can))
+      ];
+    }
+
 -- ---- the trait's clauses on what is lent
 
 same_list : (a b c d m n : ℕ) (k l : List ℕ) → b ≡ a → d ≡ c → n ≡ m → l ≡ k → b ∷ d ∷ n ∷ l ≡ a ∷ c ∷ m ∷ k
 same_list a b c d m n k l one two three four = cc
 
-same_marks : (name : ℕ) (old new : WireView) → ReadsNoLine old new → new.site.disk.label ≡ old.site.disk.label → name ∷ marks new ≡ name ∷ marks old
-same_marks name old new reads label =
-    ap (λ (l : List ℕ). name ∷ l) (same_list (bit old.asking) (bit new.asking) old.lines.passed new.lines.passed (found_by old.lines.state) (found_by new.lines.state)
+-- the label of a wire that is lent
+abbrev label_of : ℕ → WireView → WireView → List ℕ
+label_of name lent wire = (lent_wire name lent wire).disk.label
+
+same_marks : (name : ℕ) (lent old new : WireView) → ReadsNoLine old new → new.site.disk.label ≡ old.site.disk.label → label_of name lent new ≡ label_of name lent old
+same_marks name lent old new reads label =
+    ap (λ (l : List ℕ). name ∷ count_told lent.site.link.puts ∷ lent.site.counts.mishaps ∷ l) (same_list (bit old.asking) (bit new.asking) old.lines.passed new.lines.passed (found_by old.lines.state) (found_by new.lines.state)
     old.site.disk.label new.site.disk.label (ap bit reads.asking) reads.passed reads.found_as label)
 
-module _ (name : ℕ) (old new : WireView) where
-  pub calls_lent : (file bytes : ℕ) → KeepsWire old new → CallsOn file bytes old.site.disk new.site.disk → CallsOn file bytes (lent_wire name old).disk (lent_wire name new).disk
+module _ (name : ℕ) (lent old new : WireView) where
+  pub calls_lent : (file bytes : ℕ) → KeepsWire old new → CallsOn file bytes old.site.disk new.site.disk → CallsOn file bytes (lent_wire name lent old).disk (lent_wire name lent new).disk
   calls_lent file bytes keeps call =
-      calls_as (name ∷ marks old) (name ∷ marks new) old.site.disk new.site.disk file bytes (same_marks name old new (kept_reads_none old new keeps) call.goes_on.label) call
+      calls_as (label_of name lent old) (label_of name lent new) old.site.disk new.site.disk file bytes (same_marks name lent old new (kept_reads_none old new keeps) call.goes_on.label) call
 
-  pub says_lent : KeepsWire old new → SaysOnly old.site new.site → SaysOnly (lent_wire name old) (lent_wire name new)
+  pub says_lent : KeepsWire old new → SaysOnly old.site new.site → SaysOnly (lent_wire name lent old) (lent_wire name lent new)
   says_lent keeps says =
-      says_as (name ∷ marks old) (name ∷ marks new) old.site new.site (same_marks name old new (kept_reads_none old new keeps) says.disk.goes_on.label) says
+      says_as (label_of name lent old) (label_of name lent new) old.site new.site (same_marks name lent old new (kept_reads_none old new keeps) says.disk.goes_on.label) says
 
-  pub reaches_lent : (moment answer : ℕ) → KeepsWire old new → Reaches moment answer old.site new.site → Reaches moment answer (lent_wire name old) (lent_wire name new)
+  pub reaches_lent : (moment answer : ℕ) → KeepsWire old new → Reaches moment answer old.site new.site → Reaches moment answer (lent_wire name lent old) (lent_wire name lent new)
   reaches_lent moment answer keeps reaches =
-      reaches_as (name ∷ marks old) (name ∷ marks new) old.site new.site moment answer
-      (same_marks name old new (kept_reads_none old new keeps) reaches.disk.disk.goes_on.label) reaches
+      reaches_as (label_of name lent old) (label_of name lent new) old.site new.site moment answer
+      (same_marks name lent old new (kept_reads_none old new keeps) reaches.disk.disk.goes_on.label) reaches
 
-  pub puts_lent : (parcel : Parcel) → PutsLine parcel old new → Puts parcel old.site new.site → Puts parcel (lent_wire name old) (lent_wire name new)
+  pub puts_lent : (parcel : Parcel) → PutsLine parcel old new → Puts parcel old.site new.site → Puts parcel (lent_wire name lent old) (lent_wire name lent new)
   puts_lent parcel line puts =
-      puts_as (name ∷ marks old) (name ∷ marks new) old.site new.site parcel
-      (same_marks name old new (put_reads_none parcel old new line) puts.disk.disk.goes_on.label) puts
+      puts_as (label_of name lent old) (label_of name lent new) old.site new.site parcel
+      (same_marks name lent old new (put_reads_none parcel old new line) puts.disk.disk.goes_on.label) puts
 
 -- ---- what the label tells
 
@@ -123,8 +221,8 @@ passed_of a b c d m n o p k l e = cc
 found_of : (a b c d m n o p : ℕ) (k l : List ℕ) → a ∷ b ∷ c ∷ d ∷ k ≡ m ∷ n ∷ o ∷ p ∷ l → d ≡ p
 found_of a b c d m n o p k l e = cc
 
-label_of : (a b c d m n o p : ℕ) (k l : List ℕ) → a ∷ b ∷ c ∷ d ∷ k ≡ m ∷ n ∷ o ∷ p ∷ l → k ≡ l
-label_of a b c d m n o p k l e = cc
+label_in : (a b c d m n o p : ℕ) (k l : List ℕ) → a ∷ b ∷ c ∷ d ∷ k ≡ m ∷ n ∷ o ∷ p ∷ l → k ≡ l
+label_in a b c d m n o p k l e = cc
 
 same_bit : (a b : Bool) → bit a ≡ bit b → a ≡ b
 same_bit true true e = refl
@@ -132,29 +230,44 @@ same_bit false false e = refl
 same_bit true false e = absurd (omega (arith, e))
 same_bit false true e = absurd (omega (arith, e))
 
+behind_of : (a b c m n o : ℕ) (k l : List ℕ) → a ∷ b ∷ c ∷ k ≡ m ∷ n ∷ o ∷ l → a ∷ k ≡ m ∷ l
+behind_of a b c m n o k l e = cc
+
+second_of : (a b c m n o : ℕ) (k l : List ℕ) → a ∷ b ∷ c ∷ k ≡ m ∷ n ∷ o ∷ l → b ≡ n
+second_of a b c m n o k l e = cc
+
+third_of : (a b c m n o : ℕ) (k l : List ℕ) → a ∷ b ∷ c ∷ k ≡ m ∷ n ∷ o ∷ l → c ≡ o
+third_of a b c m n o k l e = cc
+
 -- the same loan, which read no line, on the same disk
-record CameBack (name : ℕ) (a : WireView) (name' : ℕ) (b : WireView) : Type 0 where
+record CameBack (name : ℕ) (lent a : WireView) (name' : ℕ) (lent' b : WireView) : Type 0 where
   pub same : name' ≡ name
+  pub put : count_told lent'.site.link.puts ≡ count_told lent.site.link.puts
+  pub lost : lent'.site.counts.mishaps ≡ lent.site.counts.mishaps
   pub reads : ReadsNoLine a b
   pub label : b.site.disk.label ≡ a.site.disk.label
 
-came_back : (name name' : ℕ) (a b : WireView) → name' ∷ marks b ≡ name ∷ marks a → CameBack name a name' b
-came_back name name' a b e = record {
-  same = name_of _ _ _ _ _ _ _ _ _ _ e;
-  reads = record {
-    asking = same_bit b.asking a.asking (end_of _ _ _ _ _ _ _ _ _ _ e);
-    passed = passed_of _ _ _ _ _ _ _ _ _ _ e;
-    found_as = found_of _ _ _ _ _ _ _ _ _ _ e;
-  };
-  label = label_of _ _ _ _ _ _ _ _ _ _ e;
-}
+came_back : (name name' : ℕ) (lent lent' a b : WireView) → label_of name' lent' b ≡ label_of name lent a → CameBack name lent a name' lent' b
+came_back name name' lent lent' a b all =
+    let e : name' ∷ marks b ≡ name ∷ marks a = behind_of _ _ _ _ _ _ _ _ all in
+    record {
+      same = name_of _ _ _ _ _ _ _ _ _ _ e;
+      put = second_of _ _ _ _ _ _ _ _ all;
+      lost = third_of _ _ _ _ _ _ _ _ all;
+      reads = record {
+        asking = same_bit b.asking a.asking (end_of _ _ _ _ _ _ _ _ _ _ e);
+        passed = passed_of _ _ _ _ _ _ _ _ _ _ e;
+        found_as = found_of _ _ _ _ _ _ _ _ _ _ e;
+      };
+      label = label_in _ _ _ _ _ _ _ _ _ _ e;
+    }
 
 -- ---- filters on it
 
-pub filters_lent : (name : ℕ) (fs : List ActuatorView) (wire : WireView) → FiltersReady fs wire.site → FiltersReady fs (lent_wire name wire)
-filters_lent name fs wire ready = record {
+pub filters_lent : (name : ℕ) (fs : List ActuatorView) (lent wire : WireView) → FiltersReady fs wire.site → FiltersReady fs (lent_wire name lent wire)
+filters_lent name fs lent wire ready = record {
   few = ready.few;
-  each = λ k v there. let is = ready.each k v there in record { ready = ready_as (name ∷ marks wire) v wire.site is.ready; whole = is.whole; of_agent = is.of_agent };
+  each = λ k v there. let is = ready.each k v there in record { ready = ready_as (label_of name lent wire) v wire.site is.ready; whole = is.whole; of_agent = is.of_agent };
 }
 
 filters_as : (k : List ℕ) (fs : List ActuatorView) (x : SiteView) → FiltersReady fs x → FiltersReady fs (relabel k x)
@@ -206,16 +319,48 @@ ready_if : (k : List ℕ) (r : Result Bool ActError) (gs : List ActuatorView) (y
 ready_if k (Ok acted) gs y ready = filters_as k gs y ready
 ready_if k (Err error) gs y ready = tt
 
-pub handed_back : (name name' : ℕ) (before a b after : WireView) (r : Result Bool ActError) (parcel : Parcel) (moment : ℕ) (fs gs : List ActuatorView) → a ≡ before → (name' ≡ name → after ≡ b)
-    → OneAnswers r parcel moment (lent_wire name a) (lent_wire name' b) fs gs → OnOk r (FiltersReady gs (lent_wire name' b)) → Handed r parcel moment before after fs gs
-handed_back name name' before a b after r parcel moment fs gs is end one ready =
-    let back = came_back name name' a b (answers_label r one.v one.w parcel moment (lent_wire name a) (lent_wire name' b) one.answers) in
-    let here : Handed r parcel moment a b fs gs = record {
-      answers = one_as a.site.disk.label b.site.disk.label (lent_wire name a) (lent_wire name' b) r parcel moment fs gs back.label one;
-      filters = ready_if b.site.disk.label r gs (lent_wire name' b) ready;
-      reads_none = back.reads;
-    } in
-    subst (λ (w : WireView). Handed r parcel moment before w fs gs) (sym (end back.same)) (subst (λ (w : WireView). Handed r parcel moment w b fs gs) is here)
+-- what a refusal leaves
+same_link : (error : ActError) (v : ActuatorView) (parcel : Parcel) (moment : ℕ) (x y : SiteView) → MayHaveDone error v parcel moment x y → (y.link ≡ x.link) × (y.counts ≡ x.counts)
+same_link act_error.Disk v parcel moment x y did = (did.adds.file.rest.link, did.adds.file.rest.counts)
+same_link act_error.Memory v parcel moment x y did = elim did [
+  | inl none ↦ (ap (λ (s : SiteView). s.link) none, ap (λ (s : SiteView). s.counts) none)
+  | inr offers ↦ (offers.adds.file.rest.link, offers.adds.file.rest.counts)
+]
+same_link (act_error.Full needed) v parcel moment x y did = (ap (λ (s : SiteView). s.link) did, ap (λ (s : SiteView). s.counts) did)
+same_link (act_error.Damaged place) v parcel moment x y did = (ap (λ (s : SiteView). s.link) did, ap (λ (s : SiteView). s.counts) did)
+same_link act_error.Broken v parcel moment x y did = (ap (λ (s : SiteView). s.link) did, ap (λ (s : SiteView). s.counts) did)
+
+-- a wire that came back, by which it is known what was put and lost since it was lent
+pub record Back (name : ℕ) (before lent a : WireView) (name' : ℕ) (lent' b after : WireView) : Type 0 where
+  pub is : a ≡ before
+  pub lent_is : lent ≡ before
+  pub keeps : KeepsLink lent' b
+  pub end : name' ≡ name → after ≡ b
+
+module _ (name name' : ℕ) (before lent lent' a b after : WireView) (back : Back name before lent a name' lent' b after) where
+  whole_now : CameBack name lent a name' lent' b → b.site.link ≡ a.site.link → b.site.counts ≡ a.site.counts → StaysWhole b
+  whole_now came link counts =
+      let same : lent ≡ a = back.lent_is ∙ sym back.is in
+      stays_whole lent' b a.site back.keeps (came.put ∙ ap (λ (w : WireView). count_told w.site.link.puts) same) (came.lost ∙ ap (λ (w : WireView). w.site.counts.mishaps) same) link counts
+
+  whole_if : (r : Result Bool ActError) (v w : ActuatorView) (parcel : Parcel) (moment : ℕ) → CameBack name lent a name' lent' b → FilterAnswers r v w parcel moment (lent_wire name lent a) (lent_wire name' lent' b)
+      → OnErr r (StaysWhole b)
+  whole_if (Ok acted) v w parcel moment came did = tt
+  whole_if (Err error) v w parcel moment came did =
+      let same = same_link error v parcel moment (lent_wire name lent a) (lent_wire name' lent' b) did.0.site in
+      whole_now came same.0 same.1
+
+  pub handed_back : (r : Result Bool ActError) (parcel : Parcel) (moment : ℕ) (fs gs : List ActuatorView) → OneAnswers r parcel moment (lent_wire name lent a) (lent_wire name' lent' b) fs gs
+      → OnOk r (FiltersReady gs (lent_wire name' lent' b)) → Handed r parcel moment before after fs gs
+  handed_back r parcel moment fs gs one ready =
+      let came = came_back name name' lent lent' a b (answers_label r one.v one.w parcel moment (lent_wire name lent a) (lent_wire name' lent' b) one.answers) in
+      let here : Handed r parcel moment a b fs gs = record {
+        answers = one_as a.site.disk.label b.site.disk.label (lent_wire name lent a) (lent_wire name' lent' b) r parcel moment fs gs came.label one;
+        filters = ready_if b.site.disk.label r gs (lent_wire name' lent' b) ready;
+        reads_none = came.reads;
+        whole = whole_if r one.v one.w parcel moment came one.answers;
+      } in
+      subst (λ (w : WireView). Handed r parcel moment before w fs gs) (sym (back.end came.same)) (subst (λ (w : WireView). Handed r parcel moment w b fs gs) back.is here)
 
 -- ---- the opening
 
@@ -284,10 +429,20 @@ opened_by : (r : Result (List ActuatorView) WorldError) (x y : SiteView) → IfO
 opened_by (Ok fs) x y opens refused = opens
 opened_by (Err error) x y opens refused = refused
 
-pub opened_back : (name name' : ℕ) (before a b after : WireView) (r : Result (List ActuatorView) WorldError) → a ≡ before → (name' ≡ name → after ≡ b)
-    → IfOk r (λ fs. OpensFilters 16 (lent_wire name a) (lent_wire name' b) fs) → IfErr r (λ error. RefusesFilters error (lent_wire name a) (lent_wire name' b)) → Opened r before after
-opened_back name name' before a b after r is end opens refused =
-    let all = opened_by r (lent_wire name a) (lent_wire name' b) opens refused in
-    let back = came_back name name' a b (opened_label r (lent_wire name a) (lent_wire name' b) all) in
-    let here : Opened r a b = record { opened = opened_as a.site.disk.label b.site.disk.label (lent_wire name a) (lent_wire name' b) r back.label all; reads_none = back.reads } in
-    subst (λ (w : WireView). Opened r before w) (sym (end back.same)) (subst (λ (w : WireView). Opened r w b) is here)
+module _ (name name' : ℕ) (before lent lent' a b after : WireView) (back : Back name before lent a name' lent' b after) where
+  opened_whole : (r : Result (List ActuatorView) WorldError) → CameBack name lent a name' lent' b → OpenedAs r (lent_wire name lent a) (lent_wire name' lent' b) → OnErr r (StaysWhole b)
+  opened_whole (Ok fs) came did = tt
+  opened_whole (Err error) came did =
+      whole_now name name' before lent lent' a b after back came (did.refuses.opens.only.rest.link ∙ did.before.rest.link) (did.refuses.opens.only.rest.counts ∙ did.before.rest.counts)
+
+  pub opened_back : (r : Result (List ActuatorView) WorldError) → IfOk r (λ fs. OpensFilters 16 (lent_wire name lent a) (lent_wire name' lent' b) fs)
+      → IfErr r (λ error. RefusesFilters error (lent_wire name lent a) (lent_wire name' lent' b)) → Opened r before after
+  opened_back r opens refused =
+      let all = opened_by r (lent_wire name lent a) (lent_wire name' lent' b) opens refused in
+      let came = came_back name name' lent lent' a b (opened_label r (lent_wire name lent a) (lent_wire name' lent' b) all) in
+      let here : Opened r a b = record {
+        opened = opened_as a.site.disk.label b.site.disk.label (lent_wire name lent a) (lent_wire name' lent' b) r came.label all;
+        reads_none = came.reads;
+        whole = opened_whole r came all;
+      } in
+      subst (λ (w : WireView). Opened r before w) (sym (back.end came.same)) (subst (λ (w : WireView). Opened r w b) back.is here)

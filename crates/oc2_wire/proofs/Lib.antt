@@ -2,6 +2,7 @@ pub mod ActCounts
 pub mod AnswerKept
 pub mod Answered
 pub mod LentWires
+pub mod LinkTold
 pub mod Prefixes
 pub mod Reading
 pub mod Relabel
@@ -10,4 +11,5 @@ pub mod ServeEnds
 pub mod ServeLoop
 pub mod ServeSteps
 pub mod Served
+pub mod ServedLeft
 pub mod Taking

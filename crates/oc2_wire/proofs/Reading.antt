@@ -1,4 +1,4 @@
--- What a session of the engine's end promises, in words of the lines that it reads.
+-- What each end promises, in words of the lines that it reads.
 use Rattle.std.proofs.Common.{◌≡◌, ◌∙◌, ℕ, zero, suc, ◌≤◌, Bool, true, false, cond, List, [], ◌∷◌, ◌++◌, length, map, refl, sym, subst, ap, arith}
 use Rattle.std.specs.Prelude.{Contains, IsSome, Option, Some, None, drop, filter, nat_lt}
 use Rattle.std.proofs.Math.Logic.{∥∥₁_map}
@@ -8,11 +8,12 @@ use Rattle.cacao_site.specs.LinkCalls.{GainsAll}
 use Rattle.cacao_site.specs.declared.parcel.Parcel.{Parcel}
 use Rattle.flow_laws.specs.Images.{told_list}
 use Rattle.oc2_wire_laws.specs.EngineBeats.{MoreIsGot}
-use Rattle.oc2_wire_laws.specs.Since.{EngineKeepsSince, taken_before, takes_of}
+use Rattle.oc2_wire_laws.specs.FilterBeats.{MoreForFilters}
+use Rattle.oc2_wire_laws.specs.Since.{EngineKeepsSince, FiltersKeepSince, taken_before, takes_of}
 use Rattle.oc2_wire_site.specs.ReadLines.{Carry, GainsTold, IsWire, KeepsLinesSince, MarkedKeepLines, mark_now}
 use Rattle.oc2_wire_site.specs.Wires.{WireView}
 use Rattle.oc2_wire_site.proofs.MarkLemmas.{same_end}
-use Rattle.oc2_wire.specs.Reading.{KeepsByLines}
+use Rattle.oc2_wire.specs.Reading.{FiltersKeepByLines, KeepsByLines}
 
 -- ---- the parcels that were taken
 
@@ -55,6 +56,12 @@ module _ (old new : WireView) (was : IsWire old) (is : IsWire new) (label : new.
     keeps_lines =
         marked_keep old new taken puts was is marked label (gains_told old.site.link.taken new.site.link.taken taken told_taken takes) (gains_told old.site.link.puts new.site.link.puts puts told_puts puts_more)
 
+    -- what was taken before a beat is among what was taken
+    in_taken : (beat : ℕ) (p : Parcel) → Contains (taken_before (takes_of old.site) new.site beat) p → Contains (parcels taken) p
+    in_taken beat p has =
+        let same = behind_is old.site.link.taken new.site.link.taken taken (gains_told old.site.link.taken new.site.link.taken taken told_taken takes) in
+        any_before taken beat p (subst (λ (l : List (ℕ × Parcel)). Contains (parcels (filter (λ (e : ℕ × Parcel). nat_lt e.0 beat) l)) p) same has)
+
     pub keeps_by_lines : MoreIsGot → (run : ℕ) → old.asking ≡ true → EngineKeepsSince old.site run new.site → ∥ KeepsByLines run old new ∥₁
     keeps_by_lines more_is_got run asks kept = ∥∥₁_map keeps_lines.read (λ held. record {
       read = held.read;
@@ -62,7 +69,14 @@ module _ (old new : WireView) (was : IsWire old) (is : IsWire new) (label : new.
       got = parcels taken;
       carry = subst (λ (b : Bool). Carry b held.read (parcels taken)) asks held.carry;
       kept = λ beat from to.
-          let same = behind_is old.site.link.taken new.site.link.taken taken (gains_told old.site.link.taken new.site.link.taken taken told_taken takes) in
-          more_is_got old.site run (taken_before (takes_of old.site) new.site beat) (parcels taken) new.site beat
-          (λ p has. any_before taken beat p (subst (λ (l : List (ℕ × Parcel)). Contains (parcels (filter (λ (e : ℕ × Parcel). nat_lt e.0 beat) l)) p) same has)) (kept.each beat from to);
+          more_is_got old.site run (taken_before (takes_of old.site) new.site beat) (parcels taken) new.site beat (in_taken beat) (kept.each beat from to);
+    })
+
+    pub filters_by_lines : MoreForFilters → old.asking ≡ false → FiltersKeepSince old.site new.site → ∥ FiltersKeepByLines old new ∥₁
+    filters_by_lines more_for_filters answers kept = ∥∥₁_map keeps_lines.read (λ held. record {
+      read = held.read;
+      lines = held.lines;
+      got = parcels taken;
+      carry = subst (λ (b : Bool). Carry b held.read (parcels taken)) answers held.carry;
+      kept = λ beat from to. more_for_filters old.site (taken_before (takes_of old.site) new.site beat) (parcels taken) new.site beat (in_taken beat) (kept.each beat from to);
     })

@@ -22,12 +22,15 @@ use Rattle.flow_world_steps.specs.Handled.{IsCommand}
 use Rattle.flow_world_steps.proofs.Growth.{gains_one, gains_same}
 use Rattle.flow_world_steps.proofs.Handling.{All-one, get_set_same}
 use Rattle.oc2_wire_laws.specs.Ends.{IsFiltersStart}
+use Rattle.oc2_wire_site.specs.LineLinks.{LinesView}
 use Rattle.oc2_wire_site.specs.Wires.{WireView}
-use Rattle.oc2_wire.specs.Answering.{Floods, RefusesLast, Served, Serves, ServesAll, found_by, most_idle}
+use Rattle.oc2_wire_site.specs.declared.link_state.LinkState.TheVariants as state
+use Rattle.oc2_wire.specs.Answering.{Floods, RefusesLast, Served, Serves, ServesAll, TellsLink, found_by, most_idle}
 use Rattle.oc2_wire.specs.FilterTurns.{AnsweredAs, Asks, Ended, HandsOn, IsCalm, IsLate, KeptTo, Serving, TakesAs, TakesNext, TakesNothing, TookAs}
 use Rattle.oc2_wire.specs.declared.error.WireError.{WireError}
 use Rattle.oc2_wire.specs.declared.error.WireError.TheVariants as error
 use Rattle.oc2_wire.proofs.AnswerKept.{kept_acts, kept_did, kept_quiet, kept_repeats, kept_took, taken_since}
+use Rattle.oc2_wire.proofs.LinkTold.{tells_ended, tells_failed, tells_no_memory, tells_none, tells_too_long, whole_stays}
 use Rattle.oc2_wire.proofs.ServeActs.{at_hand, of_parcel, serves_none, serves_unsure, serving_acts, serving_again}
 use Rattle.oc2_wire.proofs.ServeSteps.{Quiet, serves_quiet, serving_quiet}
 
@@ -152,26 +155,28 @@ module _ (old : WireView) (opened : SiteView) (w t : WireView) (fs : List Actuat
       let now = serving_next parcel next in
       record { keeps = now.keeps; steady = now.steady; asking = now.serves.asking; lines = now.serves.passed }
 
-  ended_by : (r : Result ℕ WireError) → r ≢ Err error.Disk → old.asking ≡ false → After → Served r old t → Ended r old t
-  ended_by r other is after served = record {
+  ended_by : (r : Result ℕ WireError) → r ≢ Err error.Disk → (r ≢ Err error.Flooded → TellsLink r t) → old.asking ≡ false → After → Served r old t → Ended r old t
+  ended_by r other link is after served = record {
     served = served;
     keeps = λ told start. (after.keeps told start).kept;
     disk = λ is_disk. absurd (other is_disk);
     steady = λ ne. after.steady;
     answering = after.asking ∙ is;
     lines = after.lines;
+    link = link;
   }
 
   pub ends_ok : (acted : ℕ) → acted ≡ length acts → old.asking ≡ false → TookAs (Ok None) old.lines.passed repeats w t → Ended (Ok acted) old t
   ends_ok acted many is took =
-      ended_by (Ok acted) (λ e. cc) is (after_take None took.0.takes) (record { all = all_served took.0.takes took.1; found = took.0.is }, many)
+      ended_by (Ok acted) (λ e. cc) (λ ne. tells_ended acted t took.0.is) is (after_take None took.0.takes) (record { all = all_served took.0.takes took.1; found = took.0.is }, many)
 
   pub ends_err : (e : WireError) → old.asking ≡ false → TookAs (Err e) old.lines.passed repeats w t → Ended (Err e) old t
-  ends_err error.Flooded is took = ended_by (Err error.Flooded) (λ e. cc) is (after_take took.taken took.takes) (floods took.taken took.takes took.many)
-  ends_err error.TooLong is took = ended_by (Err error.TooLong) (λ e. cc) is (after_take None took.0.takes) (record { all = all_served took.0.takes took.1; found = took.0.is })
-  ends_err error.Link is took = ended_by (Err error.Link) (λ e. cc) is (after_take None took.0.takes) (record { all = all_served took.0.takes took.1; found = took.0.is })
+  ends_err error.Flooded is took = ended_by (Err error.Flooded) (λ e. cc) (λ ne. absurd (ne refl)) is (after_take took.taken took.takes) (floods took.taken took.takes took.many)
+  ends_err error.TooLong is took = ended_by (Err error.TooLong) (λ e. cc) (λ ne. tells_too_long t took.0.is) is (after_take None took.0.takes) (record { all = all_served took.0.takes took.1; found = took.0.is })
+  ends_err error.Link is took = ended_by (Err error.Link) (λ e. cc) (λ ne. tells_failed t took.0.is) is (after_take None took.0.takes) (record { all = all_served took.0.takes took.1; found = took.0.is })
   ends_err error.Memory is took =
-      ended_by (Err error.Memory) (λ e. cc) is (after_take None took.0.takes) (inr (inl (record { all = all_served took.0.takes took.1; found_none = took.0.found_none })))
+      ended_by (Err error.Memory) (λ e. cc) (λ ne. tells_no_memory t took.0.is) is (after_take None took.0.takes)
+      (inr (inl (record { all = all_served took.0.takes took.1; found_none = ap found_by took.0.is })))
   ends_err error.Disk is took = absurd took
   ends_err (error.Damaged file place) is took = absurd took
   ends_err (error.OtherRun held asked) is took = absurd took
@@ -204,8 +209,8 @@ module _ (old : WireView) (opened : SiteView) (t u : WireView) (fs gs : List Act
   calm_at m calm same = subst (λ (n : ℕ). n - old.lines.passed + repeats < most_idle) (sym same) calm
 
   -- the clock is past the last moment
-  pub ends_late : old.asking ≡ false → IsCalm old.lines.passed repeats t → IsLate t u fs gs → Ended (Err (error.Limit limit.Moment)) old u
-  ends_late is calm late =
+  pub ends_late : old.asking ≡ false → t.lines.state ≡ state.Whole → IsCalm old.lines.passed repeats t → IsLate t u fs gs → Ended (Err (error.Limit limit.Moment)) old u
+  ends_late is whole calm late =
       let now = serving_asked u late.asks in
       record {
         served = record {
@@ -229,6 +234,7 @@ module _ (old : WireView) (opened : SiteView) (t u : WireView) (fs gs : List Act
         steady = λ ne. now.steady;
         answering = now.serves.asking ∙ is;
         lines = now.serves.passed;
+        link = λ ne. tells_none (Err (error.Limit limit.Moment)) u now.found_none (whole_stays u (ap (λ (l : LinesView). l.state) late.asks.lines ∙ whole));
       }
 
   module _ (r : Result Bool ActError) (hands : HandsOn r parcel t u fs gs) where
@@ -325,6 +331,7 @@ module _ (old : WireView) (opened : SiteView) (t u : WireView) (fs gs : List Act
         steady = λ ne. absurd (ne refl);
         answering = refused_asking act_error.Disk hands calm ∙ is;
         lines = refused_lines act_error.Disk hands calm;
+        link = λ ne. tells_none (Err error.Disk) u (found_now act_error.Disk hands calm) hands.handed.whole;
       }
 
   -- memory was wanted
@@ -346,6 +353,7 @@ module _ (old : WireView) (opened : SiteView) (t u : WireView) (fs gs : List Act
         steady = λ ne. steady;
         answering = refused_asking act_error.Memory hands calm ∙ is;
         lines = refused_lines act_error.Memory hands calm;
+        link = λ ne. tells_none (Err error.Memory) u (found_now act_error.Memory hands calm) hands.handed.whole;
       }
 
   -- the file is full
@@ -372,6 +380,7 @@ module _ (old : WireView) (opened : SiteView) (t u : WireView) (fs gs : List Act
         steady = λ ne. steady;
         answering = refused_asking why hands calm ∙ is;
         lines = refused_lines why hands calm;
+        link = λ ne. tells_none (Err (error.Limit limit.Journal)) u (found_now why hands calm) hands.handed.whole;
       }
     where
       w_there : (w v : ActuatorView) → slice_get fs (parcel.agent - 1) ≡ Some v → gs ≡ slice_set fs (parcel.agent - 1) w → slice_get gs (parcel.agent - 1) ≡ Some w
@@ -384,17 +393,17 @@ module _ (old : WireView) (opened : SiteView) (t u : WireView) (fs gs : List Act
         past = over.past;
       }
 
-  pub ends_answer : (e : WireError) → old.asking ≡ false → IsCalm old.lines.passed repeats t → AnsweredAs (Err e) parcel t u fs gs → Ended (Err e) old u
-  ends_answer error.Disk is calm did = ends_disk is calm did
-  ends_answer error.Memory is calm did = ends_memory is calm did
-  ends_answer (error.Limit limit.Moment) is calm did = ends_late is calm did
-  ends_answer (error.Limit limit.Journal) is calm did = ends_full did.0 is calm did.1
-  ends_answer (error.Limit limit.Tasks) is calm did = absurd did
-  ends_answer (error.Limit limit.Command) is calm did = absurd did
-  ends_answer (error.Damaged file place) is calm did = absurd did
-  ends_answer (error.OtherRun held asked) is calm did = absurd did
-  ends_answer (error.OtherBook index) is calm did = absurd did
-  ends_answer error.Say is calm did = absurd did
-  ends_answer error.Flooded is calm did = absurd did
-  ends_answer error.TooLong is calm did = absurd did
-  ends_answer error.Link is calm did = absurd did
+  pub ends_answer : (e : WireError) → old.asking ≡ false → t.lines.state ≡ state.Whole → IsCalm old.lines.passed repeats t → AnsweredAs (Err e) parcel t u fs gs → Ended (Err e) old u
+  ends_answer error.Disk is whole calm did = ends_disk is calm did
+  ends_answer error.Memory is whole calm did = ends_memory is calm did
+  ends_answer (error.Limit limit.Moment) is whole calm did = ends_late is whole calm did
+  ends_answer (error.Limit limit.Journal) is whole calm did = ends_full did.0 is calm did.1
+  ends_answer (error.Limit limit.Tasks) is whole calm did = absurd did
+  ends_answer (error.Limit limit.Command) is whole calm did = absurd did
+  ends_answer (error.Damaged file place) is whole calm did = absurd did
+  ends_answer (error.OtherRun held asked) is whole calm did = absurd did
+  ends_answer (error.OtherBook index) is whole calm did = absurd did
+  ends_answer error.Say is whole calm did = absurd did
+  ends_answer error.Flooded is whole calm did = absurd did
+  ends_answer error.TooLong is whole calm did = absurd did
+  ends_answer error.Link is whole calm did = absurd did

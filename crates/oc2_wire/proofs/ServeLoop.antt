@@ -1,6 +1,6 @@
 -- The loop of a call of the filters' end.
 use Rattle.std.proofs.Common.{◌≡◌, ◌≢◌, inl, inr, ℕ, ◌+◌, ◌*◌, ◌≤◌, Bool, true, false, List, [], ◌∷◌, ◌++◌, length, refl, ◌∙◌, subst, ap, IsTrue, arith, length-append}
-use Rattle.std.specs.Prelude.{Some, None, IsSome, Ok, Err}
+use Rattle.std.specs.Prelude.{Some, None, IsSome, Result, Ok, Err}
 use Rattle.std.proofs.lemmas.Option.{slice_get_cases}
 use Rattle.cacao_site.specs.Counts.{Rose}
 use Rattle.cacao_site.specs.Sound.{IsSound}
@@ -13,12 +13,15 @@ use Rattle.flow_world_parts.specs.declared.error.WorldError.TheVariants as world
 use Rattle.oc2_wire_laws.specs.Ends.{IsFiltersStart}
 use Rattle.oc2_wire_site.specs.Wires.{WireView}
 use Rattle.oc2_wire_site.specs.declared.link_state.LinkState.TheVariants as state
-use Rattle.oc2_wire.specs.Answering.{ReadsNoLine, found_by}
+use Rattle.oc2_wire.specs.Answering.{ReadsNoLine, TellsLink, found_by}
 use Rattle.oc2_wire.specs.FilterTurns.{AnsweredAs, Ended, GoesOnWith, IsAnswering, KeptTo, MayRefuseOpening, Serving, TookAs, counted, most_in_file, opening_error}
+use Rattle.oc2_wire.specs.ReplyWires.{StaysWhole}
 use Rattle.oc2_wire.specs.declared.error.WireError.{WireError}
+use Rattle.oc2_wire.specs.declared.error.WireError.TheVariants as error
 use Rattle.oc2_wire.specs.declared.tally.Tally.{Tally}
 use Rattle.oc2_wire.proofs.ActCounts.{acts_few}
 use Rattle.oc2_wire.proofs.AnswerKept.{kept_first, kept_opened, kept_refused}
+use Rattle.oc2_wire.proofs.LinkTold.{tells_none}
 use Rattle.oc2_wire.proofs.ServeSteps.{serving_begins}
 use Rattle.oc2_wire.proofs.ServeEnds.{ends_answer, ends_err, ends_ok, goes_on_acted, goes_on_again, serving_next}
 
@@ -35,14 +38,17 @@ begins_with old now fs sound puts taken opens reads whole = record {
 }
 
 pub refused_first : (old now : WireView) (why : WorldError) → IsSound old.site → IsSome old.site.link.puts → IsSome old.site.link.taken → RefusesFilters why old.site now.site → ReadsNoLine old now
-    → old.asking ≡ false → Ended (Err (opening_error why)) old now
-refused_first old now why sound puts taken refuses reads is = by why refuses
+    → StaysWhole now → old.lines.state ≡ state.Whole → old.asking ≡ false → Ended (Err (opening_error why)) old now
+refused_first old now why sound puts taken refuses reads stays whole is = by why refuses
   where
     keeps_all : (w : WorldError) → RefusesFilters w old.site now.site → IsTrue old.site.disk.told → IsFiltersStart old.site → KeptTo old.site now.site
     keeps_all w refuses told start = kept_refused old.site old.site now.site w sound refuses (kept_first old.site told puts taken start)
 
     passed_still : old.lines.passed ≤ now.lines.passed
     passed_still = let same = reads.passed in omega (arith, same)
+
+    told : (r : Result ℕ WireError) → TellsLink r now
+    told r = tells_none r now (reads.found_as ∙ ap found_by whole) stays
 
     still : (w : WorldError) → w ≢ world.Disk → RefusesFilters w old.site now.site → now.site.disk.faults ≡ old.site.disk.faults
     still w ne refuses = refuses.refuses.steady ne ∙ refuses.before.steady
@@ -57,6 +63,7 @@ refused_first old now why sound puts taken refuses reads is = by why refuses
           steady = λ ne. absurd (ne refl);
           answering = reads.asking ∙ is;
           lines = passed_still;
+          link = λ ne. told (Err error.Disk);
         }
     by (world.Damaged file place) refuses =
         let steady = still (world.Damaged file place) (λ e. cc) refuses in
@@ -67,6 +74,7 @@ refused_first old now why sound puts taken refuses reads is = by why refuses
           steady = λ ne. steady;
           answering = reads.asking ∙ is;
           lines = passed_still;
+          link = λ ne. told (Err (error.Damaged file place));
         }
     by world.Memory refuses =
         let steady = still world.Memory (λ e. cc) refuses in
@@ -77,6 +85,7 @@ refused_first old now why sound puts taken refuses reads is = by why refuses
           steady = λ ne. steady;
           answering = reads.asking ∙ is;
           lines = passed_still;
+          link = λ ne. told (Err error.Memory);
         }
     by (world.OtherRun held asked) refuses = absurd refuses.refuses.why
     by (world.OtherBook index) refuses = absurd refuses.refuses.why
@@ -131,7 +140,7 @@ module _ (old w : WireView) (fs : List ActuatorView) (tally : Tally) (s : GoesOn
     }
 
     pub refused_last : (e : WireError) → old.asking ≡ false → AnsweredAs (Err e) parcel t u fs gs → Ended (Err e) old u
-    refused_last e is did = ends_answer old s.opened t u fs gs s.acts tally.repeated t.site.disk.beat parcel now_in_hand told_taken e is took.1 did
+    refused_last e is did = ends_answer old s.opened t u fs gs s.acts tally.repeated t.site.disk.beat parcel now_in_hand told_taken e is took.0.whole took.1 did
 
   pub took_none : (t : WireView) → old.asking ≡ false → TookAs (Ok None) old.lines.passed tally.repeated w t → Ended (Ok tally.acted) old t
   took_none t is took = ends_ok old s.opened w t fs s.acts tally.repeated s.serving tally.acted s.many is took

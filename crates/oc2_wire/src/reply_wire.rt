@@ -4,30 +4,46 @@ ghost use Rattle.oc2_wire_site.specs.WireOf.{wire_of};
 ghost use Rattle.oc2_wire_site.specs.Entries.{empty_by, puts_by, taken_by};
 ghost use Rattle.oc2_wire_site.specs.LinesOf.{mark_of};
 ghost use Rattle.oc2_wire_site.specs.WireSound.{wire-sound};
-ghost use Rattle.oc2_wire.specs.ReplyWires.{lent_wire, sound-relabel};
+ghost use Rattle.oc2_wire.specs.ReplyWires.{KeepsLink, lent_wire, sound-relabel};
 
 use cacao_site::{Disk, Failed, Parcel, Site};
 use oc2_wire_link::Link;
-use oc2_wire_site::WireSite;
+use oc2_wire_site::{LinkState, WireSite};
 use std::alloc::AllocError;
+use std::snapshot::Snapshot;
 
 /// A wire while a filter answers on it. It puts replies, and takes nothing, so that behind the call the wire has read no line.
 #[derive(Drop)]
 pub(crate) struct ReplyWire<'a, S: Site, K: Link> {
     wire: &'a mut WireSite<S, K>,
+    /// The wire when it was lent.
+    lent: Snapshot<WireSite<S, K>>,
+    ghost keeps: { KeepsLink (wire_of S.view K.view lent.value) (wire_of S.view K.view wire.now) },
 }
 
 impl<'a, S: Site, K: Link> ReplyWire<'a, S, K> {
     pub(crate) fn new(wire: &'a mut WireSite<S, K>) -> ReplyWire<'a, S, K>
+        requires whole { (wire_of S.view K.view wire.old).lines.state ≡ LinkState.Whole }
         ensures same_reference { result.wire.ghost_name ≡ wire.entry.ghost_name }
         ensures wire { result.wire.now ≡ wire.old }
+        ensures lent { result.lent.value ≡ wire.old }
     {
-        ReplyWire { wire }
+        let lent = Snapshot::of(&*wire);
+        ReplyWire { wire, lent }
+    }
+
+    /// The wire. (What is lent stays known to who holds the loan.)
+    pub(crate) fn into_wire(self) -> &'a mut WireSite<S, K>
+        ensures same_reference { result.ghost_name ≡ self.entry.wire.ghost_name }
+        ensures wire { result.now ≡ self.entry.wire.now }
+    {
+        let ReplyWire { wire, lent: _ } = self;
+        wire
     }
 }
 
 impl<'a, S: Site, K: Link> Disk for ReplyWire<'a, S, K> {
-    ghost view = { λ w. lent_wire w.wire.ghost_name (wire_of S.view K.view w.wire.now) };
+    ghost view = { λ w. lent_wire w.wire.ghost_name (wire_of S.view K.view w.lent.value) (wire_of S.view K.view w.wire.now) };
 
     ghost sound = { λ w. sound-relabel _ (wire_of S.view K.view w.wire.now).site (wire-sound w.wire.now.asking
         (mark_of K.view w.wire.now.mark) (S.view w.wire.now.site)

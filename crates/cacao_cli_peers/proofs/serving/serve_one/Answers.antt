@@ -7,6 +7,7 @@ use Rattle.oc2_wire_link.specs.Peering.{IsAsTold}
 use Rattle.oc2_wire_site.specs.Wires.{WireView}
 use Rattle.oc2_wire_site.specs.Entries.{empty_by, puts_by, taken_by}
 use Rattle.oc2_wire_site.specs.LinesOf.{mark_of}
+use Rattle.oc2_wire_site.specs.ReadLines.{mark_now}
 use Rattle.oc2_wire_site.specs.WireOf.{wire_of}
 use Rattle.cacao_cli_ends.specs.Told.{end_of}
 use Rattle.cacao_cli_peers.specs.FilterServing.{served_end}
@@ -31,6 +32,7 @@ returns-clause-accepts g c =
     first last c.answering_in-wire.ensures.view refl (served-label c.serve_agent.result first last c.serve_agent.ensures.served)
     (λ same. ap g.S.Disk.view (c.site-1.given.1 (sym same ∙ sym (ap (λ (m : MutBor g.row.S.Denot). m.ghost_name) c.into_parts-lent.ensures.site)))
     ∙ ap (λ (m : MutBor g.row.S.Denot). g.S.Disk.view m.now) c.into_parts-lent.ensures.site) in
+    let marked : first.mark ≡ mark_now first = subst (λ (v : WireView). v.mark ≡ mark_now v) (sym c.answering_in-wire.ensures.view) refl in
     let ends : end_of c.match-serve_agent.end ≡ served_end c.serve_agent.result =
     elim c.match-serve_agent.branch [
       | in-Ok-serve_agent v ↦ ap end_of v.end-is ∙ sym (ap served_end v.in-Ok-serve_agent.is)
@@ -47,6 +49,9 @@ returns-clause-accepts g c =
         served = c.serve_agent.ensures.served;
         kept = c.serve_agent.ensures.keeps;
         lines = c.state.ensures.holds;
+        link = c.serve_agent.ensures.link;
+        read = c.serve_agent.ensures.read marked;
+        by_lines = c.serve_agent.ensures.by_lines marked;
         failed = failed-disk c.serve_agent.result _ c.serve_agent.ensures.disk;
         steady = c.serve_agent.ensures.steady;
         fails = c.close_behind-last.ensures.closes.0;

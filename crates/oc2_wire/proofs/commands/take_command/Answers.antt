@@ -15,7 +15,6 @@ returns-then-is_flooded g c =
       taken = c.take-taken.ensures.taken;
       memory = c.take-taken.ensures.memory;
       line = c.take-taken.ensures.line;
-      want = c.take-taken.ensures.want;
     } in
     record {
       taken = taken_of c.take-taken.result;

@@ -10,7 +10,7 @@ returns-in-Err g c =
     let old = wire_of g.S.Disk.view g.K.Link.view c.args.wire.now in
     let now = wire_of g.S.Disk.view g.K.Link.view c.open_filters.new.wire in
     subst (λ e. Ended (Err e) old now) (sym c.of_opening.ensures)
-    (refused_first old now c.in-Err.error c.is_sound.ensures refl refl c.in-Err.ensures.opened c.in-Err.ensures.reads_none c.requires.answering)
+    (refused_first old now c.in-Err.error c.is_sound.ensures refl refl c.in-Err.ensures.opened c.in-Err.ensures.reads_none c.in-Err.ensures.whole c.requires.whole c.requires.answering)
 
 pub loop-parcel-init : goal.loop-parcel-init
 loop-parcel-init g c = record {
@@ -27,6 +27,14 @@ answer_command-requires-clause-filters g c =
     subst (λ n. TookAs (Ok (Some c.in-Ok-Some.parcel)) n c.loop-parcel.tally.repeated w t) c.passed-first.ensures
     (subst (λ o. TookAs (Ok o) c.passed-first.result c.loop-parcel.tally.repeated w t) c.in-Ok-Some.field-0-is c.in-Ok-Some.ensures) in
     (now_in_hand old w c.loop-parcel.filters c.loop-parcel.tally c.loop-parcel.invariant.going t t c.loop-parcel.filters c.in-Ok-Some.parcel refl took).ready
+
+pub answer_command-requires-clause-whole : goal.answer_command-requires-clause-whole
+answer_command-requires-clause-whole g c =
+    let t = wire_of g.S.Disk.view g.K.Link.view c.take_command.new.wire in
+    let w = wire_of g.S.Disk.view g.K.Link.view c.loop-parcel.wire in
+    let took : TookAs (Ok (Some c.in-Ok-Some.parcel)) c.passed-first.result c.loop-parcel.tally.repeated w t =
+    subst (λ o. TookAs (Ok o) c.passed-first.result c.loop-parcel.tally.repeated w t) c.in-Ok-Some.field-0-is c.in-Ok-Some.ensures in
+    took.0.whole
 
 pub count-requires-clause-acted : goal.count-requires-clause-acted
 count-requires-clause-acted g c =

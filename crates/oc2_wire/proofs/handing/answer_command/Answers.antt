@@ -1,4 +1,5 @@
-use Rattle.std.proofs.Common.{Ok, Err, sym, subst}
+use Rattle.std.proofs.Common.{◌∙◌, Ok, Err, ap, sym, subst}
+use Rattle.oc2_wire_site.specs.LineLinks.{LinesView}
 use Rattle.oc2_wire_site.specs.WireOf.{wire_of}
 use Rattle.oc2_wire.specs.FilterTurns.{AnsweredAs}
 use Rattle.oc2_wire.proofs.Answered.{answered_err, hands_on, is_late, ready_now}
@@ -12,6 +13,9 @@ returns-then-now-gt-LAST_MOMENT g c =
 pub hand-handed-requires-clause-filters : goal.hand-handed-requires-clause-filters
 hand-handed-requires-clause-filters g c =
     ready_now (wire_of g.S.Disk.view g.K.Link.view c.args.wire.now) (wire_of g.S.Disk.view g.K.Link.view c.reach-now.new.self) c.reach-now.result c.args.filters.now c.reach-now.ensures.reaches c.requires.filters
+
+pub hand-handed-requires-clause-whole : goal.hand-handed-requires-clause-whole
+hand-handed-requires-clause-whole g c = ap (λ (l : LinesView). l.state) c.reach-now.ensures.wire.lines ∙ c.requires.whole
 
 pub returns-in-Ok : goal.returns-in-Ok
 returns-in-Ok g c =

@@ -6,18 +6,23 @@ use Rattle.oc2_wire.specs.ReplyWires.{lent_wire}
 use Rattle.oc2_wire.proofs.LentWires.{filters_lent, handed_back}
 use Rattle.oc2_wire.proofs.handing.hand.Goals as goal
 
-pub act-requires-clause-filters : goal.act-requires-clause-filters
-act-requires-clause-filters g c =
+pub act-handed-requires-clause-filters : goal.act-handed-requires-clause-filters
+act-handed-requires-clause-filters g c =
     let was = c.new-lent.result in
-    subst (λ w. FiltersReady c.args.filters.now (lent_wire was.wire.ghost_name (wire_of g.S.Disk.view g.K.Link.view w))) (sym c.new-lent.ensures.wire)
-    (filters_lent was.wire.ghost_name c.args.filters.now (wire_of g.S.Disk.view g.K.Link.view c.args.wire.now) c.requires.filters)
+    subst (λ w. FiltersReady c.args.filters.now (lent_wire was.wire.ghost_name (wire_of g.S.Disk.view g.K.Link.view was.lent.value) (wire_of g.S.Disk.view g.K.Link.view w))) (sym c.new-lent.ensures.wire)
+    (filters_lent was.wire.ghost_name c.args.filters.now (wire_of g.S.Disk.view g.K.Link.view was.lent.value) (wire_of g.S.Disk.view g.K.Link.view c.args.wire.now) c.requires.filters)
 
 pub returns-clause-handed : goal.returns-clause-handed
 returns-clause-handed g c =
-    let v = c.act.new.site in
+    let v = c.act-handed.new.site in
     let was = c.new-lent.result in
     let end = c.wire-1.given in
-    handed_back was.wire.ghost_name v.wire.ghost_name (wire_of g.S.Disk.view g.K.Link.view c.args.wire.now) (wire_of g.S.Disk.view g.K.Link.view was.wire.now)
-    (wire_of g.S.Disk.view g.K.Link.view v.wire.now) (wire_of g.S.Disk.view g.K.Link.view end.0) c.act.result c.args.parcel.now c.args.now c.args.filters.now c.act.new.self
-    (ap (wire_of g.S.Disk.view g.K.Link.view) c.new-lent.ensures.wire) (λ same. ap (wire_of g.S.Disk.view g.K.Link.view) (end.1 (sym c.new-lent.ensures.same_reference ∙ sym same)))
-    c.act.ensures.answers c.act.ensures.filters
+    handed_back was.wire.ghost_name v.wire.ghost_name (wire_of g.S.Disk.view g.K.Link.view c.args.wire.now) (wire_of g.S.Disk.view g.K.Link.view was.lent.value)
+    (wire_of g.S.Disk.view g.K.Link.view v.lent.value) (wire_of g.S.Disk.view g.K.Link.view was.wire.now) (wire_of g.S.Disk.view g.K.Link.view v.wire.now) (wire_of g.S.Disk.view g.K.Link.view end.0)
+    (record {
+      is = ap (wire_of g.S.Disk.view g.K.Link.view) c.new-lent.ensures.wire;
+      lent_is = ap (wire_of g.S.Disk.view g.K.Link.view) c.new-lent.ensures.lent;
+      keeps = v.keeps;
+      end = λ same. ap (wire_of g.S.Disk.view g.K.Link.view) (end.1 (sym c.new-lent.ensures.same_reference ∙ sym same ∙ sym c.into_wire-back.ensures.same_reference) ∙ c.into_wire-back.ensures.wire);
+    })
+    c.act-handed.result c.args.parcel.now c.args.now c.args.filters.now c.act-handed.new.self c.act-handed.ensures.answers c.act-handed.ensures.filters
