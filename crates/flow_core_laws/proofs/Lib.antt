@@ -3,7 +3,7 @@ pub mod OwnEdits
 pub mod OwnRecords
 pub mod OwnTask
 pub mod Children
-mod StaysEnabled
-mod FilledLemmas
+pub mod StaysEnabled
+pub mod FilledLemmas
 mod SameBytes
 mod ParallelExamples

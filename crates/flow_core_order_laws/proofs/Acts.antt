@@ -36,7 +36,7 @@ changed_both zero (suc m) f g (x ∷ xs) h = refl
 changed_both (suc n) zero f g (x ∷ xs) h = refl
 changed_both (suc n) (suc m) f g (x ∷ xs) h = ap (λ (zs : List _). x ∷ zs) (changed_both n m f g xs (λ e. h (ap suc e)))
 
-changed_length : {A : Type 0} (n : ℕ) (f : A → A) (xs : List A) → length (changed_at n f xs) ≡ length xs
+pub changed_length : {A : Type 0} (n : ℕ) (f : A → A) (xs : List A) → length (changed_at n f xs) ≡ length xs
 changed_length n f [] = refl
 changed_length zero f (x ∷ xs) = refl
 changed_length (suc n) f (x ∷ xs) = ap suc (changed_length n f xs)

@@ -21,9 +21,14 @@ use Rattle.flow_core_laws.specs.OwnTask.{owner_of, task_of}
 use Rattle.flow_core_laws.proofs.Somes.{clash}
 use Rattle.flow_core_laws.proofs.OwnEdits.{AreOwn, OwnEdits}
 use Rattle.flow_core_laws.proofs.OwnRecords.{OwnShape}
-use Rattle.flow_core_order_laws.specs.BothOrders.{opens_scope, makes_task, makes_issue, WriteApart}
+use Rattle.flow_core_order_laws.specs.BothOrders.{opens_scope, makes_task, makes_issue}
 use Rattle.flow_core_order_laws.proofs.Acts.{ActApart, ActsApart}
 use Rattle.flow_core_order_laws.proofs.Parts.{task_act, scope_act, text_act, issue_act}
+
+-- not both write to one name of one scope
+abbrev pub WriteApart : Edit → Edit → Type 0
+WriteApart (writes at name text) (writes at' name' text') = at ≡ at' → name ≢ name'
+WriteApart one other = ⊤
 
 -- ---- what one edit may do
 
@@ -140,7 +145,7 @@ sides_of s r es own shape placed = record {
 
 -- ---- pairs
 
-both_no : (a b : Bool) → (a && b) ≡ false → a ≡ true → b ≡ true → ⊥
+pub both_no : (a b : Bool) → (a && b) ≡ false → a ≡ true → b ≡ true → ⊥
 both_no true b e x y = clash b y e
 both_no false b e x y = clash false x refl
 
@@ -244,7 +249,7 @@ pair_texts a b n one upgrades f w x y = tt
 
 -- ---- all pairs
 
-all_pairs : (P Q : Edit → Type 0) (R S : Edit → Edit → Type 0) → ((e f : Edit) → R e f → P e → Q f → S e f) → (es fs : List Edit) → AllByRecursion (λ e. AllByRecursion (R e) fs) es → AllByRecursion P es → AllByRecursion Q fs
+pub all_pairs : (P Q : Edit → Type 0) (R S : Edit → Edit → Type 0) → ((e f : Edit) → R e f → P e → Q f → S e f) → (es fs : List Edit) → AllByRecursion (λ e. AllByRecursion (R e) fs) es → AllByRecursion P es → AllByRecursion Q fs
     → AllByRecursion (λ e. AllByRecursion (S e) fs) es
 all_pairs P Q R S pair [] fs r p q = tt
 all_pairs P Q R S pair (e ∷ es) fs r p q = (row fs r.0 q, all_pairs P Q R S pair es fs r.1 p.1 q)
@@ -253,7 +258,7 @@ all_pairs P Q R S pair (e ∷ es) fs r p q = (row fs r.0 q, all_pairs P Q R S pa
     row [] r q = tt
     row (g ∷ gs) r q = (pair e g r.0 p.0 q.0, row gs r.1 q.1)
 
-any_pairs : (P Q : Edit → Type 0) (S : Edit → Edit → Type 0) → ((e f : Edit) → P e → Q f → S e f) → (es fs : List Edit) → AllByRecursion P es → AllByRecursion Q fs → AllByRecursion (λ e. AllByRecursion (S e) fs) es
+pub any_pairs : (P Q : Edit → Type 0) (S : Edit → Edit → Type 0) → ((e f : Edit) → P e → Q f → S e f) → (es fs : List Edit) → AllByRecursion P es → AllByRecursion Q fs → AllByRecursion (λ e. AllByRecursion (S e) fs) es
 any_pairs P Q S pair [] fs p q = tt
 any_pairs P Q S pair (e ∷ es) fs p q = (row fs q, any_pairs P Q S pair es fs p.1 q)
   where
