@@ -5,7 +5,7 @@ pub mod LentWires
 pub mod LinkTold
 pub mod Prefixes
 pub mod Reading
-pub mod Relabel
+pub mod Retell
 pub mod ServeActs
 pub mod ServeEnds
 pub mod ServeLoop

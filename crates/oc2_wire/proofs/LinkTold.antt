@@ -1,20 +1,16 @@
 -- What a call of the filters' end answers, by what broke its link.
-use Rattle.std.proofs.Common.{◌≡◌, ◌≢◌, ℕ, refl, sym, ◌∙◌, ap, arith}
+use Rattle.std.proofs.Common.{◌≡◌, ℕ, refl, sym, ◌∙◌}
 use Rattle.std.specs.Prelude.{Result, Ok, Err}
 use Rattle.oc2_wire_site.specs.Wires.{WireView}
 use Rattle.oc2_wire_site.specs.declared.link_state.LinkState.{LinkState}
 use Rattle.oc2_wire_site.specs.declared.link_state.LinkState.TheVariants as state
-use Rattle.oc2_wire.specs.Answering.{TellsLink, found_by}
-use Rattle.oc2_wire.specs.ReplyWires.{StaysWhole}
+use Rattle.oc2_wire.specs.Answering.{TellsLink}
 use Rattle.oc2_wire.specs.declared.error.WireError.{WireError}
 use Rattle.oc2_wire.specs.declared.error.WireError.TheVariants as error
 
 -- a link is in one state
 apart : (wire : WireView) (a b : LinkState) → (a ≡ b → ⊥) → wire.lines.state ≡ a → wire.lines.state ≡ b → ⊥
 apart wire a b ne is e = ne (sym is ∙ e)
-
-pub whole_stays : (wire : WireView) → wire.lines.state ≡ state.Whole → StaysWhole wire
-whole_stays wire is = record { not_failed = apart wire state.Whole state.Failed (λ f. cc) is; whole = λ can. is }
 
 -- ---- the link ended the call
 
@@ -24,7 +20,7 @@ tells_ended acted wire is = record {
   failed = λ e. absurd (apart wire state.Ended state.Failed (λ f. cc) is e);
   too_long = λ e. absurd (apart wire state.Ended state.TooLong (λ f. cc) is e);
   not_over = apart wire state.Ended state.PassedOver (λ f. cc) is;
-  no_memory = λ e can. absurd (apart wire state.Ended state.NoMemory (λ f. cc) is e);
+  no_memory = λ e. absurd (apart wire state.Ended state.NoMemory (λ f. cc) is e);
 }
 
 pub tells_failed : (wire : WireView) → wire.lines.state ≡ state.Failed → TellsLink (Err error.Link) wire
@@ -33,7 +29,7 @@ tells_failed wire is = record {
   failed = λ e. refl;
   too_long = λ e. absurd (apart wire state.Failed state.TooLong (λ f. cc) is e);
   not_over = apart wire state.Failed state.PassedOver (λ f. cc) is;
-  no_memory = λ e can. absurd (apart wire state.Failed state.NoMemory (λ f. cc) is e);
+  no_memory = λ e. absurd (apart wire state.Failed state.NoMemory (λ f. cc) is e);
 }
 
 pub tells_too_long : (wire : WireView) → wire.lines.state ≡ state.TooLong → TellsLink (Err error.TooLong) wire
@@ -42,7 +38,7 @@ tells_too_long wire is = record {
   failed = λ e. absurd (apart wire state.TooLong state.Failed (λ f. cc) is e);
   too_long = λ e. refl;
   not_over = apart wire state.TooLong state.PassedOver (λ f. cc) is;
-  no_memory = λ e can. absurd (apart wire state.TooLong state.NoMemory (λ f. cc) is e);
+  no_memory = λ e. absurd (apart wire state.TooLong state.NoMemory (λ f. cc) is e);
 }
 
 pub tells_no_memory : (wire : WireView) → wire.lines.state ≡ state.NoMemory → TellsLink (Err error.Memory) wire
@@ -51,16 +47,16 @@ tells_no_memory wire is = record {
   failed = λ e. absurd (apart wire state.NoMemory state.Failed (λ f. cc) is e);
   too_long = λ e. absurd (apart wire state.NoMemory state.TooLong (λ f. cc) is e);
   not_over = apart wire state.NoMemory state.PassedOver (λ f. cc) is;
-  no_memory = λ e can. refl;
+  no_memory = λ e. refl;
 }
 
 -- ---- something else did, while it was whole
 
-pub tells_none : (r : Result ℕ WireError) (wire : WireView) → found_by wire.lines.state ≡ 0 → StaysWhole wire → TellsLink r wire
-tells_none r wire none stays = record {
-  ended = λ e. let one : found_by wire.lines.state ≡ 1 = ap found_by e in absurd (omega (arith, one, none));
-  failed = λ e. absurd (stays.not_failed e);
-  too_long = λ e. let two : found_by wire.lines.state ≡ 2 = ap found_by e in absurd (omega (arith, two, none));
-  not_over = λ e. let three : found_by wire.lines.state ≡ 3 = ap found_by e in omega (arith, three, none);
-  no_memory = λ e can. absurd (apart wire state.Whole state.NoMemory (λ f. cc) (stays.whole can) e);
+pub tells_none : (r : Result ℕ WireError) (wire : WireView) → wire.lines.state ≡ state.Whole → TellsLink r wire
+tells_none r wire is = record {
+  ended = λ e. absurd (apart wire state.Whole state.Ended (λ f. cc) is e);
+  failed = λ e. absurd (apart wire state.Whole state.Failed (λ f. cc) is e);
+  too_long = λ e. absurd (apart wire state.Whole state.TooLong (λ f. cc) is e);
+  not_over = apart wire state.Whole state.PassedOver (λ f. cc) is;
+  no_memory = λ e. absurd (apart wire state.Whole state.NoMemory (λ f. cc) is e);
 }

@@ -30,7 +30,7 @@ use Rattle.oc2_wire.specs.FilterTurns.{AnsweredAs, Asks, Ended, HandsOn, IsCalm,
 use Rattle.oc2_wire.specs.declared.error.WireError.{WireError}
 use Rattle.oc2_wire.specs.declared.error.WireError.TheVariants as error
 use Rattle.oc2_wire.proofs.AnswerKept.{kept_acts, kept_did, kept_quiet, kept_repeats, kept_took, taken_since}
-use Rattle.oc2_wire.proofs.LinkTold.{tells_ended, tells_failed, tells_no_memory, tells_none, tells_too_long, whole_stays}
+use Rattle.oc2_wire.proofs.LinkTold.{tells_ended, tells_failed, tells_no_memory, tells_none, tells_too_long}
 use Rattle.oc2_wire.proofs.ServeActs.{at_hand, of_parcel, serves_none, serves_unsure, serving_acts, serving_again}
 use Rattle.oc2_wire.proofs.ServeSteps.{Quiet, serves_quiet, serving_quiet}
 
@@ -176,7 +176,7 @@ module _ (old : WireView) (opened : SiteView) (w t : WireView) (fs : List Actuat
   ends_err error.Link is took = ended_by (Err error.Link) (λ e. cc) (λ ne. tells_failed t took.0.is) is (after_take None took.0.takes) (record { all = all_served took.0.takes took.1; found = took.0.is })
   ends_err error.Memory is took =
       ended_by (Err error.Memory) (λ e. cc) (λ ne. tells_no_memory t took.0.is) is (after_take None took.0.takes)
-      (inr (inl (record { all = all_served took.0.takes took.1; found_none = ap found_by took.0.is })))
+      (inr (inl (record { all = all_served took.0.takes took.1; found = took.0.is })))
   ends_err error.Disk is took = absurd took
   ends_err (error.Damaged file place) is took = absurd took
   ends_err (error.OtherRun held asked) is took = absurd took
@@ -234,7 +234,7 @@ module _ (old : WireView) (opened : SiteView) (t u : WireView) (fs gs : List Act
         steady = λ ne. now.steady;
         answering = now.serves.asking ∙ is;
         lines = now.serves.passed;
-        link = λ ne. tells_none (Err (error.Limit limit.Moment)) u now.found_none (whole_stays u (ap (λ (l : LinesView). l.state) late.asks.lines ∙ whole));
+        link = λ ne. tells_none (Err (error.Limit limit.Moment)) u (ap (λ (l : LinesView). l.state) late.asks.lines ∙ whole);
       }
 
   module _ (r : Result Bool ActError) (hands : HandsOn r parcel t u fs gs) where
@@ -331,7 +331,7 @@ module _ (old : WireView) (opened : SiteView) (t u : WireView) (fs gs : List Act
         steady = λ ne. absurd (ne refl);
         answering = refused_asking act_error.Disk hands calm ∙ is;
         lines = refused_lines act_error.Disk hands calm;
-        link = λ ne. tells_none (Err error.Disk) u (found_now act_error.Disk hands calm) hands.handed.whole;
+        link = λ ne. tells_none (Err error.Disk) u hands.handed.whole;
       }
 
   -- memory was wanted
@@ -353,7 +353,7 @@ module _ (old : WireView) (opened : SiteView) (t u : WireView) (fs gs : List Act
         steady = λ ne. steady;
         answering = refused_asking act_error.Memory hands calm ∙ is;
         lines = refused_lines act_error.Memory hands calm;
-        link = λ ne. tells_none (Err error.Memory) u (found_now act_error.Memory hands calm) hands.handed.whole;
+        link = λ ne. tells_none (Err error.Memory) u hands.handed.whole;
       }
 
   -- the file is full
@@ -380,7 +380,7 @@ module _ (old : WireView) (opened : SiteView) (t u : WireView) (fs gs : List Act
         steady = λ ne. steady;
         answering = refused_asking why hands calm ∙ is;
         lines = refused_lines why hands calm;
-        link = λ ne. tells_none (Err (error.Limit limit.Journal)) u (found_now why hands calm) hands.handed.whole;
+        link = λ ne. tells_none (Err (error.Limit limit.Journal)) u hands.handed.whole;
       }
     where
       w_there : (w v : ActuatorView) → slice_get fs (parcel.agent - 1) ≡ Some v → gs ≡ slice_set fs (parcel.agent - 1) w → slice_get gs (parcel.agent - 1) ≡ Some w

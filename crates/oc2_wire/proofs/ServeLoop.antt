@@ -15,7 +15,6 @@ use Rattle.oc2_wire_site.specs.Wires.{WireView}
 use Rattle.oc2_wire_site.specs.declared.link_state.LinkState.TheVariants as state
 use Rattle.oc2_wire.specs.Answering.{ReadsNoLine, TellsLink, found_by}
 use Rattle.oc2_wire.specs.FilterTurns.{AnsweredAs, Ended, GoesOnWith, IsAnswering, KeptTo, MayRefuseOpening, Serving, TookAs, counted, most_in_file, opening_error}
-use Rattle.oc2_wire.specs.ReplyWires.{StaysWhole}
 use Rattle.oc2_wire.specs.declared.error.WireError.{WireError}
 use Rattle.oc2_wire.specs.declared.error.WireError.TheVariants as error
 use Rattle.oc2_wire.specs.declared.tally.Tally.{Tally}
@@ -38,8 +37,8 @@ begins_with old now fs sound puts taken opens reads whole = record {
 }
 
 pub refused_first : (old now : WireView) (why : WorldError) → IsSound old.site → IsSome old.site.link.puts → IsSome old.site.link.taken → RefusesFilters why old.site now.site → ReadsNoLine old now
-    → StaysWhole now → old.lines.state ≡ state.Whole → old.asking ≡ false → Ended (Err (opening_error why)) old now
-refused_first old now why sound puts taken refuses reads stays whole is = by why refuses
+    → now.lines.state ≡ state.Whole → old.asking ≡ false → Ended (Err (opening_error why)) old now
+refused_first old now why sound puts taken refuses reads whole is = by why refuses
   where
     keeps_all : (w : WorldError) → RefusesFilters w old.site now.site → IsTrue old.site.disk.told → IsFiltersStart old.site → KeptTo old.site now.site
     keeps_all w refuses told start = kept_refused old.site old.site now.site w sound refuses (kept_first old.site told puts taken start)
@@ -48,7 +47,7 @@ refused_first old now why sound puts taken refuses reads stays whole is = by why
     passed_still = let same = reads.passed in omega (arith, same)
 
     told : (r : Result ℕ WireError) → TellsLink r now
-    told r = tells_none r now (reads.found_as ∙ ap found_by whole) stays
+    told r = tells_none r now whole
 
     still : (w : WorldError) → w ≢ world.Disk → RefusesFilters w old.site now.site → now.site.disk.faults ≡ old.site.disk.faults
     still w ne refuses = refuses.refuses.steady ne ∙ refuses.before.steady

@@ -1,7 +1,7 @@
 -- Promise: What a call of the filters' end of a wire does, and when each answer comes.
 use Rattle.std.specs.Prelude.{◌≡◌, ◌≢◌, ◌⊎◌, ℕ, suc, ◌+◌, ◌*◌, ◌-◌, ◌<◌, ◌≤◌, true, List, [], ◌∷◌, ◌++◌, length, All, Option, Some, None, IfSome, IsOk, IsTrue, Result, Ok, Err, slice_get}
 use Rattle.std.specs.Option.{option_map_or}
-use Rattle.cacao_site.specs.Counts.{Rose, last_count}
+use Rattle.cacao_site.specs.Counts.{Rose}
 use Rattle.cacao_site.specs.DiskCalls.{AllLeft, GoesOn, StaysAt}
 use Rattle.cacao_site.specs.LinkCalls.{GainsAll}
 use Rattle.cacao_site.specs.View.{SiteView}
@@ -120,15 +120,10 @@ pub record ServesAll (old new : WireView) : Type 0 where
   pub steady : new.site.disk.faults ≡ old.site.disk.faults
   pub calm : idle old new repeats < most_idle
 
--- and so the link was found
+-- and so the link was found; with no memory, it was wanted for a parcel or for a line
 pub record Finds (at : LinkState) (old new : WireView) : Type 0 where
   pub all : ServesAll old new
   pub found : new.lines.state ≡ at
-
--- memory was wanted for a parcel, or for a line
-pub record WantsMemory (old new : WireView) : Type 0 where
-  pub all : ServesAll old new
-  pub found_none : found_by new.lines.state ≡ 0
 
 -- too many lines and commands; the last command that was taken is not handled
 pub record Floods (old new : WireView) : Type 0 where
@@ -198,14 +193,14 @@ Served (Err error.Disk) old new = RefusesToOpen world.Disk old new ⊎ FailsAtLa
 Served (Err (error.Damaged file place)) old new = RefusesToOpen (world.Damaged file place) old new
 Served (Err (error.Limit limit.Moment)) old new = ComesTooLate old new
 Served (Err (error.Limit limit.Journal)) old new = IsFull old new
-Served (Err error.Memory) old new = RefusesToOpen world.Memory old new ⊎ WantsMemory old new ⊎ LacksMemoryAtLast old new
+Served (Err error.Memory) old new = RefusesToOpen world.Memory old new ⊎ Finds state.NoMemory old new ⊎ LacksMemoryAtLast old new
 Served (Err other) old new = ⊥
 
 -- What a call answers, unless it was flooded, by what broke its link: at the end of input it is Ok, and each other cause is told by its
--- own refusal. (A parcel that is lost for want of memory is told by the count of mishaps, while that can rise.)
+-- own refusal.
 pub record TellsLink (r : Result ℕ WireError) (new : WireView) : Type 0 where
   pub ended : new.lines.state ≡ state.Ended → IsOk r
   pub failed : new.lines.state ≡ state.Failed → r ≡ Err error.Link
   pub too_long : new.lines.state ≡ state.TooLong → r ≡ Err error.TooLong
   pub not_over : new.lines.state ≢ state.PassedOver
-  pub no_memory : new.lines.state ≡ state.NoMemory → new.site.counts.mishaps < last_count → r ≡ Err error.Memory
+  pub no_memory : new.lines.state ≡ state.NoMemory → r ≡ Err error.Memory

@@ -28,7 +28,6 @@ use Rattle.oc2_wire_site.specs.Wires.{WireView}
 use Rattle.oc2_wire_site.specs.declared.link_state.LinkState.{LinkState}
 use Rattle.oc2_wire_site.specs.declared.link_state.LinkState.TheVariants as state
 use Rattle.oc2_wire.specs.Answering.{ReadsNoLine, Served, Serves, TellsLink, found_by, most_idle}
-use Rattle.oc2_wire.specs.ReplyWires.{StaysWhole}
 use Rattle.oc2_wire.specs.declared.error.WireError.{WireError}
 use Rattle.oc2_wire.specs.declared.error.WireError.TheVariants as error
 use Rattle.oc2_wire.specs.declared.tally.Tally.{Tally}
@@ -70,7 +69,7 @@ OpenedAs (Err error) old new = RefusesFilters error old new
 pub record Opened (r : Result (List ActuatorView) WorldError) (old new : WireView) : Type 0 where
   pub opened : OpenedAs r old.site new.site
   pub reads_none : ReadsNoLine old new
-  pub whole : OnErr r (StaysWhole new)
+  pub whole : OnErr r (new.lines.state ≡ state.Whole)
 
 -- ---- a command that is taken
 
@@ -131,7 +130,7 @@ pub record Handed (r : Result Bool ActError) (parcel : Parcel) (moment : ℕ) (o
   pub answers : OneAnswers r parcel moment old.site new.site fs gs
   pub filters : OnOk r (FiltersReady gs new.site)
   pub reads_none : ReadsNoLine old new
-  pub whole : OnErr r (StaysWhole new)
+  pub whole : OnErr r (new.lines.state ≡ state.Whole)
 
 -- the clock was asked for no later moment
 pub record Asks (old new : WireView) : Type 0 where

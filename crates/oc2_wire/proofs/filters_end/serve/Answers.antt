@@ -10,7 +10,7 @@ returns-in-Err g c =
     let old = wire_of g.S.Disk.view g.K.Link.view c.args.wire.now in
     let now = wire_of g.S.Disk.view g.K.Link.view c.open_filters.new.wire in
     subst (λ e. Ended (Err e) old now) (sym c.of_opening.ensures)
-    (refused_first old now c.in-Err.error c.is_sound.ensures refl refl c.in-Err.ensures.opened c.in-Err.ensures.reads_none c.in-Err.ensures.whole c.requires.whole c.requires.answering)
+    (refused_first old now c.in-Err.error c.is_sound.ensures refl refl c.in-Err.ensures.opened c.in-Err.ensures.reads_none c.in-Err.ensures.whole c.requires.answering)
 
 pub loop-parcel-init : goal.loop-parcel-init
 loop-parcel-init g c = record {
