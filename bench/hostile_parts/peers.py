@@ -4,17 +4,19 @@ import statistics
 import time
 
 from .books import AGENTS, END, action, deny, identifier, playbook, short, starts, text_of
-from .hands import DISK_FAILED, Started
+from .hands import DISK_FAILED
 from .journal import ENGINE, Damaged, Kept, agent_file, disagreement, is_answered, line_front, record
 from .play import Folder, progress
-from .processes import children, end, ends, goes_on, listening, resident
+from .processes import Watched, children, end, ends_by_a_connection, goes_on, holds_nothing, is_waiting, left_in, resident, told_of
 from .reference import is_record, reports
 from .stops import KILLED, numbers
-from .wires import DENY, PEERS_FAILED, Filters, clients, reading, send, servers
+from .wires import DENY, PEERS_FAILED, Filters, Limited, clients, reading, send, servers
 
 ENDED = (0, 6)
 # What a `pair` may end with where calls and requests of either end fail.
 FAULTY = (0, 3, 6, 8, 9, 10, 17)
+UNSAID = (9, [])
+LONG = 1800  # the seconds that a `pair` of many commands may take
 
 
 def sturdy(turns):
@@ -54,7 +56,7 @@ class Both:
     """A `pair` that goes on, and the `filters` that it started, once that is there."""
 
     def __init__(self, program, folder, words):
-        self.engine = Started(program, folder, words)
+        self.engine = Limited(program, folder, words)
 
     def filters(self, seconds=5.0):
         """The process of its `filters`; None where there is none yet, or no more."""
@@ -63,11 +65,6 @@ class Both:
             for pid in children(self.engine.process.pid):
                 return pid
         return None
-
-
-def is_waiting(pid):
-    """Whether it waits for a connection, as it does where its `pair` was killed before it connected."""
-    return goes_on(pid) and bool(listening(pid))
 
 
 class Round:
@@ -106,22 +103,17 @@ class Round:
             self.kills += 1
         ended = both.engine.end()
         self.saids.append(ended)
-        if filters:
-            self.gone(filters)
+        self.gone(folder, ended.status == KILLED)
         self.look(folder, f"{word} killed after {after:.6f} s{', at the filters' if at_filters else ''}")
         return ended
 
-    def gone(self, pid):
-        """`filters` ends by itself; one that waits for a connection, since its `pair` was killed before it connected, is counted and ended."""
-        until = time.monotonic() + 20
-        while goes_on(pid) and time.monotonic() < until:
-            if is_waiting(pid):
-                time.sleep(0.5)
-                if is_waiting(pid):
-                    self.waiting += 1
-                    end(pid)
-            time.sleep(0.001)
-        if not self.row.expect(not goes_on(pid), "a `filters` is left behind, and does not wait for a connection"):
+    def gone(self, folder, may_wait):
+        """Each process of a session has ended, or does by itself. But where its `pair` could not end it (`may_wait`), a `filters` with which
+        nobody connected may wait for a connection, holding no lock: it is counted, and has to end by a connection that is closed again."""
+        for pid in left_in(folder):
+            if self.row.expect(may_wait and is_waiting(pid) and holds_nothing(pid, folder), told_of(pid)):
+                self.waiting += 1
+                self.row.expect(ends_by_a_connection(pid), f"a connection that is closed again does not end it: {told_of(pid)}")
             end(pid)
 
     def look(self, folder, how):
@@ -163,7 +155,7 @@ def undisturbed(program, row, files, words):
     """What a `run` leaves, and a `pair` the same but for the moments of acts; and the seconds that a `pair` takes."""
     found, taken = [], []
     for word in ("run", "pair", "pair", "pair"):
-        with Folder(files) as folder:
+        with Watched(row, files) as folder:
             begin = time.perf_counter()
             played = program.play(folder, [word, *words])
             taken.append(time.perf_counter() - begin)
@@ -182,13 +174,13 @@ def killed(program, table, rounds, draw):
         waiting = 0
         for number in range(max(1, rounds // len(BOOKS))):
             row.tries += 1
-            with Folder(files) as folder:
+            with Watched(row, files) as folder:
                 one = Round(program, row, files, words, draw, seconds)
                 if one.play(folder, number):
                     one.ended(folder, wanted)
                 row.stopped += one.kills
                 waiting += one.waiting
-        table.note(f"pair: {what}: {waiting} `filters` waited for a connection, since their `pair` was killed before it connected; they were ended")
+        table.note(f"pair: {what}: {waiting} `filters` waited for a connection, since their `pair` was killed before it connected; a connection ended each")
 
 
 # -- in one folder ---------------------------------------------------------------------------------------------------------------------
@@ -206,8 +198,8 @@ def beside(program, table, rounds):
         row, alone = table.row("pair", f"begun at one time: {what}"), 0
         for number in range(rounds):
             row.tries += 1
-            with Folder(files) as folder:
-                begun = [Started(program, folder, words) for words in (two if number % 2 else two[::-1])]
+            with Watched(row, files) as folder:
+                begun = [Limited(program, folder, words) for words in (two if number % 2 else two[::-1])]
                 played = [one.end() for one in begun]
                 how = " and ".join(map(str, played))
                 one = Round(program, row, files, run, None, 0)
@@ -233,9 +225,9 @@ def filters_beside(program, table, rounds):
     files, words = BOOKS["a loop of 40 turns"]
     for _ in range(rounds):
         row.tries += 1
-        with Folder(files) as folder:
+        with Watched(row, files) as folder:
             filters = Filters(program, folder)
-            run = Started(program, folder, ["run", *words])
+            run = Limited(program, folder, ["run", *words])
             with filters.connect() as client:
                 came, reader = reading(client)
                 send(client, [b"c 2 9 0 " + DENY + b"\n"], 0)
@@ -275,18 +267,22 @@ def faulty(program, case, table, rounds, draw):
         for number in numbers(draw, most["calls"], rounds):
             shims += [{"FAIL": number, "ERRNO": code} for code in (errno.EIO, errno.ECONNRESET, errno.EINTR)]
             shims += [{"FAIL_FROM": number}, {"SHORT": number}]
-        for shim in shims:
-            fault_once(program, case, row, words, {**shim, "ONLY": word})
+        waiting = sum(fault_once(program, case, row, words, {**shim, "ONLY": word}) for shim in shims)
+        if word == "pair":
+            table.note(f"pair: {waiting} `filters` waited for a connection, since all calls of their `pair` failed, that which ends them too; a connection ended each")
     return None
 
 
 def fault_once(program, case, row, words, shim):
+    """One such fault; how many `filters` it left that wait for a connection."""
     row.tries += 1
-    with Folder(case.files) as folder:
+    with Watched(row, case.files) as folder:
         played, how = program.play(folder, words, shim=shim), f"{shim}"
         one = Round(program, row, case.files, words[1:], None, 0)
         one.saids = [played]
         row.stopped += played.status != 0
+        # Where the calls by which `pair` connects fail, and all behind them, it can neither end its `filters` nor say a line.
+        one.gone(folder, shim["ONLY"] == "pair" and "FAIL_FROM" in shim and (played.status, played.lines) == UNSAID)
         row.expect(played.status in FAULTY and ("SHORT" not in shim or played.status == 0), f"{how}: {played}")
         kept = one.look(folder, how)
         row.expect("SHORT" not in shim or kept is None or is_acted(kept), f"{how}: an issue expired")
@@ -294,6 +290,7 @@ def fault_once(program, case, row, words, shim):
             last = program.play(folder, [word, *words[1:]])
             row.expect(last.status in ENDED, f"{how}, and then {last}")
         one.look(folder, f"{how}, and at the end")
+    return one.waiting
 
 
 # -- many commands -----------------------------------------------------------------------------------------------------------------------
@@ -303,7 +300,7 @@ def steady(program, table, most):
     """So many commands over one connection: the memory of `filters` grows by what it keeps of each, and of a `pair` too."""
     row = table.row("pair", f"{most:,} commands over one connection")
     row.tries += 1
-    with Folder() as folder:
+    with Watched(row) as folder:
         filters, held = Filters(program, folder), []
         with filters.connect() as client, client.makefile("rb") as answers:
             for issue in range(most):
@@ -317,17 +314,18 @@ def steady(program, table, most):
         row.what += f": from {held[0]:,} bytes to {held[-1]:,}, {grown:.0f} a command"
         row.expect(grown < 1_500, f"the memory grew by {grown:.0f} bytes a command: {held}")
     files, words = {"loop.json": text_of(sturdy(most))}, ["--run", "7", "loop.json"]
-    with Folder(files) as folder:
+    with Watched(row, files) as folder:
         both, held = Both(program, folder, ["pair", *words]), []
-        pid = both.filters()
+        pid, until = both.filters(), time.monotonic() + LONG
         while both.engine.goes_on():
+            if time.monotonic() > until:
+                end(both.engine.process.pid)
             held.append((resident(both.engine.process.pid), resident(pid)))
             time.sleep(0.05)
         ended = both.engine.end()
         row.tries += 1
         row.expect(ended.status == 0 and len(ended.lines) == 5 * most + 5, f"{ended}, {len(ended.lines)} lines")
         row.what += f"; a `pair` of as many held at most {max(one for one, _ in held):,} and {max(one for _, one in held):,}"
-        row.expect(ends(pid), "its `filters` is left behind")
 
 
 def pair(program, cases, table, rounds, draw):

@@ -10,8 +10,8 @@ import time
 from .hands import Started
 from .journal import Damaged, Kept, agent_file, kinds, record
 from .lines import MOST_IDLE, MOST_LINE, MOST_TEXT, agree, command
-from .play import Folder, Played, progress, put
-from .processes import HERE, children, end, ends, goes_on, is_refused, listening
+from .play import SECONDS, Played, progress, put
+from .processes import HERE, Watched, children, end, ends, goes_on, is_refused, listening
 from .reference import is_record
 
 DENY = b'{"action":"deny","target":{"ipv4_net":"198.51.100.7"}}'
@@ -26,7 +26,16 @@ RESET = struct.pack("ii", 1, 0)  # a socket that is closed then answers with a r
 # -- a client --------------------------------------------------------------------------------------------------------------------------
 
 
-class Filters(Started):
+class Limited(Started):
+    """A run of the program that goes on beside others, and is ended where it does not end by itself within five minutes."""
+
+    def end(self):
+        if not ends(self.process.pid, SECONDS):
+            end(self.process.pid)
+        return super().end()
+
+
+class Filters(Limited):
     """A `filters` that goes on, and the port that it said."""
 
     def __init__(self, program, folder):
@@ -91,7 +100,7 @@ class Clients:
     def talk(self, row, pieces, right=QUIET, pause=0.0, before=None):
         """A client sends these pieces and then ends its side: each line has its answer, and `filters` ends so, with no further line."""
         row.tries += 1
-        with Folder(before) as folder:
+        with Watched(row, before) as folder:
             filters = Filters(self.program, folder)
             if not row.expect(filters.port, f"no port was said: {filters.said_port()}"):
                 return None
@@ -175,7 +184,7 @@ class Clients:
     def held_open(self, row):
         """A line without an end, over a connection that stays open."""
         row.tries += 1
-        with Folder() as folder:
+        with Watched(row) as folder:
             filters = Filters(self.program, folder)
             with filters.connect() as client:
                 client.sendall(b"x" * (MOST_LINE + 1))
@@ -196,7 +205,7 @@ class Clients:
         row = self.row("a client that breaks off with a reset")
         for _ in range(rounds):
             row.tries += 1
-            with Folder() as folder:
+            with Watched(row) as folder:
                 filters, sent = Filters(self.program, folder), b"".join(b"c 1 7 %d " % issue + DENY + b"\n" for issue in range(50))
                 client = filters.connect()
                 client.setsockopt(socket.SOL_SOCKET, socket.SO_LINGER, RESET)
@@ -225,7 +234,7 @@ class Clients:
     def port(self):
         """It listens at 127.0.0.1 alone, for one connection."""
         row = self.row("`filters` listens at 127.0.0.1 alone, and for one connection")
-        with Folder() as folder:
+        with Watched(row) as folder:
             row.tries += 1
             filters = Filters(self.program, folder)
             at = listening(filters.process.pid)
@@ -284,10 +293,12 @@ class Servers:
         with tempfile.TemporaryFile() as told:
             how = {"cwd": folder, "env": {"PATH": f"{folder}:/usr/bin:/bin"}, "stdin": subprocess.DEVNULL, "stdout": told, "stderr": subprocess.DEVNULL}
             process = subprocess.Popen([name, *(words or self.words())], executable=self.program.path, **how)
-            started = set()
+            started, until = set(), time.monotonic() + SECONDS
             while process.poll() is None:
                 started.update(children(process.pid))
                 time.sleep(0.002)
+                if time.monotonic() > until:
+                    process.kill()
             told.seek(0)
             return Played([name, *self.words()], process.returncode, told.read()), {pid for pid in started if goes_on(pid)}
 
@@ -305,7 +316,7 @@ class Servers:
             says += [f"echo port {silent}", f"echo port {silent}; exec sleep 1000", "echo port 0; exec sleep 1000", "echo; exec sleep 1000"]
             for said in says:
                 row.tries += 1
-                with Folder(self.case.files) as folder:
+                with Watched(row, self.case.files) as folder:
                     begun = time.monotonic()
                     played, left = self.pair(folder, said)
                     row.stopped += 1
@@ -316,14 +327,14 @@ class Servers:
                     [end(pid) for pid in left]
         for name in ("./none", "none", "/", "", "./book.json", "stand-in/none"):
             row.tries += 1
-            with Folder(self.case.files) as folder:
+            with Watched(row, self.case.files) as folder:
                 played, _ = self.pair(folder, "echo port 0", name)
                 row.expect((played.status, played.lines) == PEERS_FAILED, f"started by {name!r}: {played}")
 
     def answered(self, row, came, wanted, close=True):
         """`pair` sends its lines to a server that answers each with these bytes; the records are those of the lines that carry a reply to it."""
         row.tries += 1
-        with Folder(self.case.files) as folder, socket.socket() as listener:
+        with Watched(row, self.case.files) as folder, socket.socket() as listener:
             listener.bind(("127.0.0.1", 0))
             listener.listen(1)
             got = []

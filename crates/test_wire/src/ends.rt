@@ -1,0 +1,96 @@
+// Rows that make one end of a wire, and those of calls on it.
+use crate::links::{call_list, pieces};
+use crate::plans::{site, whole_link};
+use crate::streams::{long_command, nothings};
+use crate::wires::Wires;
+use cacao_site_memory::MemorySite;
+use oc2_wire_memory::MemoryLink;
+use std::alloc::{AllocError, Global};
+use test_rows::Row;
+use test_site_calls::answers::text;
+use test_site_calls::number;
+
+/// Ends of wires in memory.
+pub(crate) type Ends = Wires<MemorySite, MemoryLink>;
+
+/// The link of a row `asks ROOM FAILING PIECE ..`.
+fn link_over_pieces(alloc: Global, row: &Row) -> Result<MemoryLink, AllocError> {
+    let failing = call_list(alloc, row.text(2))?;
+    let pieces = pieces(alloc, row)?;
+    MemoryLink::new(alloc, pieces, failing, number(row, 1).min(1_000_000))
+}
+
+/// A link that brings a command of so many bytes, with its line feed.
+fn link_of_line(alloc: Global, row: &Row) -> Result<MemoryLink, AllocError> {
+    let mut line = long_command(alloc, number(row, 1).saturating_sub(1))?;
+    line.push(b'\n')?;
+    whole_link(alloc, line, 1_000)
+}
+
+/// A link that brings so many lines that stand for nothing.
+fn link_of_nothings(alloc: Global, row: &Row) -> Result<MemoryLink, AllocError> {
+    let lines = nothings(alloc, number(row, 1))?;
+    whole_link(alloc, lines, number(row, 2).min(4_000_000))
+}
+
+/// The link of a row that makes an end.
+fn link(alloc: Global, row: &Row) -> Result<MemoryLink, AllocError> {
+    match row.text(0) {
+        "line" => link_of_line(alloc, row),
+        "rest" => whole_link(alloc, long_command(alloc, number(row, 1))?, 1_000),
+        "flood" => link_of_nothings(alloc, row),
+        _ => link_over_pieces(alloc, row),
+    }
+}
+
+/// Makes the end of a row.
+fn make(alloc: Global, ends: &mut Ends, row: &Row) -> Result<(), AllocError> {
+    let link = link(alloc, row)?;
+    let site = site(alloc)?;
+    if row.text(0) == "asks" {
+        ends.ask(site, link)
+    } else {
+        ends.reply(site, link)
+    }
+}
+
+/// The bytes that were sent, or how many, where there are many.
+fn sent(alloc: Global, link: Option<MemoryLink>) -> Result<Vec<u8>, AllocError> {
+    let Some(link) = link else {
+        return text(alloc, "no wire");
+    };
+    let count = link.sent().len();
+    if count > 1_000 {
+        let line = format!(in alloc; "{count} bytes")?;
+        return Ok(line.into_bytes());
+    }
+    Vec::from_slice(alloc, link.sent())
+}
+
+/// What comes of a row that makes an end.
+fn made(alloc: Global, ends: &mut Ends, row: &Row) -> Result<Vec<u8>, AllocError> {
+    make(alloc, ends, row)?;
+    text(alloc, "ok")
+}
+
+/// What comes of a row that gives an end up.
+fn given_up(alloc: Global, ends: &mut Ends) -> Result<Vec<u8>, AllocError> {
+    sent(alloc, ends.into_link())
+}
+
+/// What comes of a call on an end.
+fn called(alloc: Global, ends: &mut Ends, row: &Row) -> Result<Vec<u8>, AllocError> {
+    match ends.answer(row)? {
+        Some(answer) => Ok(answer),
+        None => text(alloc, "no such row"),
+    }
+}
+
+/// What comes of a row; `no such row` where there is no call of that name.
+pub(crate) fn end_answer(alloc: Global, ends: &mut Ends, row: &Row) -> Result<Vec<u8>, AllocError> {
+    match row.text(0) {
+        "asks" | "answers" | "line" | "rest" | "flood" => made(alloc, ends, row),
+        "sent" => given_up(alloc, ends),
+        _ => called(alloc, ends, row),
+    }
+}
