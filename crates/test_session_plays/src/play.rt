@@ -59,8 +59,8 @@ pub struct Files {
 /// A site on which sessions are played.
 #[derive(Drop)]
 pub struct Play {
-    alloc: Global,
-    site: MemorySite,
+    pub(crate) alloc: Global,
+    pub(crate) site: MemorySite,
 }
 
 /// Plays a session of this setup, with these answers.

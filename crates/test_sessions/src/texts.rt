@@ -1,6 +1,7 @@
 // What came of a call, as text.
 use flow_core::LimitKind;
 use flow_engine::EngineError;
+use flow_fleet::{FleetClose, FleetError};
 use flow_world::{Close, WorldError};
 use std::alloc::{AllocError, Global};
 
@@ -48,5 +49,31 @@ pub(crate) fn session_error(alloc: Global, error: WorldError) -> Result<String, 
         WorldError::Limit { .. } => String::from_str(alloc, "limit"),
         WorldError::Say => String::from_str(alloc, "not said"),
         WorldError::Memory => String::from_str(alloc, "memory"),
+    }
+}
+
+/// How a fleet closed.
+pub(crate) fn fleet_close(alloc: Global, close: FleetClose) -> Result<String, AllocError> {
+    match close {
+        FleetClose::Ended { failed: None } => String::from_str(alloc, "ended well"),
+        FleetClose::Ended { failed: Some(run) } => format!(in alloc; "ended failed {run}"),
+        FleetClose::Paused => String::from_str(alloc, "paused"),
+        FleetClose::Waiting { due } => format!(in alloc; "waiting {due}"),
+        FleetClose::Flooded => String::from_str(alloc, "flooded"),
+        FleetClose::Asked { run, issue } => format!(in alloc; "asked {run} {issue}"),
+    }
+}
+
+/// Why a fleet refused.
+pub(crate) fn fleet_error(alloc: Global, error: FleetError) -> Result<String, AllocError> {
+    match error {
+        FleetError::Disk => String::from_str(alloc, "disk failed"),
+        FleetError::Damaged { file, place } => format!(in alloc; "damaged {file} {place}"),
+        FleetError::OtherRun { held, asked } => format!(in alloc; "other run {held} {asked}"),
+        FleetError::OtherBook { run, index } => format!(in alloc; "other playbook {run} {index}"),
+        FleetError::RunUsed { run, agent } => format!(in alloc; "run used {run} {agent}"),
+        FleetError::Limit { .. } => String::from_str(alloc, "limit"),
+        FleetError::Say => String::from_str(alloc, "not said"),
+        FleetError::Memory => String::from_str(alloc, "memory"),
     }
 }

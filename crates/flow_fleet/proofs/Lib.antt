@@ -1,0 +1,16 @@
+pub mod Unnamed
+pub mod Places
+pub mod Scans
+pub mod RunSteps
+pub mod RunCalls
+pub mod FleetLemmas
+pub mod TurnLemmas
+pub mod SearchLemmas
+pub mod RecordLemmas
+pub mod ParcelLemmas
+pub mod RunsLemmas
+pub mod RunWork
+pub mod OpenLemmas
+pub mod LoopLemmas
+pub mod SteadyLemmas
+pub mod WholeLemmas

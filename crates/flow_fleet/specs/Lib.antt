@@ -1,0 +1,5 @@
+pub mod Fleets
+pub mod Journals
+pub mod Leads
+pub mod Searches
+pub mod Used

@@ -1,0 +1,9 @@
+pub mod StepKinds
+pub mod Adding
+pub mod Costs
+pub mod Written
+pub mod Puts
+pub mod Whole
+pub mod Asked
+pub mod Ends
+pub mod Floods
