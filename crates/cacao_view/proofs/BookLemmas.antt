@@ -14,7 +14,7 @@ use Rattle.cacao_view.specs.BookStatuses.{BookStatus, HasEnd}
 
 -- ---- the status of a file that gave no bytes
 
-abbrev file_list : List ℕ
+abbrev pub file_list : List ℕ
 file_list = 3 ∷ 4 ∷ 10 ∷ 11 ∷ []
 
 content-end : (file : File) (content : Content) (end : End) → text_in file content ≡ Err end → IsOneOf (status_of end) file_list
@@ -24,7 +24,7 @@ content-end file too_long end e = let is : end ≡ past file.limit = cc in inr (
 content-end file failed end e = let is : end ≡ shelf_failed file.name = cc in inl (ap status_of is)
 content-end file no_room end e = let is : end ≡ no_memory = cc in inr (inr (inl (ap status_of is)))
 
-file-end : (told : Option Files) (list : List File) (count : ℕ) (read : Read) (end : End) → Reads told list count read → read ≡ Err end → IsOneOf (status_of end) file_list
+pub file-end : (told : Option Files) (list : List File) (count : ℕ) (read : Read) (end : End) → Reads told list count read → read ≡ Err end → IsOneOf (status_of end) file_list
 file-end told list count read end all_read e = absurd (cc)
 file-end told list count read end (wants_memory file behind) e = let is : end ≡ no_memory = cc in inr (inr (inl (ap status_of is)))
 file-end told list count read end (stops file behind content stop gives is) e =

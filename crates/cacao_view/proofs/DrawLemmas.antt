@@ -14,7 +14,7 @@ use Rattle.cacao_view.specs.Drawing.{Draws, DrawsTexts, Pictures, PicturesRead}
 use Rattle.cacao_view.proofs.BookLemmas.{books-failed, books-listed, books-status, books-steady, books_list, texts_list}
 
 -- a text without a tree
-treeless-five : (texts : List NamedText) (why : End) → trees_of texts ≡ Err why → status_of why ≡ 5
+pub treeless-five : (texts : List NamedText) (why : End) → trees_of texts ≡ Err why → status_of why ≡ 5
 treeless-five texts why e = go (trees_case texts)
   where
     go : TreesCase texts → status_of why ≡ 5

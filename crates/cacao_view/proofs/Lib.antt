@@ -1,7 +1,12 @@
 pub mod BookLemmas
 pub mod BookReadLemmas
+pub mod BreakLemmas
+pub mod CauseLemmas
 pub mod DrawLemmas
 pub mod DrawingLemmas
 pub mod EndedLemmas
+pub mod FileLemmas
+pub mod FlightLemmas
+pub mod OpenedLemmas
 pub mod ReportLemmas
 pub mod SayLemmas

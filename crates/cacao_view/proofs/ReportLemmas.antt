@@ -4,13 +4,15 @@ use Rattle.std.proofs.lemmas.Bool.{true≢false}
 use Rattle.cacao_site.specs.Counts.{next_count}
 use Rattle.cacao_site.specs.View.{SiteView}
 use Rattle.cacao_site.proofs.Beats.{each-keeps, since-start}
-use Rattle.cacao_cli_ends.specs.Ends.{End, is_fault, shelf_failed, status_of, text_of, unsaid}
+use Rattle.cacao_cli_ends.specs.Ends.{End, disk_failed, is_fault, shelf_failed, status_of, text_of, unsaid}
 use Rattle.cacao_cli_ends.specs.Lines.{SaysWork, Tells}
+use Rattle.cacao_cli_ends.specs.Stays.{WritesNothing}
 use Rattle.cacao_cli_ends.proofs.EndLemmas.{no-more}
 use Rattle.cacao_cli_ends.proofs.LineLemmas.{IsCutOff, says-status}
 use Rattle.cacao_cli_ends.proofs.SayingLemmas.{SaysSome}
 use Rattle.cacao_cli_ends.proofs.UnsaidLemmas.{last-disk, works-disk, works-said, works-unsaid}
-use Rattle.cacao_cli_looks.proofs.OpenLemmas.{work-some}
+use Rattle.cacao_cli_looks.specs.Openings.{Opens}
+use Rattle.cacao_cli_looks.proofs.OpenLemmas.{nothing-written, work-some}
 use Rattle.cacao_view_words.specs.Texts.{Text}
 use Rattle.cacao_view.specs.Ends as as_said
 use Rattle.cacao_view.specs.Lines as as_told
@@ -55,6 +57,14 @@ module _ (Told : List Text → End → Type 0) (old mid new : SiteView) (last : 
       by (inl (inr t)) = inr t.answers
       by (inr t) = absurd (true≢false t.no_fault)
 
+  pub disk-failure : h.end ≡ disk_failed → (answer ≡ 8) ⊎ (answer ≡ 9)
+  disk-failure e = failure disk_failed refl e by
+    where
+      by : Tells disk_failed mid new answer → (answer ≡ 8) ⊎ (answer ≡ 9)
+      by (inl (inl t)) = inl t.answers
+      by (inl (inr t)) = inr t.answers
+      by (inr t) = absurd (true≢false t.no_fault)
+
 -- ---- nothing was written
 
 pub some-looks : (old new : SiteView) → SaysSome 1 old new → OnlyLooks old new
@@ -68,3 +78,18 @@ some-looks old new h = record {
   time = h.time;
   mishaps = h.mishaps;
 }
+
+writes-looks : (old new : SiteView) → WritesNothing 0 old new → OnlyLooks old new
+writes-looks old new h = record {
+  images = h.reads_only;
+  written = h.written;
+  puts = h.link.puts;
+  taken = h.link.taken;
+  empty_takes = h.link.empty_takes;
+  pending = h.link.pending;
+  time = h.time;
+  mishaps = h.mishaps;
+}
+
+pub opened-looks : (old between new : SiteView) → Opens 0 old between → SaysSome 1 between new → OnlyLooks old new
+opened-looks old between new opens says = writes-looks old new (nothing-written 0 old between new opens says)

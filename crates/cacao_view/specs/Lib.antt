@@ -3,8 +3,13 @@ pub mod BookStatuses
 pub mod Comes
 pub mod Drawing
 pub mod Ends
+pub mod Explaining
+pub mod Flying
 pub mod Lines
+pub mod LogStatuses
+pub mod Logging
 pub mod Looks
+pub mod OpeningRuns
 pub mod Reports
 pub mod Told
 pub mod Work

@@ -14,3 +14,8 @@ pub record Reports (Tells : List Text → of_cacao.End → Type 0) (old new : Si
   pub left : of_cacao.End
   pub says : of_cacao_lines.SaysWork lines end old new left
   pub ends : last ≡ ends_as left
+
+-- the same behind a file of the disk that was opened
+pub record ReportsOpened (Tells : SiteView → SiteView → List Text → of_cacao.End → Type 0) (old new : SiteView) (last : End) : Type 0 where
+  pub between : SiteView
+  pub reports : Reports (Tells old between) between new last

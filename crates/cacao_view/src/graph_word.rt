@@ -44,7 +44,7 @@ pub(crate) fn graph<'w, L: Shelf>(
 }
 
 /// The names of the files of the playbooks, in order.
-fn names_of<'w>(
+pub(crate) fn names_of<'w>(
     alloc: Global,
     book: &'w str,
     libraries: &'w [String],

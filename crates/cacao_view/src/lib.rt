@@ -2,7 +2,10 @@
 #![tactic(auto)]
 
 mod end;
+mod explain_word;
 mod graph_word;
+mod log_word;
+mod preflight_word;
 mod program;
 mod say;
 

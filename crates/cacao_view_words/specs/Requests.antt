@@ -1,6 +1,7 @@
 -- Promise: What the words ask for: one case and one row a word.
-use Rattle.std.specs.Prelude.{Bool, false, not, ◌&&◌, ◌==◌, nat_lt, nat_le, List, [], ◌∷◌, length, Option, Some, None, codes, if◌then◌else◌}
+use Rattle.std.specs.Prelude.{Bool, true, false, not, ◌&&◌, ◌==◌, nat_lt, nat_le, List, [], ◌∷◌, length, Option, Some, None, codes, if◌then◌else◌}
 use Rattle.std.specs.List.{list_all}
+use Rattle.std.specs.Str.{bytes_eq}
 use Rattle.cacao_view_words.specs.Rules.{NamedRule, rule_in}
 use Rattle.cacao_view_words.specs.Texts.{Text}
 use Rattle.cacao_view_words.specs.Topics.{Named, first_named, named, topic_in}
@@ -13,8 +14,11 @@ pub data Request : Type 0 where
   helps : Request
   helps_with : (topic : Topic) → Request
   tells_version : Request
+  logs : (as_json : Bool) (engine : Option Text) → Request  -- the file of the disk where none is named
   graphs : (books : List Text) → Request
   explains : (rule : NamedRule) → Request
+  explains_books : (books : List Text) → Request
+  preflights : (bind : Option Text) (books : List Text) → Request  -- with the bindings in this file
   lacks : (wanted : Wanted) → Request
 
 -- what was found is asked for, or that was wanted
@@ -41,16 +45,55 @@ begins_hyphen (c ∷ cs) = c == 45
 abbrev pub is_name : Text → Bool
 is_name word = nat_lt 0 (length word) && (nat_le (length word) 1024 && not (begins_hyphen word))
 
+abbrev pub logs_file : Bool → Text → Request
+logs_file as_json word = if is_name word then logs as_json (Some word) else lacks want.Log
+
+abbrev pub is_json : Text → Bool
+is_json word = bytes_eq word (codes "--json")
+
+-- `--json` and the name of a file, in either order, each at most once
+abbrev pub log_asks : List Text → Request
+log_asks [] = logs false None
+log_asks (word ∷ []) = if is_json word then logs true None else logs_file false word
+log_asks (first ∷ second ∷ []) =
+    if is_json first then logs_file true second else (if is_json second then logs_file true first else lacks want.Log)
+log_asks (first ∷ second ∷ third ∷ names) = lacks want.Log
+
 -- the names of the files of playbooks, at least one
 abbrev pub graph_asks : List Text → Request
 graph_asks [] = lacks want.Graph
 graph_asks (book ∷ libraries) = if is_name book && list_all is_name libraries then graphs (book ∷ libraries) else lacks want.Graph
 
--- one name, which is a rule's
+abbrev pub explain_books_asks : List Text → Request
+explain_books_asks [] = lacks want.Rule
+explain_books_asks (book ∷ libraries) =
+    if is_name book && list_all is_name libraries then explains_books (book ∷ libraries) else lacks want.Rule
+
+-- the rule, or the playbook where the name is no rule's
+abbrev pub rule_or_book : Text → Option NamedRule → Request
+rule_or_book name None = explain_books_asks (name ∷ [])
+rule_or_book name (Some rule) = explains rule
+
+-- one name, which is a rule's, or names of the files of playbooks
 abbrev pub explain_asks : List Text → Request
 explain_asks [] = lacks want.Rule
-explain_asks (name ∷ []) = or_lacks want.Rule explains (rule_in name)
-explain_asks (name ∷ other ∷ names) = lacks want.Rule
+explain_asks (name ∷ []) = rule_or_book name (rule_in name)
+explain_asks (name ∷ other ∷ names) = explain_books_asks (name ∷ other ∷ names)
+
+abbrev pub preflight_books_asks : Option Text → List Text → Request
+preflight_books_asks bind [] = lacks want.Playbook
+preflight_books_asks bind (book ∷ libraries) =
+    if is_name book && list_all is_name libraries then preflights bind (book ∷ libraries) else lacks want.Playbook
+
+abbrev pub bound_asks : List Text → Request
+bound_asks [] = lacks want.Playbook
+bound_asks (bind ∷ books) = if is_name bind then preflight_books_asks (Some bind) books else lacks want.Playbook
+
+-- the names of the files of playbooks, at least one, and before them `--bind` and the name of a file, or not
+abbrev pub preflight_asks : List Text → Request
+preflight_asks [] = lacks want.Playbook
+preflight_asks (word ∷ names) =
+    if bytes_eq word (codes "--bind") then bound_asks names else preflight_books_asks None (word ∷ names)
 
 -- what the names behind a first word ask for
 abbrev pub commands : List (Named (List Text → Request))
@@ -60,8 +103,10 @@ commands =
     ∷ named (codes "-h") help_asks
     ∷ named (codes "version") version_asks
     ∷ named (codes "--version") version_asks
+    ∷ named (codes "log") log_asks
     ∷ named (codes "graph") graph_asks
     ∷ named (codes "explain") explain_asks
+    ∷ named (codes "preflight") preflight_asks
     ∷ []
 
 abbrev pub asks_of : List Text → Option (List Text → Request) → Request

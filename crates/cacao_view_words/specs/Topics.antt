@@ -5,7 +5,7 @@ use Rattle.cacao_view_words.specs.Texts.{Text}
 use Rattle.cacao_view_words.specs.declared.topic.Topic.{Topic}
 use Rattle.cacao_view_words.specs.declared.topic.Topic.TheVariants as word
 use Rattle.cacao_view_words.specs.declared.topic_texts.TheConstants.{CANON, CHECK, RUN, PAIR, FILTERS, SHOW, RULES, DECIDE, SHADOW, AUDIT}
-use Rattle.cacao_view_words.specs.declared.topic_texts.TheConstants.{REHEARSE, HELP, VERSION, GRAPH, EXPLAIN, ALL_WORDS, VERSION_LINES}
+use Rattle.cacao_view_words.specs.declared.topic_texts.TheConstants.{REHEARSE, HELP, VERSION, LOG, GRAPH, EXPLAIN, PREFLIGHT, ALL_WORDS, VERSION_LINES}
 
 -- a word, and what stands for it
 pub record Named (A : Type 0) : Type 0 where
@@ -36,8 +36,10 @@ topics =
     ∷ named (codes "rehearse") word.Rehearse
     ∷ named (codes "help") word.Help
     ∷ named (codes "version") word.Version
+    ∷ named (codes "log") word.Log
     ∷ named (codes "graph") word.Graph
     ∷ named (codes "explain") word.Explain
+    ∷ named (codes "preflight") word.Preflight
     ∷ []
 
 abbrev pub topic_in : Text → Option Topic
@@ -57,8 +59,10 @@ topic_lines word.Audit = map (λ line. line.now) AUDIT.now
 topic_lines word.Rehearse = map (λ line. line.now) REHEARSE.now
 topic_lines word.Help = map (λ line. line.now) HELP.now
 topic_lines word.Version = map (λ line. line.now) VERSION.now
+topic_lines word.Log = map (λ line. line.now) LOG.now
 topic_lines word.Graph = map (λ line. line.now) GRAPH.now
 topic_lines word.Explain = map (λ line. line.now) EXPLAIN.now
+topic_lines word.Preflight = map (λ line. line.now) PREFLIGHT.now
 
 -- what is said of all words, and of the version
 abbrev pub all_words : List Text

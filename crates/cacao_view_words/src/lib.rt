@@ -1,6 +1,8 @@
 //! The words of the program that only looks: what they ask for, and what is said of words and rules.
 #![tactic(auto)]
 
+mod books;
+mod log;
 mod rule;
 mod rule_texts;
 mod topic;

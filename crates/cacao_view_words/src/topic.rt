@@ -4,8 +4,8 @@ ghost use Rattle.cacao_view_words.specs.Texts.{AreLines, lines_in};
 ghost use Rattle.cacao_view_words.specs.Topics.{all_words, topic_in, topic_lines, version_lines};
 
 use crate::topic_texts::{
-    ALL_WORDS, AUDIT, CANON, CHECK, DECIDE, EXPLAIN, FILTERS, GRAPH, HELP, PAIR, REHEARSE, RULES,
-    RUN, SHADOW, SHOW, VERSION, VERSION_LINES,
+    ALL_WORDS, AUDIT, CANON, CHECK, DECIDE, EXPLAIN, FILTERS, GRAPH, HELP, LOG, PAIR, PREFLIGHT,
+    REHEARSE, RULES, RUN, SHADOW, SHOW, VERSION, VERSION_LINES,
 };
 
 /// A word of one of the two programs.
@@ -24,8 +24,10 @@ pub enum Topic {
     Rehearse,
     Help,
     Version,
+    Log,
     Graph,
     Explain,
+    Preflight,
 }
 
 impl Topic {
@@ -48,8 +50,10 @@ impl Topic {
             Topic::Rehearse => REHEARSE,
             Topic::Help => HELP,
             Topic::Version => VERSION,
+            Topic::Log => LOG,
             Topic::Graph => GRAPH,
             Topic::Explain => EXPLAIN,
+            Topic::Preflight => PREFLIGHT,
         }
     }
 }
@@ -97,11 +101,17 @@ pub(crate) fn topic_in(word: &str) -> Option<Topic>
     if word == "version" {
         return Some(Topic::Version);
     }
+    if word == "log" {
+        return Some(Topic::Log);
+    }
     if word == "graph" {
         return Some(Topic::Graph);
     }
     if word == "explain" {
         return Some(Topic::Explain);
+    }
+    if word == "preflight" {
+        return Some(Topic::Preflight);
     }
     None
 }

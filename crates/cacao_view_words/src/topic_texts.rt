@@ -15,8 +15,11 @@ pub(crate) const ALL_WORDS: &[&str] = &[
     "cacao rehearse N: makes a playbook of N positions and runs it in memory, as in: cacao rehearse 3\n",
     "cacao-view help [WORD]: says these lines, or what there is to know of one word, as in: cacao-view help run\n",
     "cacao-view version: says the version, and of which standards, as in: cacao-view version\n",
+    "cacao-view log [--json] [ENGINE]: says the records of a run again, as in: cacao-view log --json\n",
     "cacao-view graph BOOK [LIBRARY..]: says playbooks as a picture in DOT, as in: cacao-view graph a.json\n",
     "cacao-view explain RULE: says a rule and how a break of it is usually mended, as in: cacao-view explain K22\n",
+    "cacao-view explain BOOK [LIBRARY..]: says where the first break of playbooks is, and what is at fault, as in: cacao-view explain a.json b.json\n",
+    "cacao-view preflight [--bind FILE] BOOK [LIBRARY..]: says what cacao run would refuse, and warns of what it would take, as in: cacao-view preflight a.json\n",
 ];
 
 pub(crate) const CANON: &[&str] = &[
@@ -111,6 +114,14 @@ pub(crate) const VERSION: &[&str] = &[
     "Status 0: it was said. 2: there were more words. 9: a line could not be written. 10: memory was wanted.\n",
 ];
 
+pub(crate) const LOG: &[&str] = &[
+    "cacao-view log [--json] [ENGINE]\n",
+    "Says the records that engine.journal in this folder keeps, or the file ENGINE, a line each, as cacao run said them; with --json an object a line. It writes nothing.\n",
+    "Each object has kind, moment, number and run. A begin has books and bind too, a walk task and step, a send task, issue, agent and command, a reply issue, status, rule and text, an expire issue, an upgrade version, an ask task, issue and question, a told issue, status and answer.\n",
+    "Status 0: they were said. 3 and 4: the file ENGINE could not be read, or is not there. 8: the disk failed. 11: the file is longer than 67,108,864 bytes, or the run has more than 1,000,000 tasks. 13: the file is damaged.\n",
+    "Status 2: the words were not understood. 9: a line could not be written. 10: memory was wanted.\n",
+];
+
 pub(crate) const GRAPH: &[&str] = &[
     "cacao-view graph BOOK [LIBRARY..]\n",
     "Says the playbooks, where they together break none of the rules K1 to K25, as a picture in DOT, the language of Graphviz: cacao-view graph a.json | dot -Tsvg -o a.svg. Each playbook and each region of a control step is a cluster, each step a node, each link an edge. At most 16 playbooks. It reads their files and no other.\n",
@@ -121,7 +132,18 @@ pub(crate) const GRAPH: &[&str] = &[
 pub(crate) const EXPLAIN: &[&str] = &[
     "cacao-view explain RULE\n",
     "Says the sentence of a rule, K1 to K25 of playbooks or B1 to B3 of bindings, and how a break of it is usually mended, a line each. cacao check and cacao run name the rule that is broken.\n",
-    "Status 0: it was said. 2: there is no such rule. 9: a line could not be written. 10: memory was wanted.\n",
+    "Status 0: it was said. 9: a line could not be written. 10: memory was wanted.\n",
+    "cacao-view explain BOOK [LIBRARY..]\n",
+    "Says what cacao check says of these playbooks, and before it what is at fault and where: the step and its name, the member or the link, its line and column, and the rule; of a text that is not JSON where, and what was expected. A playbook whose file has a rule's name is given as ./K22.\n",
+    "Status 0, 1, 3, 4, 5, 9, 10 and 11: as for cacao check. 2: the words were not understood.\n",
+];
+
+pub(crate) const PREFLIGHT: &[&str] = &[
+    "cacao-view preflight [--bind FILE] BOOK [LIBRARY..]\n",
+    "Says what cacao run would refuse before its first record, with these playbooks and these bindings, as run would say it. Else warns, a line each: an agent that is not bound, a binding of an agent that no playbook defines, an external variable without a value, a command that filters refuse whatever the values are, a member of a step that CACAO does not name, a step that no path reaches. It opens no file of a run.\n",
+    "--bind FILE: which agent is which filter, 1 to 16, and texts of external variables; it stands before the playbooks.\n",
+    "Status 0: cacao run would begin; the last line has the number of warnings. 1: a rule K1 to K25 or B1 to B3 is broken. 3, 4, 5 and 11: as for cacao check, of the first file at fault.\n",
+    "Status 2: the words were not understood. 9: a line could not be written. 10: memory was wanted.\n",
 ];
 
 /// What `version` says.

@@ -5,7 +5,7 @@ ghost use Rattle.cacao_view_words.specs.Wants.{wanted_line};
 
 /// What the line says where a word is wanted that begins the words.
 pub(crate) const WANTED_FIRST: &str =
-    "words not understood: help, version, graph or explain is wanted first; cacao-view help says more\n";
+    "words not understood: help, version, log, graph, explain or preflight is wanted first; cacao-view help says more\n";
 
 /// And where one word of the programs, or no word more, is wanted behind `help`.
 pub(crate) const WANTED_TOPIC: &str =
@@ -14,13 +14,21 @@ pub(crate) const WANTED_TOPIC: &str =
 /// And where no word more is wanted.
 pub(crate) const WANTED_NO_MORE: &str = "words not understood: version takes no word more\n";
 
+/// And where `--json` or the name of a file may stand.
+pub(crate) const WANTED_LOG: &str =
+    "words not understood: log takes --json and the name of an engine's file, each at most once\n";
+
 /// And where names of playbooks alone may stand.
 pub(crate) const WANTED_GRAPH: &str =
     "words not understood: graph takes the name of a playbook, and then those of others\n";
 
-/// And where a rule is wanted.
+/// And where a rule or playbooks are wanted.
 pub(crate) const WANTED_RULE: &str =
-    "words not understood: explain takes one rule, K1 to K25 or B1 to B3\n";
+    "words not understood: explain takes one rule, K1 to K25 or B1 to B3, or names of playbooks\n";
+
+/// And where playbooks are wanted behind `preflight`.
+pub(crate) const WANTED_PLAYBOOK: &str =
+    "words not understood: preflight takes names of playbooks, and before them --bind and the name of bindings, or not\n";
 
 /// What was wanted where the words have no reading.
 #[derive(Clone, Copy)]
@@ -31,10 +39,14 @@ pub enum Wanted {
     Topic,
     /// Behind `version`, nothing.
     NoMore,
+    /// Behind `log`, at most `--json` and the name of a file.
+    Log,
     /// Behind `graph`, the names of playbooks.
     Graph,
-    /// Behind `explain`, a rule.
+    /// Behind `explain`, a rule or playbooks.
     Rule,
+    /// Behind `preflight`, playbooks.
+    Playbook,
 }
 
 impl Wanted {
@@ -47,8 +59,10 @@ impl Wanted {
             Wanted::First => WANTED_FIRST,
             Wanted::Topic => WANTED_TOPIC,
             Wanted::NoMore => WANTED_NO_MORE,
+            Wanted::Log => WANTED_LOG,
             Wanted::Graph => WANTED_GRAPH,
             Wanted::Rule => WANTED_RULE,
+            Wanted::Playbook => WANTED_PLAYBOOK,
         }
     }
 }

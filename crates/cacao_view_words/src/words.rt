@@ -2,8 +2,11 @@
 ghost use Rattle.std.specs.Prelude.{◌≡◌, ◌∷◌, map, string_bytes};
 ghost use Rattle.std.specs.List.{list_all};
 ghost use Rattle.cacao_view_words.specs.Asked.{request_by};
-ghost use Rattle.cacao_view_words.specs.Requests.{explain_asks, first_asks, graph_asks, help_asks, is_name, request, version_asks};
+ghost use Rattle.cacao_view_words.specs.Requests.{explain_asks, first_asks, graph_asks, help_asks, is_name, request, rule_or_book, version_asks};
+ghost use Rattle.cacao_view_words.specs.Rules.{rule_in};
 
+use crate::books::{explain_books_asks, preflight_asks};
+use crate::log::log_asks;
 use crate::rule::{Rule, rule_in};
 use crate::topic::{Topic, topic_in};
 use crate::wanted::Wanted;
@@ -20,6 +23,11 @@ pub enum Request<'w> {
     HelpWith(Topic),
     /// To say the version, and of which standards.
     Version,
+    /// To say the records of a run again, as JSON or not: those in the file of this name, or in the engine's file of the disk.
+    Log {
+        json: bool,
+        engine: Option<&'w str>,
+    },
     /// To say the picture of the playbook in the file of this name, and of those that it may call.
     Graph {
         book: &'w str,
@@ -27,6 +35,17 @@ pub enum Request<'w> {
     },
     /// To say this rule, and how a break of it is usually mended.
     Explain(Rule),
+    /// To tell of the first break of the playbook in the file of this name, and of those that it may call.
+    ExplainBooks {
+        book: &'w str,
+        libraries: &'w [String],
+    },
+    /// To tell what a run of such playbooks would come to, with the bindings in the file of this name.
+    Preflight {
+        bind: Option<&'w str>,
+        book: &'w str,
+        libraries: &'w [String],
+    },
     /// To say what was wanted, since the words have no reading.
     Lacks(Wanted),
 }
@@ -51,11 +70,17 @@ fn first_asks<'w>(first: &str, names: &'w [String]) -> Request<'w>
     if first == "version" || first == "--version" {
         return version_asks(names);
     }
+    if first == "log" {
+        return log_asks(names);
+    }
     if first == "graph" {
         return graph_asks(names);
     }
     if first == "explain" {
         return explain_asks(names);
+    }
+    if first == "preflight" {
+        return preflight_asks(names);
     }
     Request::Lacks(Wanted::First)
 }
@@ -84,7 +109,7 @@ fn version_asks<'w>(names: &'w [String]) -> Request<'w>
 }
 
 /// Whether this is the name of a file.
-fn is_name(word: &[u8]) -> bool
+pub(crate) fn is_name(word: &[u8]) -> bool
     ensures { result ≡ is_name word.now }
 {
     match word {
@@ -114,7 +139,7 @@ fn books_asked<'w>(book: &'w str, libraries: &'w [String]) -> Request<'w>
 }
 
 /// Whether each of these is the name of a file.
-fn are_names(names: &[String]) -> bool
+pub(crate) fn are_names(names: &[String]) -> bool
     ensures { result ≡ list_all is_name (map string_bytes names.now) }
 {
     each_is_name(names)
@@ -130,10 +155,18 @@ fn explain_asks<'w>(names: &'w [String]) -> Request<'w>
     ensures { request_by result ≡ explain_asks (map string_bytes names.entry.now) }
 {
     match names {
-        [name] => match rule_in(name.as_str()) {
-            Some(rule) => Request::Explain(rule),
-            None => Request::Lacks(Wanted::Rule),
-        },
-        _ => Request::Lacks(Wanted::Rule),
+        [] => Request::Lacks(Wanted::Rule),
+        [name] => rule_or_book(name.as_str()),
+        [book, libraries @ ..] => explain_books_asks(book.as_str(), libraries),
+    }
+}
+
+/// The rule of this name, or the playbook in the file of this name is asked for.
+fn rule_or_book<'w>(name: &'w str) -> Request<'w>
+    ensures { request_by result ≡ rule_or_book name.entry.now (rule_in name.entry.now) }
+{
+    match rule_in(name) {
+        Some(rule) => Request::Explain(rule),
+        None => explain_books_asks(name, &[]),
     }
 }

@@ -1,8 +1,12 @@
 // Calls of the program, and what came of them.
+use cacao_site::Disk;
 use cacao_site_memory::{CallList, MemoryShelf, MemorySite, SitePlan, WeatherList};
 use cacao_view::view;
 use std::alloc::{AllocError, Global};
 use test_rows::Row;
+
+/// How many device calls write the engine's file.
+const WRITING: i128 = 2;
 
 /// The device calls that fail: the one of this number, or none.
 fn failing(alloc: Global, call: Option<i128>) -> Result<CallList, AllocError> {
@@ -26,6 +30,37 @@ fn site(alloc: Global, failing: CallList) -> Result<MemorySite, AllocError> {
         weather: WeatherList::from_vec(Vec::new(alloc)),
     };
     MemorySite::new(alloc, plan)
+}
+
+/// A site whose engine's file has these bytes, if it is there. The call that fails is counted from behind the calls that write the file.
+fn site_with(
+    alloc: Global,
+    journal: Option<&[u8]>,
+    call: Option<i128>,
+) -> Result<MemorySite, AllocError> {
+    let Some(bytes) = journal else {
+        return site(alloc, failing(alloc, call)?);
+    };
+    let late = call.map(|call| call.saturating_add(WRITING));
+    let mut site = site(alloc, failing(alloc, late)?)?;
+    if bytes.len() <= 65_536 {
+        let _ = site.write(0, 0, bytes);
+        let _ = site.sync(0);
+    }
+    Ok(site)
+}
+
+/// A shelf with these bytes as `e.journal`, if they are there, on which the read of this number fails.
+fn shelf_with(
+    alloc: Global,
+    journal: Option<&[u8]>,
+    read: Option<i128>,
+) -> Result<MemoryShelf, AllocError> {
+    let mut shelf = shelf_of(alloc, &[], read)?;
+    if let Some(bytes) = journal {
+        shelf.add("e.journal", bytes)?;
+    }
+    Ok(shelf)
 }
 
 /// A shelf with these files, each a row of a name and bytes, on which the read of this number fails.
@@ -62,6 +97,15 @@ fn line_said(site: &MemorySite, n: usize) -> &[u8] {
     site.line(n)
 }
 
+/// A status, and behind it the lines that were said.
+fn told(alloc: Global, status: u8, site: &MemorySite) -> Result<Vec<u8>, AllocError> {
+    let mut came = format!(in alloc; "{status}: ")?.into_bytes();
+    for n in 0..site.line_count() {
+        came.extend_from_slice(line_said(site, n))?;
+    }
+    Ok(came)
+}
+
 /// The status of a call with these words over these files, and behind it the lines that it said; the read and the device call of these
 /// numbers fail.
 pub(crate) fn answer(
@@ -75,9 +119,21 @@ pub(crate) fn answer(
     let mut shelf = shelf_of(alloc, files, read)?;
     let mut site = site(alloc, failing(alloc, call)?)?;
     let status = view(alloc, words.as_slice(), &mut shelf, &mut site);
-    let mut came = format!(in alloc; "{status}: ")?.into_bytes();
-    for n in 0..site.line_count() {
-        came.extend_from_slice(line_said(&site, n))?;
-    }
-    Ok(came)
+    told(alloc, status, &site)
+}
+
+/// The same where the disk has this engine's file, and the shelf that one as `e.journal`.
+pub(crate) fn answer_about(
+    alloc: Global,
+    line: &str,
+    disk: Option<&[u8]>,
+    named: Option<&[u8]>,
+    read: Option<i128>,
+    call: Option<i128>,
+) -> Result<Vec<u8>, AllocError> {
+    let words = words(alloc, line)?;
+    let mut shelf = shelf_with(alloc, named, read)?;
+    let mut site = site_with(alloc, disk, call)?;
+    let status = view(alloc, words.as_slice(), &mut shelf, &mut site);
+    told(alloc, status, &site)
 }

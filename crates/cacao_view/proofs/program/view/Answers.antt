@@ -9,7 +9,7 @@ use Rattle.cacao_view.specs.Ends.{End}
 use Rattle.cacao_view.specs.Lines.{Tells}
 use Rattle.cacao_view.specs.Looks.{Ended, Looks}
 use Rattle.cacao_view.specs.Work.{files_of, work}
-use Rattle.cacao_view.proofs.EndedLemmas.{answers-ended, disk-steady-ended, lacking-ended, looks-ended, said-ended, shelf-failed-ended, shelf-steady-ended, statuses-ended, unsaid-ended}
+use Rattle.cacao_view.proofs.EndedLemmas.{answers-ended, disk-ended, lacking-ended, looks-ended, said-ended, shelf-failed-ended, shelf-steady-ended, statuses-ended, unsaid-ended}
 use Rattle.cacao_view.proofs.program.view.Goals as goal
 
 came : (r asked : Request) (shelf : ShelfCall) (old mid new : SiteView) (last : End) (answer : ℕ) → r ≡ asked → Looks (work r) shelf old mid last → Tells last mid new answer → Ended asked shelf old new answer
@@ -36,8 +36,8 @@ pub returns-clause-shelf_failed : goal.returns-clause-shelf_failed
 returns-clause-shelf_failed g c = shelf-failed-ended _ _ _ _ _ (came (request_by c.read_words.result) _ (shelf_call (g.L.Shelf.told c.args.shelf.now) (g.L.Shelf.faults c.args.shelf.now) (g.L.Shelf.faults c.look-end.new.shelf) (g.L.Shelf.reads c.args.shelf.now) (g.L.Shelf.reads c.look-end.new.shelf))
     (g.S.Disk.view c.args.site.now) (g.S.Disk.view c.look-end.new.site) (g.S.Disk.view c.finish.new.site) (end_of c.look-end.result) c.finish.result c.read_words.ensures c.look-end.ensures.looks c.finish.ensures)
 
-pub returns-clause-disk_steady : goal.returns-clause-disk_steady
-returns-clause-disk_steady g c = disk-steady-ended _ _ _ _ _ (came (request_by c.read_words.result) _ (shelf_call (g.L.Shelf.told c.args.shelf.now) (g.L.Shelf.faults c.args.shelf.now) (g.L.Shelf.faults c.look-end.new.shelf) (g.L.Shelf.reads c.args.shelf.now) (g.L.Shelf.reads c.look-end.new.shelf))
+pub returns-clause-disk : goal.returns-clause-disk
+returns-clause-disk g c = disk-ended _ _ _ _ _ (came (request_by c.read_words.result) _ (shelf_call (g.L.Shelf.told c.args.shelf.now) (g.L.Shelf.faults c.args.shelf.now) (g.L.Shelf.faults c.look-end.new.shelf) (g.L.Shelf.reads c.args.shelf.now) (g.L.Shelf.reads c.look-end.new.shelf))
     (g.S.Disk.view c.args.site.now) (g.S.Disk.view c.look-end.new.site) (g.S.Disk.view c.finish.new.site) (end_of c.look-end.result) c.finish.result c.read_words.ensures c.look-end.ensures.looks c.finish.ensures)
 
 pub returns-clause-unsaid : goal.returns-clause-unsaid

@@ -1,0 +1,3 @@
+pub mod BreakLemmas
+pub mod EndLemmas
+pub mod UnreadLemmas

@@ -1,0 +1,4 @@
+pub mod Lines
+pub mod Tells
+pub mod Reasons
+pub mod Explains

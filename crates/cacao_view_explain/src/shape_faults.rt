@@ -1,0 +1,246 @@
+// What breaks a rule of shape, K1 to K12.
+use crate::spot::{Finding, Spot};
+use crate::wants::{Wants, has_content, is_argument, is_command, is_declaration, items_of};
+use cacao_book_shape::some_text;
+use cacao_json::{Tree, member};
+use cacao_vars::Name;
+use std::alloc::{AllocError, Global};
+
+const K1: &[(&str, Wants)] = &[("type", Wants::Playbook), ("spec_version", Wants::Version)];
+
+const K2: &[(&str, Wants)] = &[
+    ("id", Wants::PlaybookId),
+    ("created_by", Wants::Id),
+    ("created", Wants::Stamp),
+    ("modified", Wants::Stamp),
+    ("name", Wants::Text),
+];
+
+const K3: &[(&str, Wants)] = &[
+    ("playbook_variables", Wants::Variables),
+    ("agent_definitions", Wants::Definitions),
+    ("target_definitions", Wants::Definitions),
+];
+
+const K4: &[(&str, Wants)] = &[
+    ("workflow_start", Wants::Text),
+    ("workflow_exception", Wants::MaybeText),
+    ("workflow", Wants::Steps),
+];
+
+const K5: &[(&str, Wants)] = &[("type", Wants::Type)];
+
+const K6: &[(&str, Wants)] = &[("delay", Wants::Whole), ("timeout", Wants::Whole)];
+
+const K7: &[(&str, Wants)] = &[("step_variables", Wants::Variables)];
+
+const K8: &[(&str, Wants)] = &[
+    ("on_completion", Wants::MaybeText),
+    ("on_success", Wants::MaybeText),
+    ("on_failure", Wants::MaybeText),
+];
+
+const K9: &[(&str, Wants)] = &[
+    ("commands", Wants::Commands),
+    ("agent", Wants::Text),
+    ("targets", Wants::Targets),
+    ("in_args", Wants::InArgs),
+    ("out_args", Wants::OutArgs),
+];
+
+const K10: &[(&str, Wants)] = &[("commands", Wants::Contents)];
+
+const K11: &[(&str, Wants)] = &[
+    ("playbook_id", Wants::Id),
+    ("playbook_version", Wants::MaybeText),
+    ("in_args", Wants::InArgs),
+    ("out_args", Wants::InArgs),
+];
+
+const PARALLEL: &[(&str, Wants)] = &[("next_steps", Wants::NextSteps)];
+
+const IF: &[(&str, Wants)] = &[
+    ("condition", Wants::Condition),
+    ("on_true", Wants::Text),
+    ("on_false", Wants::MaybeText),
+];
+
+const WHILE: &[(&str, Wants)] = &[("condition", Wants::Condition), ("on_true", Wants::Text)];
+
+const SWITCH: &[(&str, Wants)] = &[("switch", Wants::Text), ("cases", Wants::Cases)];
+
+/// What a rule wants of the members of a playbook, or of a step of this type.
+fn wanted(rule: u8, kind: &str) -> &'static [(&'static str, Wants)] {
+    match rule {
+        1 => K1,
+        2 => K2,
+        3 => K3,
+        4 => K4,
+        5 => K5,
+        6 => K6,
+        7 => K7,
+        8 => K8,
+        9 => K9,
+        10 => K10,
+        11 => K11,
+        _ => wanted_of_control(kind),
+    }
+}
+
+fn wanted_of_control(kind: &str) -> &'static [(&'static str, Wants)] {
+    if kind == "parallel" {
+        return PARALLEL;
+    }
+    if kind == "if-condition" {
+        return IF;
+    }
+    if kind == "while-condition" {
+        return WHILE;
+    }
+    SWITCH
+}
+
+/// Goes from a value to the part of it that is at fault, if that is told apart.
+fn part_of(
+    alloc: Global,
+    bytes: &[u8],
+    spot: Spot,
+    value: &Tree,
+    wants: Wants,
+) -> Result<Spot, AllocError> {
+    match wants {
+        Wants::Variables => part_of_variables(alloc, bytes, spot, value),
+        Wants::Commands | Wants::Contents => part_of_commands(alloc, bytes, spot, value),
+        Wants::InArgs | Wants::OutArgs => part_of_arguments(alloc, bytes, spot, value),
+        _ => Ok(spot),
+    }
+}
+
+fn part_of_variables(
+    alloc: Global,
+    bytes: &[u8],
+    spot: Spot,
+    value: &Tree,
+) -> Result<Spot, AllocError> {
+    let Tree::Members(pairs) = value else {
+        return Ok(spot);
+    };
+    for pair in pairs.as_slice() {
+        if !Name::fits(pair.name.text()) || !is_declaration(&pair.tree) {
+            return spot.member(alloc, bytes, pair.name.text());
+        }
+    }
+    Ok(spot)
+}
+
+fn part_of_commands(
+    alloc: Global,
+    bytes: &[u8],
+    spot: Spot,
+    value: &Tree,
+) -> Result<Spot, AllocError> {
+    for (number, command) in items_of(value).iter().enumerate() {
+        if !is_command(command) || !has_content(alloc, command)? {
+            return spot.item(alloc, bytes, number);
+        }
+    }
+    Ok(spot)
+}
+
+fn part_of_arguments(
+    alloc: Global,
+    bytes: &[u8],
+    spot: Spot,
+    value: &Tree,
+) -> Result<Spot, AllocError> {
+    for (number, item) in items_of(value).iter().enumerate() {
+        if !is_argument(item) {
+            return spot.item(alloc, bytes, number);
+        }
+    }
+    Ok(spot)
+}
+
+/// What is said of a member that is not there.
+fn missing(alloc: Global, spot: Spot, name: &str, says: &str) -> Result<Finding, AllocError> {
+    let what = format!(in alloc; "there is no member {name}: {says}")?;
+    Ok(Finding { spot, what })
+}
+
+/// The finding at a member, if it is not as it is wanted.
+fn misfit(
+    alloc: Global,
+    bytes: &[u8],
+    object: &Tree,
+    spot: &Spot,
+    name: &str,
+    wants: Wants,
+) -> Result<Option<Finding>, AllocError> {
+    let Some(value) = member(object, name) else {
+        if wants.may_be_absent() {
+            return Ok(None);
+        }
+        let here = Spot {
+            pointer: spot.pointer.clone()?,
+            at: spot.at,
+        };
+        let finding = missing(alloc, here, name, wants.says())?;
+        return Ok(Some(finding));
+    };
+    if wants.fits(alloc, value)? {
+        return Ok(None);
+    }
+    let spot = spot.member(alloc, bytes, name)?;
+    let spot = part_of(alloc, bytes, spot, value, wants)?;
+    let finding = Finding::of(alloc, spot, wants.says())?;
+    Ok(Some(finding))
+}
+
+/// What breaks the rule on links that go together.
+fn link_fault(alloc: Global, bytes: &[u8], step: &Tree, spot: Spot) -> Result<Finding, AllocError> {
+    let name = if member(step, "on_success").is_some() {
+        "on_success"
+    } else {
+        "on_failure"
+    };
+    let splits = member(step, name).is_some();
+    if some_text(step, "type") == "end" {
+        let name = if splits { name } else { "on_completion" };
+        let spot = spot.member(alloc, bytes, name)?;
+        return Finding::of(alloc, spot, "an end step goes on to no other step");
+    }
+    if splits && member(step, "on_completion").is_some() {
+        let spot = spot.member(alloc, bytes, name)?;
+        return Finding::of(
+            alloc,
+            spot,
+            "on_success and on_failure do not stand beside on_completion",
+        );
+    }
+    missing(
+        alloc,
+        spot,
+        "on_completion",
+        "the step goes on to another, by on_completion or on_success",
+    )
+}
+
+/// What breaks this rule of shape in the playbook, or in the step, that stands at this spot.
+pub(crate) fn shape_fault(
+    alloc: Global,
+    bytes: &[u8],
+    object: &Tree,
+    spot: Spot,
+    rule: u8,
+) -> Result<Finding, AllocError> {
+    let kind = some_text(object, "type");
+    for (name, wants) in wanted(rule, kind) {
+        if let Some(finding) = misfit(alloc, bytes, object, &spot, *name, *wants)? {
+            return Ok(finding);
+        }
+    }
+    if rule == 8 {
+        return link_fault(alloc, bytes, object, spot);
+    }
+    Finding::of(alloc, spot, "an object is wanted")
+}

@@ -1,0 +1,6 @@
+pub mod FrontLemmas
+mod LawLemmas
+mod LogLemmas
+mod TellLemmas
+mod TextLemmas
+mod TreeLemmas

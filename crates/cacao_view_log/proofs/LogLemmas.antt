@@ -1,0 +1,163 @@
+-- One record more is told.
+use Rattle.std.proofs.Common.{◌≡◌, ◌⊎◌, inl, inr, ℕ, zero, suc, ◌<◌, ◌≤◌, List, [], ◌∷◌, ◌++◌, length, take, drop, Some, Err, arith, refl, ap, sym, subst, ◌∙◌, length-append}
+use Rattle.std.specs.Prelude.{IsErrOf, slice_get}
+use Rattle.std.specs.List.{AllByRecursion}
+use Rattle.std.proofs.lemmas.Option.{none-some}
+use Rattle.run_records.specs.Ranges.{InRange}
+use Rattle.run_records.specs.declared.record.Record.{Record}
+use Rattle.flow_core_rules.specs.Givens.{Given}
+use Rattle.flow_core_rules.specs.State.{Shown}
+use Rattle.flow_core.specs.Views.{View}
+use Rattle.flow_engine_history.specs.HistoryView.{entries_of}
+use Rattle.flow_engine_history.specs.Histories.{IsShownAfter, IsShownBefore, IsSoFar}
+use Rattle.flow_engine_history.specs.KeptHistory.{records_of}
+use Rattle.flow_engine_history.proofs.HistoryLemmas.{all_push, entries_push, get_front, get_last, get_within, records_back, take_front, take_last}
+use Rattle.flow_engine_reports.specs.Beginnings.{HasBegun}
+use Rattle.flow_engine_reports.specs.RunFiles.{IsBegin}
+use Rattle.flow_engine_reports.proofs.ReplayLemmas.{taken_more}
+use Rattle.flow_engine_reports.specs.declared.error.ReportError.{ReportError}
+use Rattle.flow_engine_reports.specs.declared.error.ReportError.TheVariants.{Damaged}
+use Rattle.cacao_view_log.specs.Logs.{AreTold, IsToldAt, Logs}
+use Rattle.cacao_view_log.specs.Telling.{IsEntryOf, IsLogged, TellsEntry, TellsFlow}
+use Rattle.cacao_view_log.specs.Texts.{record_text}
+use Rattle.cacao_view_log.specs.declared.form.Form.{Form}
+
+pub inner : {A : Type 0} (a b : A) → Some a ≡ Some b → a ≡ b
+inner a b h = cc
+
+last_or : (n m : ℕ) → n < suc m → (n < m) ⊎ (n ≡ m)
+last_or zero zero lt = inr refl
+last_or zero (suc m) lt = inl (omega arith)
+last_or (suc n) zero lt = absurd (omega (arith, lt))
+last_or (suc n) (suc m) lt =
+    elim (last_or n m (omega (arith, lt))) [
+      | inl h ↦ inl (omega (arith, h))
+      | inr h ↦ inr (ap suc h)
+    ]
+
+-- entries are the layouts of one list of records
+same_records : (xs ys : List Record) → AllByRecursion InRange xs → AllByRecursion InRange ys → entries_of xs ≡ entries_of ys → xs ≡ ys
+same_records xs ys p q e = sym (records_back xs p) ∙ ap records_of e ∙ records_back ys q
+
+-- what is shown after records is shown before the next one
+shown_before : (given : Given) (run : ℕ) (rs : List Record) (seen : Shown) → seen.given ≡ given → seen.run ≡ run → IsSoFar rs seen → IsShownBefore given run rs seen
+shown_before given run [] seen g n h = tt
+shown_before given run (first ∷ others) seen g n h =
+    subst (λ (x : Given). IsShownBefore x run (first ∷ others) seen) g (subst (λ (m : ℕ). IsShownBefore seen.given m (first ∷ others) seen) n h)
+
+told_more : (form : Form) (given : Given) (run : ℕ) (rs : List Record) (seen : Shown) (r : Record) (texts : List (List ℕ)) → AreTold form given run rs texts → IsShownBefore given run rs seen
+    → AreTold form given run (rs ++ r ∷ []) (texts ++ record_text form run seen (length rs) r ∷ [])
+told_more form given run rs seen r texts are shows = record {
+  many = omega (arith, length-append texts (text ∷ []), length-append rs (r ∷ []), are.many);
+  each = λ n q e.
+      let lt : n < length (rs ++ r ∷ []) = get_within (rs ++ r ∷ []) n q e in
+      let lt_suc : n < suc (length rs) = omega (arith, length-append rs (r ∷ []), lt) in
+      by n q e (last_or n (length rs) lt_suc);
+}
+  where
+    text : List ℕ
+    text = record_text form run seen (length rs) r
+
+    by : (n : ℕ) (q : Record) → slice_get (rs ++ r ∷ []) n ≡ Some q → (n < length rs) ⊎ (n ≡ length rs) → IsToldAt form given run (rs ++ r ∷ []) (texts ++ record_text form run seen (length rs) r ∷ []) n q
+    by n q e (inl lt) =
+        let was : IsToldAt form given run rs texts n q = are.each n q (sym (get_front rs r n lt) ∙ e) in
+        record {
+          before = was.before;
+          shows = subst (λ (l : List Record). IsShownBefore given run l was.before) (sym (take_front rs r n lt)) was.shows;
+          told = get_front texts (record_text form run seen (length rs) r) n (omega (arith, lt, are.many)) ∙ was.told;
+        }
+    by n q e (inr eq) =
+        let here : slice_get (rs ++ r ∷ []) n ≡ Some r = ap (slice_get (rs ++ r ∷ [])) eq ∙ get_last rs r in
+        let same : r ≡ q = inner r q (sym here ∙ e) in
+        record {
+          before = seen;
+          shows = subst (λ (l : List Record). IsShownBefore given run l seen) (sym (ap (λ (k : ℕ). take k (rs ++ r ∷ [])) eq ∙ take_last rs r)) shows;
+          told = ap (slice_get (texts ++ record_text form run seen (length rs) r ∷ [])) (eq ∙ sym are.many) ∙ get_last texts (record_text form run seen (length rs) r)
+              ∙ ap (λ (p : Record). Some (record_text form run seen (length rs) p)) same ∙ ap (λ (k : ℕ). Some (record_text form run seen k q)) (sym eq);
+        }
+
+-- the first entry was told
+pub logged_first : (form : Form) (item : List ℕ) (r : Record) (flow : View) (texts : List (List ℕ)) → IsEntryOf r item → InRange r → HasBegun item flow → texts ≡ record_text form flow.seen.run flow.seen 0 r ∷ []
+    → IsLogged form flow.seen.given flow.seen.run (item ∷ []) flow texts
+logged_first form item r flow texts of in_range begun is = record {
+  replayed = begun.replayed;
+  records = r ∷ [];
+  ranges = (in_range, tt);
+  are = ap (λ (e : List ℕ). e ∷ []) of.is;
+  told = subst (AreTold form flow.seen.given flow.seen.run (r ∷ [])) (sym is) (record { many = refl; each = one });
+}
+  where
+    one : (n : ℕ) (q : Record) → slice_get (r ∷ []) n ≡ Some q → IsToldAt form flow.seen.given flow.seen.run (r ∷ []) (record_text form flow.seen.run flow.seen 0 r ∷ []) n q
+    one zero q e = record {
+      before = flow.seen;
+      shows = tt;
+      told = ap (λ (p : Record). Some (record_text form flow.seen.run flow.seen 0 p)) (inner r q e);
+    }
+    one (suc n) q e = absurd (none-some q e)
+
+-- so was the next one
+pub logged_more : (form : Form) (given : Given) (run : ℕ) (items : List (List ℕ)) (v w : View) (texts more : List (List ℕ)) (item : List ℕ) → IsLogged form given run items v texts → TellsEntry form v texts item w more
+    → IsLogged form given run (items ++ item ∷ []) w more
+logged_more form given run items v w texts more item h t =
+    let r : Record = t.takes.r in
+    let was = h.replayed.1 in
+    let same : was.records ≡ h.records = same_records was.records h.records was.ranges h.ranges (sym was.are ∙ h.are) in
+    let shows : IsShownBefore given run h.records v.seen =
+    shown_before given run h.records v.seen was.given_is was.run_is (subst (λ (l : List Record). IsSoFar l v.seen) same was.so_far) in
+    let count : v.count ≡ length h.records = was.count ∙ ap (λ (l : List Record). length l) same in
+    let is : more ≡ texts ++ record_text form run v.seen (length h.records) r ∷ [] =
+    t.more_is ∙ ap (λ (k : ℕ). texts ++ record_text form k v.seen v.count r ∷ []) was.run_is ∙ ap (λ (n : ℕ). texts ++ record_text form run v.seen n r ∷ []) count in
+    record {
+      replayed = taken_more given run items v w item h.replayed t.takes;
+      records = h.records ++ r ∷ [];
+      ranges = all_push InRange h.records r h.ranges t.takes.in_range;
+      are = ap (λ (l : List (List ℕ)). l ++ item ∷ []) h.are ∙ ap (λ (e : List ℕ). entries_of h.records ++ e ∷ []) t.takes.is ∙ sym (entries_push h.records r);
+      told = subst (AreTold form given run (h.records ++ r ∷ [])) (sym is) (told_more form given run h.records v.seen r texts h.told shows);
+    }
+
+-- behind a first entry the records are some
+shown_after : (records : List Record) (items : List (List ℕ)) (first : List ℕ) (rest : List (List ℕ)) (seen : Shown) → items ≡ first ∷ rest → items ≡ entries_of records → IsSoFar records seen
+    → IsShownAfter seen.given seen.run records seen
+shown_after [] items first rest seen e are so = absurd (let f : first ∷ rest ≡ [] = sym e ∙ are in cc)
+shown_after (r ∷ records) items first rest seen e are so = so
+
+-- all entries were told
+pub tells_flow : (form : Form) (items : List (List ℕ)) (first : List ℕ) (begun flow : View) (texts : List (List ℕ)) → items ≡ first ∷ drop 1 items → HasBegun first begun
+    → IsLogged form begun.seen.given begun.seen.run items flow texts → length flow.seen.lists.tasks ≤ 1_000_000 → TellsFlow form items flow texts
+tells_flow form items first begun flow texts are h logged few =
+    let r = logged.replayed.1 in
+    let begin : IsBegin first flow.seen.given flow.seen.run =
+    subst (λ (g : Given). IsBegin first g flow.seen.run) (sym r.given_is) (subst (λ (n : ℕ). IsBegin first begun.seen.given n) (sym r.run_is) h.begin) in
+    let same : r.records ≡ logged.records = same_records r.records logged.records r.ranges logged.ranges (sym r.are ∙ logged.are) in
+    record {
+      records = r.records;
+      tells = record {
+        begins = record { first = first; others = drop 1 items; are = are; begin = begin };
+        are = r.are;
+        ranges = r.ranges;
+        shows = shown_after r.records items first (drop 1 items) flow.seen are r.are r.so_far;
+        tasks = few;
+      };
+      count = r.count;
+      told = subst (λ (l : List Record). AreTold form flow.seen.given flow.seen.run l texts) (sym same)
+          (subst (λ (g : Given). AreTold form g flow.seen.run logged.records texts) (sym r.given_is) (subst (λ (n : ℕ). AreTold form begun.seen.given n logged.records texts) (sym r.run_is) logged.told));
+    }
+
+-- so they are logged
+pub logs_run : (form : Form) (items : List (List ℕ)) (flow : View) (texts : List (List ℕ)) → TellsFlow form items flow texts → Logs form items texts
+logs_run form items flow texts h = inr (record { records = h.records; seen = flow.seen; tells = h.tells; told = h.told })
+
+-- where there is no entry, nothing is told
+pub none_logged : (form : Form) (items texts : List (List ℕ)) → length items ≡ 0 → texts ≡ [] → Logs form items texts
+none_logged form [] texts none is = inl (refl, is)
+none_logged form (item ∷ items) texts none is = absurd (omega (arith, none))
+
+-- the first record is damaged at its gate
+pub place_is : {T : Type 0} (place : ℕ) → IsErrOf {T = T} {E = ReportError} (Err (Damaged 8)) (Damaged place) → place ≡ 8
+place_is place e = cc
+
+-- what was told of the first entry was told of the first one of all
+pub begins_take : (form : Form) (items : List (List ℕ)) (first : List ℕ) (flow : View) (texts : List (List ℕ)) → items ≡ first ∷ drop 1 items
+    → IsLogged form flow.seen.given flow.seen.run (first ∷ []) flow texts → IsLogged form flow.seen.given flow.seen.run (take 1 items) flow texts
+begins_take form items first flow texts are h =
+    subst (λ (l : List (List ℕ)). IsLogged form flow.seen.given flow.seen.run l flow texts) (sym (ap (take 1) are)) h

@@ -1,0 +1,8 @@
+use Rattle.std.proofs.Common.{◌≡◌, ◌++◌, drop, map}
+use Rattle.cacao_json.specs.Tree.{pair_data}
+use Rattle.cacao_view_preflight.specs.Warnings.{of_bindings}
+use Rattle.cacao_view_preflight.proofs.agents.warn_of_bindings.Given as goal
+
+abbrev pub invariant-loop-pair : goal.invariant-loop-pair
+invariant-loop-pair l =
+    l.lines ++ of_bindings l.books (map pair_data (drop l.pair-index l.bound)) ≡ l.fn.lines ++ of_bindings l.books (map pair_data l.bound)

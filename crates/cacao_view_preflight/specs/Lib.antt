@@ -1,0 +1,4 @@
+pub mod Refused
+pub mod Settled
+pub mod Warnings
+pub mod Preflights

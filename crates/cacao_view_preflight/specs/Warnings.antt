@@ -1,0 +1,163 @@
+-- Promise: What is warned of playbooks that are accepted to be run: each warning is a line, in this order.
+use Rattle.std.specs.Prelude.{◌≡◌, ℕ, ◌+◌, Bool, false, not, ◌&&◌, ◌||◌, List, [], ◌∷◌, ◌++◌, codes, decimal, map, Option, Some, None, is_none, Contains, slice_get, slice_index_or, if◌then◌else◌}
+use Rattle.std.specs.List.{flat_map, list_any}
+use Rattle.std.specs.Option.{option_map_or}
+use Rattle.std.specs.Str.{bytes_eq}
+use Rattle.serde_json.specs.Data.{Data, string}
+use Rattle.serde_json.specs.Find.{as_object}
+use Rattle.cacao_text.specs.Canon.{canon}
+use Rattle.cacao_vars.specs.declared.declarations.Var.{Var}
+use Rattle.cacao_book.specs.declared.books.Book.{Book}
+use Rattle.cacao_book.specs.declared.commands.StepCommand.{StepCommand}
+use Rattle.cacao_book.specs.declared.steps.Step.{Step}
+use Rattle.cacao_book_shape.specs.Members.{members_at, members_in, some_text}
+use Rattle.cacao_check_steps.specs.Uses.{commands_of}
+use Rattle.cacao_check_steps.specs.Links.{start_places}
+use Rattle.cacao_check_regions.specs.Charts.{AreMarksOf, LinksDown}
+use Rattle.base_graphs.specs.Closure.{Closure}
+use Rattle.oc2_msg.specs.Reasons.{reason_text}
+use Rattle.oc2_msg.specs.declared.refusals.Refusal.{Refusal}
+use Rattle.cacao_view_preflight.specs.Settled.{sure_refusal}
+use Rattle.cacao_view_preflight.specs.declared.step_members.TheConstants.{STEP, ACTION, PLAYBOOK_ACTION, PARALLEL, IF_CONDITION, WHILE_CONDITION, SWITCH_CONDITION}
+
+abbrev pub Text : Type 0
+Text = List ℕ
+
+-- what is made of each item and its number, one behind another
+abbrev pub each : {A : Type 0} → (ℕ → A → List Text) → ℕ → List A → List Text
+each make n [] = []
+each make n (x ∷ xs) = make n x ++ each make (n + 1) xs
+
+abbrev pub warn_if : Bool → Text → List Text
+warn_if holds line = if holds then line ∷ [] else []
+
+-- what a warning of a step begins with
+abbrev pub step_front : ℕ → Text → Text
+step_front n key = codes "warning: book " ++ (decimal n ++ (codes " step " ++ key))
+
+abbrev pub has_name : List (Text × Data) → Text → Bool
+has_name members name = list_any (λ m. bytes_eq m.0 name) members
+
+-- ---- agents and targets: what goes to one that is not bound goes to filter 1
+
+abbrev pub agent_line : ℕ → Text → Text
+agent_line n name =
+    codes "warning: book " ++ (decimal n ++ (codes " agent " ++ (name ++ codes " is not bound: it is filter 1\n")))
+
+abbrev pub of_agents : List (Text × Data) → ℕ → Book → List Text
+of_agents bound n book = flat_map (λ name. warn_if (not (has_name bound name)) (agent_line n name)) book.agents
+
+-- ---- bindings of what no playbook defines
+
+abbrev pub defines : Text → Book → Bool
+defines name book = list_any (λ agent. bytes_eq agent name) book.agents
+
+abbrev pub binding_line : Text → Text
+binding_line name = codes "warning: binding of " ++ (name ++ codes ": no playbook defines this agent\n")
+
+abbrev pub of_bindings : List Book → List (Text × Data) → List Text
+of_bindings books bound = flat_map (λ m. warn_if (not (list_any (defines m.0) books)) (binding_line m.0)) bound
+
+-- ---- external variables of the first playbook, with no value there and none in the bindings
+
+abbrev pub variable_line : Text → Text
+variable_line name = codes "warning: variable " ++ (name ++ codes " is external and has no value\n")
+
+abbrev pub lacks_value : List (Text × Data) → Var → Bool
+lacks_value bound var = var.external && (is_none var.worth && not (has_name bound var.name))
+
+abbrev pub of_variables : List (Text × Data) → List Var → List Text
+of_variables bound vars = flat_map (λ var. warn_if (lacks_value bound var) (variable_line var.name)) vars
+
+abbrev pub first_variables : List Book → List Var
+first_variables [] = []
+first_variables (book ∷ books) = book.variables
+
+-- ---- commands that filters refuse whatever the values are
+
+abbrev pub refusal_words : ℕ → ℕ → Text → Text
+refusal_words c status text =
+    codes " command " ++ (decimal c ++ (codes ": filters answer " ++ (decimal status ++ (codes " " ++ (text ++ codes " whatever the values\n")))))
+
+abbrev pub command_line : ℕ → Text → ℕ → Refusal → Text
+command_line n key c refusal = step_front n key ++ refusal_words c refusal.status (reason_text refusal.text)
+
+abbrev pub refusal_lines : ℕ → Text → ℕ → Option Refusal → List Text
+refusal_lines n key c None = []
+refusal_lines n key c (Some refusal) = command_line n key c refusal ∷ []
+
+abbrev pub of_command : ℕ → Text → ℕ → StepCommand → List Text
+of_command n key c command = refusal_lines n key c (sure_refusal command)
+
+abbrev pub of_commands : ℕ → Step → List Text
+of_commands n step = each (of_command n step.key) 0 (commands_of step.kind)
+
+abbrev pub of_book_commands : ℕ → Book → List Text
+of_book_commands n book = flat_map (of_commands n) book.steps
+
+-- ---- members of a step that CACAO does not name for its type (CACAO 2.0, sections 4.1 to 4.10)
+
+abbrev pub is_listed : List Text → Text → Bool
+is_listed words name = list_any (λ word. bytes_eq name word) words
+
+abbrev pub members_named : Text → List Text
+members_named kind =
+    if bytes_eq kind (codes "action") then map (λ word. word.now) ACTION.now
+    else if bytes_eq kind (codes "playbook-action") then map (λ word. word.now) PLAYBOOK_ACTION.now
+    else if bytes_eq kind (codes "parallel") then map (λ word. word.now) PARALLEL.now
+    else if bytes_eq kind (codes "if-condition") then map (λ word. word.now) IF_CONDITION.now
+    else if bytes_eq kind (codes "while-condition") then map (λ word. word.now) WHILE_CONDITION.now
+    else if bytes_eq kind (codes "switch-condition") then map (λ word. word.now) SWITCH_CONDITION.now
+    else []
+
+abbrev pub is_step_member : Text → Text → Bool
+is_step_member kind name = is_listed (map (λ word. word.now) STEP.now) name || is_listed (members_named kind) name
+
+abbrev pub member_words : Text → Text
+member_words name = codes ": CACAO names no member " ++ (canon (string name) ++ codes " of such a step\n")
+
+abbrev pub member_line : ℕ → Text → Text → Text
+member_line n key name = step_front n key ++ member_words name
+
+abbrev pub members_of : Data → List (Text × Data)
+members_of d = option_map_or members_in (as_object d) []
+
+abbrev pub of_step_members : ℕ → Text × Data → List Text
+of_step_members n step = flat_map (λ m. warn_if (not (is_step_member (some_text (codes "type") step.1) m.0)) (member_line n step.0 m.0)) (members_of step.1)
+
+abbrev pub of_members : ℕ → Data → List Text
+of_members n tree = flat_map (of_step_members n) (members_at (codes "workflow") tree)
+
+-- ---- steps that no path reaches, from where a run or its exception begins along all links
+
+abbrev pub step_line : ℕ → Text → Text
+step_line n key = codes "warning: book " ++ (decimal n ++ (codes " step " ++ (key ++ codes ": no path reaches it\n")))
+
+abbrev pub of_steps : List Bool → ℕ → Book → List Text
+of_steps reached n book = each (λ place step. warn_if (not (slice_index_or reached place false)) (step_line n step.key)) 0 book.steps
+
+abbrev pub of_reach : List (List Bool) → List Book → List Text
+of_reach reached books = each (λ n book. of_steps (slice_index_or reached n []) n book) 0 books
+
+abbrev pub IsReached : Book → ℕ → Type 0
+IsReached book = Closure (Contains (start_places book)) (LinksDown book)
+
+-- the marks of each playbook are those of the steps that are reached
+abbrev pub AreReached : List Book → List (List Bool) → Type 0
+AreReached books reached =
+    (n : ℕ) (book : Book) → slice_get books n ≡ Some book → AreMarksOf (IsReached book) (slice_index_or reached n [])
+
+-- ---- all of them
+
+abbrev pub warnings : List Book → List Data → Data → List (List Bool) → List Text
+warnings books trees bindings reached =
+    each (of_agents (members_at (codes "agents") bindings)) 0 books
+    ++ (of_bindings books (members_at (codes "agents") bindings)
+    ++ (of_variables (members_at (codes "variables") bindings) (first_variables books)
+    ++ (each of_book_commands 0 books ++ (each of_members 0 trees ++ of_reach reached books))))
+
+-- The lines warn of the playbooks, whose trees are these, with these bindings, of all that is above and of nothing else.
+pub record AreWarnings (books : List Book) (trees : List Data) (bindings : Data) (lines : List Text) : Type 0 where
+  pub reached : List (List Bool)
+  pub exact : AreReached books reached
+  pub are : lines ≡ warnings books trees bindings reached

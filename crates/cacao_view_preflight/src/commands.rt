@@ -1,0 +1,118 @@
+// Warnings of commands that filters refuse whatever the values are.
+ghost use Rattle.std.specs.Prelude.{◌≡◌, ◌++◌, IfOk, OnOk, string_bytes};
+ghost use Rattle.std.specs.List.{flat_map};
+ghost use Rattle.cacao_view_preflight.specs.Warnings.{command_line, each, of_book_commands, of_command, of_commands, refusal_lines, refusal_words};
+
+use crate::members::step_front;
+use crate::refusals::sure_refusal;
+use cacao_book::{Book, Step, StepCommand};
+use cacao_check_steps::commands_of;
+use cacao_view_report::Lines;
+use oc2_msg::Refusal;
+use std::alloc::{AllocError, Global};
+
+fn refusal_words(alloc: Global, c: usize, status: u16, text: &str) -> Result<String, AllocError>
+    ensures { IfOk result (λ words. string_bytes words ≡ refusal_words c status text.now) }
+{
+    format!(in alloc; " command {c}: filters answer {status} {text} whatever the values\n")
+}
+
+fn command_line(
+    alloc: Global,
+    n: usize,
+    key: &str,
+    c: usize,
+    refusal: Refusal,
+) -> Result<Vec<u8>, AllocError>
+    ensures { IfOk result (λ line. line.items ≡ command_line n key.now c refusal) }
+{
+    let words = refusal_words(alloc, c, refusal.status, refusal.text.text())?;
+    let mut line = step_front(alloc, n, key)?;
+    line.extend_from_slice(words.as_bytes())?;
+    Ok(line)
+}
+
+fn add_refusal(
+    alloc: Global,
+    n: usize,
+    key: &str,
+    c: usize,
+    refusal: Option<Refusal>,
+    lines: &mut Lines,
+) -> Result<(), AllocError>
+    ensures { OnOk result (lines.new ≡ lines.old ++ refusal_lines n key.now c refusal) }
+{
+    let Some(refusal) = refusal else {
+        return Ok(());
+    };
+    let line = command_line(alloc, n, key, c, refusal)?;
+    lines.push(line)?;
+    Ok(())
+}
+
+fn add_command(
+    alloc: Global,
+    n: usize,
+    key: &str,
+    c: usize,
+    command: &StepCommand,
+    lines: &mut Lines,
+) -> Result<(), AllocError>
+    ensures { OnOk result (lines.new ≡ lines.old ++ of_command n key.now c command.now) }
+{
+    let refusal = sure_refusal(alloc, command)?;
+    add_refusal(alloc, n, key, c, refusal, lines)?;
+    Ok(())
+}
+
+fn add_commands(
+    alloc: Global,
+    n: usize,
+    key: &str,
+    commands: &[StepCommand],
+    lines: &mut Lines,
+) -> Result<(), AllocError>
+    ensures { OnOk result (lines.new ≡ lines.old ++ each (of_command n key.now) 0 commands.now) }
+{
+    for c in 0..commands.len() {
+        add_command(alloc, n, key, c, &commands[c], lines)?;
+    }
+    Ok(())
+}
+
+fn add_step(alloc: Global, n: usize, step: &Step, lines: &mut Lines) -> Result<(), AllocError>
+    ensures { OnOk result (lines.new ≡ lines.old ++ of_commands n step.now) }
+{
+    add_commands(alloc, n, step.key.text(), commands_of(&step.kind), lines)?;
+    Ok(())
+}
+
+fn add_steps(alloc: Global, n: usize, steps: &[Step], lines: &mut Lines) -> Result<(), AllocError>
+    ensures { OnOk result (lines.new ≡ lines.old ++ flat_map (of_commands n) steps.now) }
+{
+    for step in steps {
+        add_step(alloc, n, step, lines)?;
+    }
+    Ok(())
+}
+
+fn add_book(alloc: Global, n: usize, book: &Book, lines: &mut Lines) -> Result<(), AllocError>
+    ensures { OnOk result (lines.new ≡ lines.old ++ of_book_commands n book.now) }
+{
+    add_steps(alloc, n, book.steps.as_slice(), lines)?;
+    Ok(())
+}
+
+/// Warns of commands of playbooks that filters refuse whatever the values are.
+pub(crate) fn warn_of_commands(
+    alloc: Global,
+    books: &[Book],
+    lines: &mut Lines,
+) -> Result<(), AllocError>
+    ensures { OnOk result (lines.new ≡ lines.old ++ each of_book_commands 0 books.now) }
+{
+    for n in 0..books.len() {
+        add_book(alloc, n, &books[n], lines)?;
+    }
+    Ok(())
+}
