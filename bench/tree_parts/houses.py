@@ -27,7 +27,7 @@ HOUSES = {
     "flow_laws": ["flow_laws"],
     "flow_audit": ["flow_audit"],
     "flow_world": ["flow_world"],
-    "flow_fleet": [],
+    "flow_fleet": ["flow_fleet"],
     "cacao_cli": ["cacao_cli"],
     "cacao_view": ["cacao_view"],
     "cacao": [],
