@@ -1,5 +1,5 @@
 // The runs of a fleet.
-ghost use Rattle.std.specs.Prelude.{◌≡◌, ◌↔◌, ◌⊎◌, ◌++◌, ◌∷◌, ◌≤◌, [], length, IfOk, IsTrue, false, true};
+ghost use Rattle.std.specs.Prelude.{◌≡◌, ◌↔◌, ◌⊎◌, ◌++◌, ◌∷◌, ◌≤◌, [], length, IfOk, IsTrue, OnErr, false, true};
 ghost use Rattle.std.specs.Prelude.{Any, Contains};
 ghost use Rattle.flow_fleet.specs.Fleets.{AreFleetRuns};
 ghost use Rattle.flow_fleet_steps.specs.Openings.{numbers};
@@ -66,6 +66,7 @@ impl FleetRuns {
         ensures added { result ≡ Ok true → self.new ≡ self.old ++ (run, setup) ∷ [] }
         ensures full { result ≡ Ok false → (16 ≤ length self.old) ⊎ Contains (numbers self.old) run }
         ensures stays { result ≡ Ok false → self.new ≡ self.old }
+        ensures err { OnErr result (self.new ≡ self.old) }
     {
         if self.list.len() >= FleetRuns::MOST || self.has(run) {
             return Ok(false);

@@ -1,0 +1,11 @@
+pub mod Placed
+pub mod PrefixSteps
+pub mod PrefixOpenings
+pub mod Prefixes
+pub mod CostSteps
+pub mod Costs
+pub mod CountSteps
+pub mod ClockSteps
+pub mod CauseOpenings
+pub mod Causes
+pub mod Undamaged

@@ -1,0 +1,4 @@
+pub mod Prefixes
+pub mod Costs
+pub mod Causes
+pub mod Undamaged
