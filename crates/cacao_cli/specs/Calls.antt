@@ -1,14 +1,17 @@
 -- Promise: A call of the program, and what is promised of it.
-use Rattle.std.specs.Prelude.{◌≡◌, ◌≢◌, ℕ, List, [], ◌∷◌, IsTrue, Option, None}
+use Rattle.std.specs.Prelude.{◌≡◌, ◌≢◌, ◌⊎◌, ℕ, List, [], ◌∷◌, IsTrue, IfSome, Option, Some, None, ⊤}
 use Rattle.cacao_site.specs.View.{SiteView}
 use Rattle.flow_laws.specs.Good.{IsGood}
-use Rattle.cacao_cli_words.specs.Requests.{PeerRequest, peer_request}
+use Rattle.cacao_cli_words.specs.Requests.{FleetRequest, PeerRequest, RunRequest, fleet_request, peer_request}
 use Rattle.cacao_cli_words.specs.Words.{Text}
-use Rattle.cacao_cli_ends.specs.Asked.{Asked, asked}
+use Rattle.cacao_cli_ends.specs.Asked.{Asked, asked, decides, runs}
 use Rattle.cacao_cli_ends.specs.Comes.{ComesExactly, ComesFor, IfFilesTold, IfTold, IsOneOf, file_faults, reached_statuses}
-use Rattle.cacao_cli_ends.specs.Ends.{ended_failed, flooded, paused}
-use Rattle.cacao_cli_ends.specs.FileCauses.{IsMissing}
-use Rattle.cacao_cli_ends.specs.Files.{Files, files_of}
+use Rattle.cacao_cli_ends.specs.Ends.{End, ended_failed, flooded, paused}
+use Rattle.cacao_cli_ends.specs.FileCauses.{HasTexts, IsMissing, IsTooLong}
+use Rattle.cacao_cli_ends.specs.Files.{Files, NamedText, files_of}
+use Rattle.cacao_cli_ends.specs.Stays.{SaysAtMostOnce}
+use Rattle.cacao_cli_ends.specs.Work.{start_of}
+use Rattle.cacao_cli_session.specs.Holding.{CameTo}
 use Rattle.cacao_cli_session_laws.specs.Completing.{Completes}
 use Rattle.cacao_cli_session_laws.specs.Returning.{TellsOnReturn}
 use Rattle.cacao_cli_status_laws.specs.Causes.{CanBeDone, EndsAs, EndsAsAnother, EndsAsAsked, EndsAsWaiting, FindsDisagreement, FindsItDamaged, IsPastLimit, IsRefused, IsUnreadable, NamesTooMuch}
@@ -23,17 +26,18 @@ use Rattle.cacao_cli_life.specs.Lives.{KeepsAll}
 pub record Call : Type 0 where
   pub wanted : Option Asked  -- what its words ask of one process
   pub peer : Option PeerRequest  -- what they ask for with a peer
+  pub fleet : Option FleetRequest  -- what they ask of a fleet
   pub files : Option Files  -- what the shelf holds, where it tells it
   pub old : SiteView  -- the site when it began
   pub new : SiteView  -- the site on return
   pub status : ℕ
 
 abbrev pub call : List Text → Option Files → SiteView → SiteView → ℕ → Call
-call words files old new status = record { wanted = asked words; peer = peer_request words; files = files; old = old; new = new; status = status }
+call words files old new status = record { wanted = asked words; peer = peer_request words; fleet = fleet_request words; files = files; old = old; new = new; status = status }
 
--- so it is of a call whose words ask for no peer
+-- so it is of a call whose words ask for no fleet and no peer
 abbrev pub InOneProcess : (Call → Type 0) → Call → Type 0
-InOneProcess P call = call.peer ≡ None → P call
+InOneProcess P call = call.fleet ≡ None → call.peer ≡ None → P call
 
 -- the headline: where all agrees when the call begins, all that a crash may leave agrees at each of its beats, whatever its status
 abbrev pub AgreesAtEachBeat : Call → Type 0
@@ -48,6 +52,13 @@ ComesOf call status cause =
 abbrev pub ComesOfFiles : Call → ℕ → (Files → Type 0) → Type 0
 ComesOfFiles call status cause =
     IfFilesTold (files_of call.wanted) call.files (λ files. ComesExactly status (file_faults (files_of call.wanted)) (cause files) call.status)
+
+-- `decide` answers 11 by the file of its packets alone, whether the disk is told or not
+abbrev pub PastByPackets : Option Asked → Option Files → ℕ → Type 0
+PastByPackets (Some (decides agent packets)) told answer =
+    IfFilesTold (files_of (Some (decides agent packets))) told (λ files. ComesExactly 11
+    (file_faults (files_of (Some (decides agent packets)))) (IsTooLong files (files_of (Some (decides agent packets)))) answer)
+PastByPackets other told answer = ⊤
 
 -- Each status says why. Of the shelf's failures (3) and of want of memory (10) the contract speaks itself.
 pub record StatusesTell (call : Call) : Type 0 where
@@ -64,6 +75,7 @@ pub record StatusesTell (call : Call) : Type 0 where
   pub past_limit : ComesOf call 11 (λ files. IsPastLimit call.wanted files call.old call.new)
   pub too_much : IfFilesTold (files_of call.wanted) call.files (λ files.
       NamesTooMuch call.wanted files → IsOneOf call.status (11 ∷ file_faults (files_of call.wanted)))
+  pub past_packets : PastByPackets call.wanted call.files call.status
   pub damaged : ComesOf call 13 (λ files. FindsItDamaged call.wanted files call.old call.new)
   pub disagreement : ComesOfFiles call 18 (λ files. FindsDisagreement call.wanted files)
   -- how a run stands
@@ -83,6 +95,17 @@ pub record StatusesTell (call : Call) : Type 0 where
   pub stands_short : call.status ≡ 14 → StandsShort call.wanted call.new
   pub stands_reached : IsOneOf call.status reached_statuses → StandsReached call.wanted call.new
 
+-- what a `run` leaves that came to its session: these are the texts of its files, and the session was held with what they give
+pub record LeavesRun (wanted : RunRequest) (told : Option Files) (old new : SiteView) : Type 0 where
+  pub texts : List NamedText
+  pub has : IfSome told (λ files. HasTexts files wanted texts)
+  pub last : End
+  pub came : CameTo (start_of wanted texts) last old new
+
+abbrev pub LeavesByTexts : Option Asked → Option Files → SiteView → SiteView → ℕ → Type 0
+LeavesByTexts (Some (runs wanted)) told old new answer = SaysAtMostOnce old new answer ⊎ LeavesRun wanted told old new
+LeavesByTexts other told old new answer = ⊤
+
 -- what holds of the site on return
 pub record HoldsOnReturn (call : Call) : Type 0 where
   -- what the status of `run` tells of what the files read as, of the clock and of the parcels taken, and they of it
@@ -97,3 +120,4 @@ pub record HoldsOnReturn (call : Call) : Type 0 where
   -- what stays as it was, whatever is asked, and what stays besides by what is asked
   pub stays : LeavesAll call.old call.new call.status
   pub leaves : Leaves call.wanted call.old call.new call.status
+  pub by_texts : LeavesByTexts call.wanted call.files call.old call.new call.status

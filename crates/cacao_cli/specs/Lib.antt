@@ -1,2 +1,4 @@
 pub mod Calls
 pub mod WithPeers
+pub mod WithFleets
+pub mod FleetUsage

@@ -99,7 +99,7 @@ decide-room (agent ∷ packets ∷ other ∷ names) = tt
 
 audit-room : (names : List Text) → IfSome (audit_asks names) HasRoom
 audit-room [] = tt
-audit-room (engine ∷ names) = mapped (words.audits engine) (option_and_then if_apart (pairs_of names)) (λ filters. tt)
+audit-room (engine ∷ names) = mapped (words.audits engine) (option_and_then if_apart (pairs_of agent_number names)) (λ filters. tt)
 
 -- ---- all
 

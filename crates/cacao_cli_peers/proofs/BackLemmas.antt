@@ -1,7 +1,6 @@
 -- The site beneath a wire comes back as it was lent, and what calls were made of the peers.
-use Rattle.std.proofs.Common.{◌≡◌, ◌≢◌, IfOk, IfErr, ◌⊎◌, inl, inr, ◌∙◌, refl, sym, ap, subst, arith, ℕ, ◌+◌, ◌≤◌, Bool, true, false, List, [], ◌∷◌, ◌++◌, length, drop, Option, Some, None, Result, Ok, Err}
-use Rattle.std.proofs.lemmas.List.{drop_at}
-use Rattle.cacao_site.specs.View.{DiskView, SiteView, lent_site}
+use Rattle.std.proofs.Common.{◌≡◌, ◌≢◌, IfOk, IfErr, inl, inr, ◌∙◌, sym, ap, subst, arith, ℕ, Bool, List, Option, Some, None, Result, Ok, Err}
+use Rattle.cacao_site.specs.View.{SiteView}
 use Rattle.cacao_site.specs.declared.parcel.Parcel.{Parcel}
 use Rattle.flow_core.specs.declared.flow_errors.LimitKind.TheVariants as limit
 use Rattle.flow_core_rules.specs.Givens.{Given}
@@ -18,37 +17,19 @@ use Rattle.oc2_wire.specs.declared.error.WireError.{WireError}
 use Rattle.oc2_wire.specs.declared.error.WireError.TheVariants as error
 use Rattle.oc2_wire_link.specs.Links.{LinkView}
 use Rattle.oc2_wire_link.specs.Peering.{Counts, PeerCalls, accepted, bound, closed, started}
-use Rattle.oc2_wire_site.specs.Marks.{WireMark, coded, mark_label, marked_site}
+use Rattle.oc2_wire.specs.ReplyWires.{retell}
+use Rattle.oc2_wire_site.specs.Marks.{WireMark, mark_label, marked_site}
 use Rattle.oc2_wire_site.specs.Wires.{WireView, new_mark, new_wire, wire_view}
 use Rattle.oc2_wire_site.proofs.MarkLemmas.{same_end}
 use Rattle.cacao_cli_session.specs.Holding.{close_end}
-use Rattle.cacao_cli_ends.specs.Ends.{End, disk_failed}
+use Rattle.cacao_cli_ends.specs.Ends.{End}
 use Rattle.cacao_cli_peers.specs.Pairing.{OverSite, SessionOver, wire_end}
 use Rattle.cacao_cli_peers.specs.PeerCounts.{AtMost, CallsAtMost}
+use Rattle.cacao_cli_peers.specs.SitesBeneath.{LeavesLink, beneath, beneath_label}
+use Rattle.cacao_cli_peers.specs.declared.beneath.Beneath.{Beneath}
+use Rattle.cacao_cli_peers.proofs.BeneathLemmas.{SameLoans, label-as, leaves-as, same_coded, same_loans, same_tail}
 
 -- ---- what stands behind a mark in a label
-
-same_head : (n m : ℕ) (l k : List ℕ) → n ∷ l ≡ m ∷ k → n ≡ m
-same_head n m l k e = cc
-
-same_tail : (n m : ℕ) (l k : List ℕ) → n ∷ l ≡ m ∷ k → l ≡ k
-same_tail n m l k e = cc
-
-one_is_not_none : (l k : List ℕ) → 1 ∷ l ≡ 0 ∷ k → ⊥
-one_is_not_none l k e = let bad : 1 ≡ 0 = same_head _ _ _ _ e in omega (arith, bad)
-
-behind_list : (a b x y : List ℕ) → 1 ∷ length a ∷ (a ++ x) ≡ 1 ∷ length b ∷ (b ++ y) → x ≡ y
-behind_list a b x y e =
-    let behind : length a ∷ (a ++ x) ≡ length b ∷ (b ++ y) = same_tail _ _ _ _ e in
-    let long : length a ≡ length b = same_head _ _ _ _ behind in
-    let whole : a ++ x ≡ b ++ y = same_tail _ _ _ _ behind in
-    sym (drop_at a x (length b) long) ∙ ap (drop (length b)) whole ∙ drop_at b y (length b) refl
-
-behind_coded : (o p : Option (List ℕ)) (x y : List ℕ) → coded o x ≡ coded p y → x ≡ y
-behind_coded None None x y e = same_tail _ _ _ _ e
-behind_coded None (Some b) x y e = absurd (one_is_not_none (length b ∷ (b ++ y)) x (sym e))
-behind_coded (Some a) None x y e = absurd (one_is_not_none (length a ∷ (a ++ x)) y e)
-behind_coded (Some a) (Some b) x y e = behind_list a b x y e
 
 pub behind_mark : (asking other : Bool) (a b : WireMark) (x y : List ℕ) → mark_label asking a x ≡ mark_label other b y → x ≡ y
 behind_mark asking other a b x y e =
@@ -56,32 +37,60 @@ behind_mark asking other a b x y e =
     let two = same_tail _ _ _ _ one in
     let three = same_tail _ _ _ _ two in
     let four = same_tail _ _ _ _ three in
-    let received = behind_coded a.lines.link.received b.lines.link.received _ _ four in
-    let to_come = behind_coded a.lines.link.to_come b.lines.link.to_come _ _ received in
-    let sent = behind_coded a.lines.link.sent b.lines.link.sent _ _ to_come in
-    behind_list a.lines.unread b.lines.unread x y sent
+    let received = (same_coded a.lines.link.received b.lines.link.received _ _ four).1 in
+    let to_come = (same_coded a.lines.link.to_come b.lines.link.to_come _ _ received).1 in
+    let sent = (same_coded a.lines.link.sent b.lines.link.sent _ _ to_come).1 in
+    (same_coded (Some a.lines.unread) (Some b.lines.unread) x y sent).1
 
--- A wire was made over a site that was lent under this name, and the site that it is over comes back, by the label of its disk.
-pub over-site : (asking other : Bool) (name name' : ℕ) (old now new : SiteView) (link : LinkView) (mark : WireMark) (puts taken : List (ℕ × Parcel))
-    (empty : List ℕ) (mishaps : ℕ) (first last : WireView) → first ≡ new_wire (lent_site name old) link asking
-    → last.site ≡ wire_view (marked_site other mark (lent_site name' now)) puts taken empty mishaps
-    → last.site.disk.label ≡ first.site.disk.label → (name' ≡ name → new ≡ now) → OverSite asking old new first last
-over-site asking other name name' old now new link mark puts taken empty mishaps first last begins is label back =
-    record { name = name; link = link; begins = begins; puts = puts; taken = taken; empty = empty; mishaps = mishaps; mark = mark; site = is ∙ whole }
+-- what contracts see of a site that is lent so
+abbrev pub seen : {S : Type 0} {s : _} → (S → SiteView) → Beneath S s → SiteView
+seen view site = beneath site.site.ghost_name (view site.lent.value) site.lost (view site.site.now)
+
+pub same-name : {S : Type 0} {s : _} {a b : Beneath S s} → a ≡ b → a.site.ghost_name ≡ b.site.ghost_name
+same-name {S} {s} e = ap (λ (x : Beneath S s). x.site.ghost_name) e
+
+pub same-now : {S : Type 0} {s : _} {a b : Beneath S s} → a ≡ b → a.site.now ≡ b.site.now
+same-now {S} {s} e = ap (λ (x : Beneath S s). x.site.now) e
+
+-- a site that was just lent, as it was (what is lost over its link is no count of a wire)
+pub lent-as : (name : ℕ) (was now old : SiteView) (lost : ℕ) (link : LinkView) (asking : Bool) → was ≡ old → now ≡ old → new_wire (beneath name was lost now) link asking ≡ new_wire (beneath name old 0 old) link asking
+lent-as name was now old lost link asking one two =
+    ap (λ (s : SiteView). new_wire (beneath name s 0 now) link asking) one ∙ ap (λ (s : SiteView). new_wire (beneath name old 0 s) link asking) two
+
+-- A wire was made over a site that was lent under this name, and the site that it is over comes back, by the label of its disk; by that it is
+-- known, too, what its link was.
+pub over-site : (asking other : Bool) (name name' : ℕ) (old was now new : SiteView) (lost : ℕ) (link : LinkView) (mark : WireMark) (puts taken : List (ℕ × Parcel))
+    (empty : List ℕ) (mishaps : ℕ) (first last : WireView) → first ≡ new_wire (beneath name old 0 old) link asking
+    → last.site ≡ wire_view (marked_site other mark (beneath name' was lost now)) puts taken empty mishaps
+    → last.site.disk.label ≡ first.site.disk.label → LeavesLink was now → (name' ≡ name → new ≡ now) → OverSite asking old new first last
+over-site asking other name name' old was now new lost link mark puts taken empty mishaps first last begins is label leaves back =
+    record { name = name; link = link; begins = begins; puts = puts; taken = taken; empty = empty; mishaps = mishaps; mark = mark; site = is ∙ whole; leaves = left }
   where
-    labels : mark_label other mark (name' ∷ now.disk.label) ≡ mark_label asking (new_mark link) (name ∷ old.disk.label)
+    labels : mark_label other mark (beneath_label name' was now.disk.label) ≡ mark_label asking (new_mark link) (beneath_label name old old.disk.label)
     labels = sym (ap (λ (s : SiteView). s.disk.label) is) ∙ label ∙ ap (λ (w : WireView). w.site.disk.label) begins
 
-    named : name' ≡ name
-    named = same_head name' name now.disk.label old.disk.label (behind_mark other asking mark (new_mark link) _ _ labels)
+    behind : beneath_label name' was now.disk.label ≡ beneath_label name old old.disk.label
+    behind = behind_mark other asking mark (new_mark link) _ _ labels
+
+    loans : SameLoans name' was name old now.disk.label old.disk.label
+    loans = same_loans name' name was old now.disk.label old.disk.label behind
 
     end_is : other ≡ asking
     end_is = same_end other asking mark (new_mark link) _ _ labels
 
-    whole : wire_view (marked_site other mark (lent_site name' now)) puts taken empty mishaps ≡ wire_view (marked_site asking mark (lent_site name new)) puts taken empty mishaps
-    whole = ap (λ (b : Bool). wire_view (marked_site b mark (lent_site name' now)) puts taken empty mishaps) end_is
-        ∙ ap (λ (n : ℕ). wire_view (marked_site asking mark (lent_site n now)) puts taken empty mishaps) named
-        ∙ ap (λ (s : SiteView). wire_view (marked_site asking mark (lent_site name s)) puts taken empty mishaps) (sym (back named))
+    here : new ≡ now
+    here = back loans.named
+
+    told : beneath_label name' was now.disk.label ≡ beneath_label name old now.disk.label
+    told = behind ∙ label-as name old old.disk.label now.disk.label (sym loans.behind)
+
+    whole : wire_view (marked_site other mark (beneath name' was lost now)) puts taken empty mishaps ≡ wire_view (marked_site asking mark (beneath name old 0 new)) puts taken empty mishaps
+    whole = ap (λ (b : Bool). wire_view (marked_site b mark (retell (beneath_label name' was now.disk.label) 0 now)) puts taken empty mishaps) end_is
+        ∙ ap (λ (l : List ℕ). wire_view (marked_site asking mark (retell l 0 now)) puts taken empty mishaps) told
+        ∙ ap (λ (s : SiteView). wire_view (marked_site asking mark (beneath name old 0 s)) puts taken empty mishaps) (sym here)
+
+    left : LeavesLink old new
+    left = subst (λ (s : SiteView). LeavesLink old s) (sym here) (leaves-as name' name was old now now.disk.label old.disk.label loans leaves)
 
 -- ---- the filters' end is over the same disk
 

@@ -1,5 +1,10 @@
+pub mod AloneLemmas
 pub mod BackLemmas
+pub mod BeneathLemmas
+pub mod FewLemmas
+pub mod LeaveLemmas
 pub mod OutcomeLemmas
 pub mod OverLemmas
 pub mod PairLemmas
 pub mod ServeLemmas
+pub mod UseLemmas

@@ -1,3 +1,5 @@
 pub mod FilterServing
 pub mod Pairing
 pub mod PeerCounts
+pub mod PeerUsage
+pub mod SitesBeneath

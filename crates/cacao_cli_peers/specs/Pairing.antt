@@ -2,7 +2,7 @@
 use Rattle.std.specs.Prelude.{◌≡◌, ◌≢◌, ◌⊎◌, ℕ, Bool, true, false, List, Option, Result}
 use Rattle.cacao_check.specs.Fits.{FitsKind}
 use Rattle.cacao_site.specs.LinkCalls.{GainsAll}
-use Rattle.cacao_site.specs.View.{SiteView, lent_site}
+use Rattle.cacao_site.specs.View.{SiteView}
 use Rattle.cacao_site.specs.declared.parcel.Parcel.{Parcel}
 use Rattle.flow_core.specs.Setups.{AreAccepted}
 use Rattle.flow_core_rules.specs.Accepted.{Accepted}
@@ -29,6 +29,7 @@ use Rattle.cacao_cli_ends.specs.Asked.{Asked}
 use Rattle.cacao_cli_ends.specs.Files.{NamedText, ReadsTo, ShelfCall, files_of}
 use Rattle.cacao_cli_status_laws.specs.Ended.{NoSession, PerformedBy}
 use Rattle.cacao_cli_peers.specs.PeerCounts.{Calls, Closes, behind_close}
+use Rattle.cacao_cli_peers.specs.SitesBeneath.{LeavesLink, beneath}
 
 -- how a call ends whose end of a wire refused
 abbrev pub wire_end : WireError → End
@@ -43,18 +44,19 @@ wire_end error.TooLong = past LineBytes
 wire_end error.Link = peers_failed
 wire_end error.Memory = no_memory
 
--- A wire was made over the site and a new link; and this is what it came to, over the site as it is now. (The site was lent to it,
--- and its disk marked: the label tells so, which no call changes.)
+-- A wire was made over the site and a new link; and this is what it came to, over the site as it is now. (The site was lent to it
+-- without its link, and its disk marked: the label tells so, which no call changes.) The link of the site was not used.
 pub record OverSite (asking : Bool) (old new : SiteView) (first last : WireView) : Type 0 where
   pub name : ℕ
   pub link : LinkView
-  pub begins : first ≡ new_wire (lent_site name old) link asking
+  pub begins : first ≡ new_wire (beneath name old 0 old) link asking
   pub puts : List (ℕ × Parcel)
   pub taken : List (ℕ × Parcel)
   pub empty : List ℕ
   pub mishaps : ℕ
   pub mark : WireMark
-  pub site : last.site ≡ wire_view (marked_site asking mark (lent_site name new)) puts taken empty mishaps
+  pub site : last.site ≡ wire_view (marked_site asking mark (beneath name old 0 new)) puts taken empty mishaps
+  pub leaves : LeavesLink old new
 
 -- the session closed, or a call refused
 pub record ClosesOver (given : Given) (run most : ℕ) (answers : List OperatorAnswer) (old new : SiteView) (how : End) : Type 0 where

@@ -1,6 +1,7 @@
 //! The commands that work with a peer: a session whose filters stand in another process, and these filters.
 #![tactic(auto)]
 
+mod beneath;
 mod ending;
 mod pairing;
 mod serving;

@@ -7,6 +7,7 @@ ghost use Rattle.cacao_cli_ends.specs.Told.{end_of};
 ghost use Rattle.cacao_cli_peers.specs.Pairing.{GoesAsPair, PairsSo};
 ghost use Rattle.cacao_cli_peers.specs.PeerCounts.{CallsAtMost};
 
+use crate::beneath::Beneath;
 use crate::ending::{close_behind, wire_end};
 use cacao_cli_ends::End;
 use cacao_cli_session::close_end;
@@ -72,14 +73,16 @@ fn pair_up<'w, S: Site, P: Peers>(
     let Ok(link) = peers.start() else {
         return End::PeersFailed;
     };
-    let mut wire = WireSite::asking_in(alloc, room, &mut *site, link);
+    let lent = Beneath::new(&mut *site);
+    let mut wire = WireSite::asking_in(alloc, room, lent, link);
     let end = match serve_engine(alloc, &mut wire, setup, answers, run, most) {
         Ok(close) => close_end(close),
         Err(error) => wire_end(error),
     };
-    let (mut lent, link) = wire.into_parts();
+    let (lent, link) = wire.into_parts();
+    let mut back = lent.into_site();
     let last = close_behind(peers, link, end);
     // (the site is lent up to here, so that it is known which one comes back)
-    let _ = &mut lent;
+    let _ = &mut back;
     last
 }

@@ -4,6 +4,7 @@ ghost use Rattle.cacao_cli_ends.specs.Told.{end_of};
 ghost use Rattle.cacao_cli_peers.specs.FilterServing.{Accepts, FailsToAccept, ServesSo};
 ghost use Rattle.cacao_cli_peers.specs.PeerCounts.{CallsAtMost};
 
+use crate::beneath::Beneath;
 use crate::ending::{close_behind, wire_end};
 use cacao_cli_ends::End;
 use cacao_site::Site;
@@ -46,16 +47,18 @@ fn serve_one<'w, S: Site, P: Peers>(
     let Ok(link) = peers.accept() else {
         return End::PeersFailed;
     };
-    let mut wire = WireSite::answering_in(alloc, room, &mut *site, link);
+    let lent = Beneath::new(&mut *site);
+    let mut wire = WireSite::answering_in(alloc, room, lent, link);
     let end = match serve_agent(alloc, &mut wire) {
         Ok(_) => End::Done,
         Err(error) => wire_end(error),
     };
     // (its contract tells what each state of a link means)
     let _ = wire.state();
-    let (mut lent, link) = wire.into_parts();
+    let (lent, link) = wire.into_parts();
+    let mut back = lent.into_site();
     let last = close_behind(peers, link, end);
     // (the site is lent up to here, so that it is known which one comes back)
-    let _ = &mut lent;
+    let _ = &mut back;
     last
 }

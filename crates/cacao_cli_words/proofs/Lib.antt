@@ -1,8 +1,9 @@
-pub mod AuditLemmas
 pub mod ClapLemmas
 pub mod ClapRowLemmas
 pub mod ClapRules
 pub mod ClapSteps
 pub mod ClapWalk
+pub mod FleetLemmas
 pub mod OptionLemmas
+pub mod PairLemmas
 pub mod RequestLemmas

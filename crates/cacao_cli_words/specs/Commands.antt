@@ -3,8 +3,10 @@ use Rattle.std.specs.Prelude.{ℕ, Option, map, option_map}
 use Rattle.std.specs.Borrow.{Bor}
 use Rattle.cacao_cli_words.specs.Words.{Text}
 use Rattle.cacao_cli_words.specs.Found.{Parts}
-use Rattle.cacao_cli_words.specs.Requests.{PeerRequest, Request, RunRequest, pairs, serves, canonises, checks, runs, shows, lists_rules, decides, rehearses, shadows, audits}
+use Rattle.cacao_cli_words.specs.Requests.{FleetRequest, PeerRequest, Request, RunRequest, fleet_of, pairs, serves, canonises, checks, runs, shows, lists_rules, decides, rehearses, shadows, audits}
 use Rattle.cacao_cli_words.specs.declared.filter_file.FilterFile.{FilterFile}
+use Rattle.cacao_cli_words.specs.declared.fleet_words.FleetWords.{FleetWords}
+use Rattle.cacao_cli_words.specs.RunBooks.{run_of}
 use Rattle.cacao_cli_words.specs.declared.reading.Found.{Found}
 use Rattle.cacao_cli_words.specs.declared.peer_words.PeerCommand.{PeerCommand}
 use Rattle.cacao_cli_words.specs.declared.peer_words.PeerCommand.TheVariants.{Filters, Pair}
@@ -45,3 +47,6 @@ request_by (Audit engine filters) = audits engine.now (map filter_of filters.ite
 abbrev pub peer_request_by : PeerCommand → PeerRequest
 peer_request_by (Pair wanted) = pairs (run_request wanted)
 peer_request_by Filters = serves
+
+abbrev pub fleet_request_by : FleetWords → FleetRequest
+fleet_request_by wanted = fleet_of wanted.most (map run_of wanted.runs.items)

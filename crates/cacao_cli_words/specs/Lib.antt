@@ -5,4 +5,5 @@ pub mod Found
 pub mod Hyphens
 pub mod Parts
 pub mod Requests
+pub mod RunBooks
 pub mod Words

@@ -3,7 +3,7 @@ use Rattle.std.specs.Prelude.{List, [], ◌∷◌, Option, None, codes, if◌the
 use Rattle.std.specs.Str.{bytes_eq}
 use Rattle.cacao_cli_words.specs.Words.{Text}
 use Rattle.cacao_cli_words.specs.Found.{Parts}
-use Rattle.cacao_cli_words.specs.Requests.{Request, RunRequest, lists_rules, rehearses, shadows, agent_number, positions_number, canon_asks, check_asks, show_asks, decide_asks, number_asks, audit_asks, run_from}
+use Rattle.cacao_cli_words.specs.Requests.{FleetRequest, Request, RunRequest, fleet_from, lists_rules, rehearses, shadows, agent_number, positions_number, canon_asks, check_asks, show_asks, decide_asks, number_asks, audit_asks, run_from}
 
 -- what the commands without options, but for `audit`, ask for with these names
 abbrev pub plain_asks : Text → List Text → Option Request
@@ -31,3 +31,12 @@ run_by_values (run ∷ steps ∷ bind ∷ answers ∷ other ∷ values) names = 
 
 abbrev pub run_by : Parts → Option RunRequest
 run_by parts = run_by_values parts.values parts.names
+
+-- what `fleet` asks for with the value of its option and these names
+abbrev pub fleet_by_values : List (Option Text) → List Text → Option FleetRequest
+fleet_by_values [] names = None
+fleet_by_values (steps ∷ []) names = fleet_from steps names
+fleet_by_values (steps ∷ other ∷ values) names = None
+
+abbrev pub fleet_by : Parts → Option FleetRequest
+fleet_by parts = fleet_by_values parts.values parts.names

@@ -1,5 +1,5 @@
 -- Promise: What the words of the command line ask for: one case and one row a command.
-use Rattle.std.specs.Prelude.{ℕ, nat_le, ◌==◌, Bool, true, not, ◌&&◌, List, [], ◌∷◌, Option, Some, None, option_map, option_and_then, find, codes, if◌then◌else◌}
+use Rattle.std.specs.Prelude.{ℕ, nat_le, ◌==◌, Bool, true, not, ◌&&◌, List, [], ◌∷◌, length, Option, Some, None, option_map, option_and_then, find, codes, if◌then◌else◌}
 use Rattle.std.specs.List.{list_any}
 use Rattle.std.specs.Str.{bytes_eq}
 use Rattle.base_decimals.specs.Numbers.{number}
@@ -29,6 +29,11 @@ pub data Request : Type 0 where
 pub data PeerRequest : Type 0 where
   pairs : (wanted : RunRequest) → PeerRequest
   serves : PeerRequest
+
+-- what `fleet` asks for: runs side by side, each with its number and the name of its playbook
+pub record FleetRequest : Type 0 where
+  pub runs : List (ℕ × Text)
+  pub most : ℕ  -- the most records of all runs together
 
 -- a number from low to most, in decimal without a sign and without a leading zero
 abbrev pub at_least : ℕ → ℕ → Option ℕ
@@ -95,28 +100,28 @@ decide_asks (agent ∷ []) = None
 decide_asks (agent ∷ packets ∷ []) = option_map (λ n. decides n packets) (agent_number agent)
 decide_asks (agent ∷ packets ∷ other ∷ names) = None
 
--- numbers of agents, each with a name behind it
-abbrev pub pairs_of : List Text → Option (List (ℕ × Text))
-pairs_of [] = Some []
-pairs_of (agent ∷ []) = None
-pairs_of (agent ∷ name ∷ names) =
-    option_and_then (λ n. option_map (λ more. (n, name) ∷ more) (pairs_of names)) (agent_number agent)
+-- numbers, each with a name behind it
+abbrev pub pairs_of : (Text → Option ℕ) → List Text → Option (List (ℕ × Text))
+pairs_of read [] = Some []
+pairs_of read (number ∷ []) = None
+pairs_of read (number ∷ name ∷ names) =
+    option_and_then (λ n. option_map (λ more. (n, name) ∷ more) (pairs_of read names)) (read number)
 
-abbrev pub has_agent : ℕ → List (ℕ × Text) → Bool
-has_agent n = list_any (λ filter. filter.0 == n)
+abbrev pub has_number : ℕ → List (ℕ × Text) → Bool
+has_number n = list_any (λ pair. pair.0 == n)
 
--- no agent stands twice
+-- no number stands twice
 abbrev pub are_apart : List (ℕ × Text) → Bool
 are_apart [] = true
-are_apart (filter ∷ filters) = not (has_agent filter.0 filters) && are_apart filters
+are_apart (pair ∷ behind) = not (has_number pair.0 behind) && are_apart behind
 
 abbrev pub if_apart : List (ℕ × Text) → Option (List (ℕ × Text))
-if_apart filters = if are_apart filters then Some filters else None
+if_apart all = if are_apart all then Some all else None
 
 -- one name, and the files of agents, each agent at most once
 abbrev pub audit_asks : List Text → Option Request
 audit_asks [] = None
-audit_asks (engine ∷ names) = option_map (audits engine) (option_and_then if_apart (pairs_of names))
+audit_asks (engine ∷ names) = option_map (audits engine) (option_and_then if_apart (pairs_of agent_number names))
 
 -- a command: its name, its options, and what a reading of its words asks for
 pub record Command (A : Type 0) : Type 0 where
@@ -167,3 +172,24 @@ request = request_in commands
 
 abbrev pub peer_request : List Text → Option PeerRequest
 peer_request = request_in peer_commands
+
+-- 1 to 16 of them
+abbrev pub if_fleet : List (ℕ × Text) → Option (List (ℕ × Text))
+if_fleet [] = None
+if_fleet (pair ∷ behind) = if nat_le (length (pair ∷ behind)) 16 then Some (pair ∷ behind) else None
+
+abbrev pub fleet_of : ℕ → List (ℕ × Text) → FleetRequest
+fleet_of most all = record { runs = all; most = most }
+
+-- 1 to 16 numbers of runs, each with a name behind it, and no number twice; with `--steps` or without
+abbrev pub fleet_runs : List Text → Option (List (ℕ × Text))
+fleet_runs names = option_and_then if_apart (option_and_then if_fleet (pairs_of run_number names))
+
+abbrev pub fleet_from : Option Text → List Text → Option FleetRequest
+fleet_from steps names = option_and_then (λ most. option_map (fleet_of most) (fleet_runs names)) (most_records steps)
+
+abbrev pub fleet_commands : List (Command FleetRequest)
+fleet_commands = command (codes "fleet") (codes "steps" ∷ []) (λ r. fleet_from (value_in (codes "steps") r.options) r.names) ∷ []
+
+abbrev pub fleet_request : List Text → Option FleetRequest
+fleet_request = request_in fleet_commands

@@ -2,7 +2,7 @@
 ghost use Rattle.std.specs.Prelude.{◌≡◌, ◌==◌, IfOk, option_and_then, option_map, map};
 ghost use Rattle.std.specs.List.{list_any};
 ghost use Rattle.cacao_cli_words.specs.Commands.{filter_of, request_by};
-ghost use Rattle.cacao_cli_words.specs.Requests.{are_apart, audit_asks, audits, if_apart, pairs_of};
+ghost use Rattle.cacao_cli_words.specs.Requests.{agent_number, are_apart, audit_asks, audits, if_apart, pairs_of};
 
 use crate::filter_file::FilterFile;
 use crate::words::{Command, read_agent};
@@ -28,7 +28,7 @@ fn audit_with<'w>(
     names: &[&'w str],
 ) -> Result<Option<Command<'w>>, AllocError>
     ensures { IfOk result (λ o. option_map request_by o
-        ≡ option_map (audits engine.entry.now) (option_and_then if_apart (pairs_of (map (λ name. name.now) names.entry.now)))) }
+        ≡ option_map (audits engine.entry.now) (option_and_then if_apart (pairs_of agent_number (map (λ name. name.now) names.entry.now)))) }
 {
     match pairs_of(alloc, names)? {
         Some(filters) => Ok(audit_of(engine, filters)),
@@ -49,7 +49,7 @@ fn audit_of<'w>(engine: &'w str, filters: Vec<FilterFile<'w>>) -> Option<Command
 
 /// The numbers of agents, each with the name behind it.
 fn pairs_of<'w>(alloc: Global, names: &[&'w str]) -> Result<Option<Vec<FilterFile<'w>>>, AllocError>
-    ensures { IfOk result (λ o. option_map (λ filters. map filter_of filters.items) o ≡ pairs_of (map (λ name. name.now) names.entry.now)) }
+    ensures { IfOk result (λ o. option_map (λ filters. map filter_of filters.items) o ≡ pairs_of agent_number (map (λ name. name.now) names.entry.now)) }
 {
     let mut filters = Vec::new(alloc);
     let mut rest = names;

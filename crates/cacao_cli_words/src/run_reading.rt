@@ -69,7 +69,7 @@ fn run_with<'w>(
     })
 }
 
-fn read_run_number(text: &str) -> Option<u64>
+pub(crate) fn read_run_number(text: &str) -> Option<u64>
     ensures value { result ≡ run_number text.now }
     ensures low { IfSome result (λ n. 1 ≤ n) }
     ensures high { IfSome result (λ n. n ≤ 9_007_199_254_740_991) }
@@ -77,7 +77,7 @@ fn read_run_number(text: &str) -> Option<u64>
     read_from(1, LAST_RUN, text)
 }
 
-fn most_records(steps: Option<&str>) -> Option<u64>
+pub(crate) fn most_records(steps: Option<&str>) -> Option<u64>
     ensures value { result ≡ most_records (maybe_text steps.entry) }
     ensures low { IfSome result (λ n. 1 ≤ n) }
 {

@@ -18,7 +18,7 @@ use std::rt::Files;
 use test_rows::{Row, Tally, read_file};
 
 /// The files of rows. The texts that the first one names stand for all.
-const FILES: [&str; 12] = [
+const FILES: [&str; 13] = [
     "texts.txt",
     "canon.txt",
     "words.txt",
@@ -26,6 +26,7 @@ const FILES: [&str; 12] = [
     "audits.txt",
     "runs.txt",
     "worked.txt",
+    "fleets.txt",
     "links.txt",
     "wires.txt",
     "rehearsals.txt",

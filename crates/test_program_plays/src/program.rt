@@ -1,6 +1,6 @@
 // The program with the shelf and the site that it is called on.
 use cacao_cli::top;
-use cacao_site::{Bytes, Disk, Parcel};
+use cacao_site::{Bytes, Disk, Parcel, Rack};
 use cacao_site_memory::{CallList, MemoryShelf, MemorySite, SitePlan, WeatherList};
 use oc2_wire_memory::{MemoryLink, MemoryLinks, MemoryPeers, Pieces};
 use std::alloc::{AllocError, Global};
@@ -148,8 +148,12 @@ impl Program {
 
     /// Writes a file of the disk from its front on; false where there is no such file, or that failed.
     pub fn fill(&mut self, number: u8, bytes: &[u8]) -> bool {
-        if number > 16 || bytes.len() > 67_108_864 {
+        if number > 31 || bytes.len() > 67_108_864 {
             return false;
+        }
+        if number > 16 {
+            let file = number - 16;
+            return self.site.run_write(file, 0, bytes).is_ok() && self.site.run_sync(file).is_ok();
         }
         self.site.write(number, 0, bytes).is_ok() && self.site.sync(number).is_ok()
     }

@@ -3,7 +3,7 @@ use Rattle.std.proofs.Common.{◌≡◌, subst, Option, IfOk}
 use Rattle.std.specs.Prelude.{option_map}
 use Rattle.cacao_cli_words.specs.Commands.{request_by}
 use Rattle.cacao_cli_words.specs.Requests.{Request}
-use Rattle.cacao_cli_words.proofs.AuditLemmas.{asks-first}
+use Rattle.cacao_cli_words.proofs.PairLemmas.{asks-first}
 use Rattle.cacao_cli_words.proofs.audit_words.audit_asked.Goals as goal
 
 pub returns-in-len1-up : goal.returns-in-len1-up

@@ -1,11 +1,11 @@
 use Rattle.std.proofs.Common.{◌≡◌, ◌++◌, map, length}
 use Rattle.std.specs.Prelude.{option_map}
 use Rattle.cacao_cli_words.specs.Commands.{filter_of}
-use Rattle.cacao_cli_words.specs.Requests.{pairs_of}
+use Rattle.cacao_cli_words.specs.Requests.{agent_number, pairs_of}
 use Rattle.cacao_cli_words.proofs.audit_words.pairs_of.Given as goal
 
 abbrev pub invariant-loop-rest : goal.invariant-loop-rest
-invariant-loop-rest l = pairs_of (map (λ name. name.now) l.fn.names) ≡ option_map (λ more. map filter_of l.filters.items ++ more) (pairs_of (map (λ name. name.now) l.rest))
+invariant-loop-rest l = pairs_of agent_number (map (λ name. name.now) l.fn.names) ≡ option_map (λ more. map filter_of l.filters.items ++ more) (pairs_of agent_number (map (λ name. name.now) l.rest))
 
 abbrev pub decreases-loop-rest : goal.decreases-loop-rest
 decreases-loop-rest l = length l.rest

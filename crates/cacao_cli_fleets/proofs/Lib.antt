@@ -1,0 +1,12 @@
+pub mod CauseLemmas
+pub mod EndLemmas
+pub mod FleetCounts
+pub mod GoesLemmas
+pub mod LineLemmas
+pub mod MadeLemmas
+pub mod OutcomeLemmas
+pub mod ReadyLemmas
+pub mod RunLemmas
+pub mod StandLemmas
+pub mod TextLemmas
+pub mod UndamagedLemmas
