@@ -270,5 +270,3 @@ def hands(program, cases, table, rounds, draw):
     answers(program, table, rounds, examples)
     beside(program, table, rounds, 3000)
     tight_loop(program, table, 20_000 if rounds >= 100 else 1_000, 5)
-    if not program.has(["fleet", "1", "book.json"]):
-        table.note("hands: this program has no `fleet`, so a `run` beside a `fleet` was not tried")

@@ -4,6 +4,7 @@ import statistics
 import time
 
 from .books import AGENTS, END, action, deny, identifier, playbook, short, starts, text_of
+from .filters import alone
 from .hands import DISK_FAILED
 from .journal import ENGINE, Damaged, Kept, agent_file, disagreement, is_answered, line_front, record
 from .play import Folder, progress
@@ -183,6 +184,23 @@ def killed(program, table, rounds, draw):
         table.note(f"pair: {what}: {waiting} `filters` waited for a connection, since their `pair` was killed before it connected; a connection ended each")
 
 
+def blocks(program, case, table):
+    """The playbook that blocks a host by `run` and by `pair`: the same is said, its rule is in force, and the files agree."""
+    row, wanted = table.row("pair", "the playbook that blocks a host, and then `rules 1` and `audit`"), []
+    for word in ("run", "pair"):
+        row.tries += 1
+        with Watched(row, case.files) as folder:
+            played = program.play(folder, [word, *case.stages[0][1:]])
+            rules = program.play(folder, ["rules", "1"])
+            audit = program.play(folder, ["audit", ENGINE, "1", agent_file(1)])
+            wanted = wanted or played.lines
+            row.expect(played.status == 0 and played.lines == wanted and is_acted(Kept(folder)), f"{played}")
+            # (the moment of the act stands between)
+            right = rules.said.startswith(b"1 deny both conn4 - - - 198.51.100.7/32 - ") and rules.said.endswith(b" - none\n")
+            row.expect(rules.status == 0 and len(rules.lines) == 1 and right, f"{rules}")
+            row.expect((audit.status, audit.lines) == (0, ["audit ok 9 1"]), f"{audit}")
+
+
 # -- in one folder ---------------------------------------------------------------------------------------------------------------------
 
 
@@ -333,9 +351,12 @@ def pair(program, cases, table, rounds, draw):
         return table.note("pair: this program has no `pair` and `filters`")
     clients(program, table, rounds, draw)
     servers(program, short(cases), table)
+    if short(cases).name.endswith("block-a-host.json"):
+        blocks(program, short(cases), table)
     killed(program, table, rounds, draw)
     beside(program, table, min(rounds, 200))
     filters_beside(program, table, min(rounds, 200))
     faulty(program, short(cases), table, rounds, draw)
+    alone(program, table, rounds, draw)
     progress("pair: many commands")
     return steady(program, table, 10_000 if rounds >= 100 else 1_000)

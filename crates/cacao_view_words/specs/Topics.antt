@@ -4,7 +4,7 @@ use Rattle.std.specs.Str.{bytes_eq}
 use Rattle.cacao_view_words.specs.Texts.{Text}
 use Rattle.cacao_view_words.specs.declared.topic.Topic.{Topic}
 use Rattle.cacao_view_words.specs.declared.topic.Topic.TheVariants as word
-use Rattle.cacao_view_words.specs.declared.topic_texts.TheConstants.{CANON, CHECK, RUN, PAIR, FILTERS, SHOW, RULES, DECIDE, SHADOW, AUDIT}
+use Rattle.cacao_view_words.specs.declared.topic_texts.TheConstants.{CANON, CHECK, RUN, PAIR, FILTERS, FLEET, SHOW, RULES, DECIDE, SHADOW, AUDIT}
 use Rattle.cacao_view_words.specs.declared.topic_texts.TheConstants.{REHEARSE, HELP, VERSION, LOG, GRAPH, EXPLAIN, PREFLIGHT, ALL_WORDS, VERSION_LINES}
 
 -- a word, and what stands for it
@@ -28,6 +28,7 @@ topics =
     ∷ named (codes "run") word.Run
     ∷ named (codes "pair") word.Pair
     ∷ named (codes "filters") word.Filters
+    ∷ named (codes "fleet") word.Fleet
     ∷ named (codes "show") word.Show
     ∷ named (codes "rules") word.Rules
     ∷ named (codes "decide") word.Decide
@@ -51,6 +52,7 @@ topic_lines word.Check = map (λ line. line.now) CHECK.now
 topic_lines word.Run = map (λ line. line.now) RUN.now
 topic_lines word.Pair = map (λ line. line.now) PAIR.now
 topic_lines word.Filters = map (λ line. line.now) FILTERS.now
+topic_lines word.Fleet = map (λ line. line.now) FLEET.now
 topic_lines word.Show = map (λ line. line.now) SHOW.now
 topic_lines word.Rules = map (λ line. line.now) RULES.now
 topic_lines word.Decide = map (λ line. line.now) DECIDE.now

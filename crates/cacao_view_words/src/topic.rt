@@ -4,8 +4,8 @@ ghost use Rattle.cacao_view_words.specs.Texts.{AreLines, lines_in};
 ghost use Rattle.cacao_view_words.specs.Topics.{all_words, topic_in, topic_lines, version_lines};
 
 use crate::topic_texts::{
-    ALL_WORDS, AUDIT, CANON, CHECK, DECIDE, EXPLAIN, FILTERS, GRAPH, HELP, LOG, PAIR, PREFLIGHT,
-    REHEARSE, RULES, RUN, SHADOW, SHOW, VERSION, VERSION_LINES,
+    ALL_WORDS, AUDIT, CANON, CHECK, DECIDE, EXPLAIN, FILTERS, FLEET, GRAPH, HELP, LOG, PAIR,
+    PREFLIGHT, REHEARSE, RULES, RUN, SHADOW, SHOW, VERSION, VERSION_LINES,
 };
 
 /// A word of one of the two programs.
@@ -16,6 +16,7 @@ pub enum Topic {
     Run,
     Pair,
     Filters,
+    Fleet,
     Show,
     Rules,
     Decide,
@@ -42,6 +43,7 @@ impl Topic {
             Topic::Run => RUN,
             Topic::Pair => PAIR,
             Topic::Filters => FILTERS,
+            Topic::Fleet => FLEET,
             Topic::Show => SHOW,
             Topic::Rules => RULES,
             Topic::Decide => DECIDE,
@@ -76,6 +78,9 @@ pub(crate) fn topic_in(word: &str) -> Option<Topic>
     }
     if word == "filters" {
         return Some(Topic::Filters);
+    }
+    if word == "fleet" {
+        return Some(Topic::Fleet);
     }
     if word == "show" {
         return Some(Topic::Show);

@@ -7,6 +7,7 @@ pub(crate) const ALL_WORDS: &[&str] = &[
     "cacao run --run N [--steps N] [--bind FILE] [--answers FILE] BOOK [LIBRARY..]: begins run N of a playbook or goes on with it, as in: cacao run --run 7 a.json\n",
     "cacao pair --run N [--steps N] [--bind FILE] [--answers FILE] BOOK [LIBRARY..]: does what run does, with the filters in a process of their own, as in: cacao pair --run 7 a.json\n",
     "cacao filters: is that process, which says its port and answers the commands that come, as in: cacao filters\n",
+    "cacao fleet [--steps N] RUN BOOK [RUN BOOK ..]: begins runs side by side over the same filters or goes on with them, as in: cacao fleet 7 a.json 8 b.json\n",
     "cacao show: says how the run in this folder stands, as in: cacao show\n",
     "cacao rules AGENT: says the rules that a filter holds, as in: cacao rules 1\n",
     "cacao decide AGENT PACKETS: says what a filter decides for packets, as in: cacao decide 1 p.txt\n",
@@ -57,6 +58,15 @@ pub(crate) const FILTERS: &[&str] = &[
     "cacao filters\n",
     "Says port P, waits for one connection to that port of this machine, opens the files of all sixteen filters in this folder, and answers the commands that come, a line each, up to the end of input. cacao pair starts it, and it may be started by hand.\n",
     "Status 0: the input ended. 8: the disk failed. 11: a line was too long, or a limit would be passed. 13: a file is damaged. 15: too many lines changed nothing. 17: it could not listen or accept, or the connection failed.\n",
+    "Status 2: the words were not understood. 9: a line could not be written. 10: memory was wanted.\n",
+];
+
+pub(crate) const FLEET: &[&str] = &[
+    "cacao fleet [--steps N] RUN BOOK [RUN BOOK ..]\n",
+    "Begins 1 to 16 runs in this folder, or goes on with them, side by side over the same filters. RUN is the number of a run, as of cacao run --run, and BOOK its playbook, which stands alone, without bindings: every agent is filter 1. The first run keeps engine.journal, the next ones keep engine-01.journal to engine-15.journal. Says a line for each record, behind the number of its run, and then how the runs ended. The same words again go on where a call was cut off.\n",
+    "--steps N: the most records of this call, of all runs together, 1,000,000,000 where it is not given.\n",
+    "Status 0: all runs ended ok. 6: all ended, and the run that is named failed. 7: paused, as many records as --steps allows. 14: waits for a moment. 15: too many messages changed nothing. 16: waits for an operator's answer.\n",
+    "Status 1: a rule K1 to K25 is broken, book B being the pair's place from 0. 3, 4 and 5: a file could not be read, is not there, or has no reading. 8: the disk failed. 11: a limit would be passed. 12: the files are those of other runs or of other playbooks. 13: a file is damaged.\n",
     "Status 2: the words were not understood. 9: a line could not be written. 10: memory was wanted.\n",
 ];
 
