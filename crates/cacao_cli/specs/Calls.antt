@@ -4,6 +4,7 @@ use Rattle.cacao_site.specs.View.{SiteView}
 use Rattle.flow_laws.specs.Good.{IsGood}
 use Rattle.cacao_cli_words.specs.Requests.{FleetRequest, PeerRequest, RunRequest, fleet_request, peer_request}
 use Rattle.cacao_cli_words.specs.Words.{Text}
+use Rattle.cacao_site.specs.Counts.{Rose}
 use Rattle.cacao_cli_ends.specs.Asked.{Asked, asked, decides, runs}
 use Rattle.cacao_cli_ends.specs.Comes.{ComesExactly, ComesFor, IfFilesTold, IfTold, IsOneOf, file_faults, reached_statuses}
 use Rattle.cacao_cli_ends.specs.Ends.{End, ended_failed, flooded, paused}
@@ -16,8 +17,8 @@ use Rattle.cacao_cli_session_laws.specs.Completing.{Completes}
 use Rattle.cacao_cli_session_laws.specs.Returning.{TellsOnReturn}
 use Rattle.cacao_cli_status_laws.specs.Causes.{CanBeDone, EndsAs, EndsAsAnother, EndsAsAsked, EndsAsWaiting, FindsDisagreement, FindsItDamaged, IsPastLimit, IsRefused, IsUnreadable, NamesTooMuch}
 use Rattle.cacao_cli_status_laws.specs.Exact.{AnswersExactly}
-use Rattle.cacao_cli_status_laws.specs.Leaves.{CountsDisk, CountsUnsaid, Leaves, LeavesAll}
-use Rattle.cacao_cli_status_laws.specs.OwnSites.{StandsReached, StandsShort}
+use Rattle.cacao_cli_status_laws.specs.Leaves.{CountsDisk, Leaves, LeavesAll}
+use Rattle.cacao_cli_status_laws.specs.Clocks.{StandsReached, StandsShort}
 use Rattle.cacao_cli_status_laws.specs.Statuses.{IsOwnStatus}
 use Rattle.cacao_cli_status_laws.specs.Usage.{UsesFew}
 use Rattle.cacao_cli_life.specs.Lives.{KeepsAll}
@@ -88,7 +89,7 @@ pub record StatusesTell (call : Call) : Type 0 where
   -- what failed
   pub disk_failed : call.status ≡ 8 → CountsDisk call.wanted call.old call.new
   pub disk_steady : call.status ≢ 8 → call.status ≢ 9 → call.new.disk.faults ≡ call.old.disk.faults
-  pub unsaid : call.status ≡ 9 → CountsUnsaid call.wanted call.old call.new
+  pub unsaid : call.status ≡ 9 → Rose call.old.counts.unsaid call.new.counts.unsaid
   pub said : call.status ≢ 9 → call.new.counts.unsaid ≡ call.old.counts.unsaid
   -- Where the status says that the run waits, the clock stands before what it was asked for; where it says that the run ended,
   -- paused, took too many parcels or asks, the clock came to that.

@@ -56,7 +56,6 @@ fn failed_end<'w>(error: RehearsalError) -> End<'w>
         RehearsalError::Broken(broken) => End::Refused { broken },
         RehearsalError::Closed(close) => close_end(close),
         RehearsalError::Refused(error) => error_end(error),
-        RehearsalError::Disk => End::DiskFailed,
         RehearsalError::Memory => End::NoMemory,
     }
 }

@@ -84,7 +84,7 @@ disk_failed_if_full disk = if nat_lt disk.faults last_count then [] else 8 ∷ [
 
 -- the statuses of a rehearsal that ran
 abbrev pub run_rehearsal_statuses : List ℕ
-run_rehearsal_statuses = 0 ∷ 6 ∷ 8 ∷ 9 ∷ 10 ∷ 11 ∷ 15 ∷ []
+run_rehearsal_statuses = 0 ∷ 6 ∷ 9 ∷ 10 ∷ 11 ∷ []
 
 -- The statuses that may stand in the place of one that the command settles, from the one view to the other. (A rehearsal that ran
 -- had a site of its own, of which nothing is left to tell.)

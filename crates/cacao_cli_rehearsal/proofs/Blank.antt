@@ -1,7 +1,8 @@
 -- A session on a new site finds blank files.
 use Rattle.std.proofs.Common.{◌≡◌, ◌⊎◌, inl, inr, refl, sym, ◌∙◌, subst, ap, arith, ℕ, zero, suc, ◌+◌, ◌-◌, ◌<◌, ◌≤◌, Bool, List, [], ◌∷◌, take}
-use Rattle.std.specs.Prelude.{IsTrue, Any, Some, Result, Ok, Err, IfErr, slice_get, slice_index_or}
+use Rattle.std.specs.Prelude.{IsTrue, Any, Some, Result, Ok, Err, IfErr, slice_get, slice_index_or, ⊤}
 use Rattle.cacao_site.specs.Clock.{clock_at}
+use Rattle.cacao_site.specs.Counts.{Rose}
 use Rattle.cacao_site.specs.SiteCounts.{no_counts}
 use Rattle.cacao_site.specs.DiskCalls.{IsLeft}
 use Rattle.cacao_site_log.specs.Images.{rest-image}
@@ -33,6 +34,7 @@ use Rattle.flow_world_parts.specs.Closes.{refusal_of}
 use Rattle.flow_world_parts.specs.Errors.{opening_refusal}
 use Rattle.flow_world_parts.specs.Openings.{OpensFile, OpensFilters, RefusesFile, RefusesOpening}
 use Rattle.flow_world.specs.Sessions.{HasRefused, RefusesLater, Went}
+use Rattle.flow_world.proofs.FaultLemmas.{refuses-failed, refuses-unsaid}
 use Rattle.flow_world_parts.specs.declared.error.WorldError.{WorldError}
 use Rattle.flow_world_parts.specs.declared.error.WorldError.TheVariants as refusal
 use Rattle.cacao_json.specs.Reading.{tree}
@@ -40,10 +42,10 @@ use Rattle.cacao_check.specs.Fits.{FitsKind}
 use Rattle.flow_core.specs.Setups.{AreAccepted}
 use Rattle.cacao_cli_rehearsal.specs.Books.{rehearsal, rehearsal_text}
 use Rattle.cacao_cli_rehearsal.specs.Counts.{KeepsImages}
-use Rattle.cacao_cli_rehearsal.specs.NewSites.{MayComeOfNew, TellsOfBefore}
-use Rattle.cacao_cli_rehearsal.specs.Plans.{site_plan}
+use Rattle.cacao_cli_rehearsal.specs.NewSites.{MayComeOfNew, MayRefuse}
+use Rattle.cacao_cli_rehearsal.specs.Plans.{GoesByPlan}
 use Rattle.cacao_cli_rehearsal.specs.Rehearsals.{FailsToRehearse, most_records, run_number}
-use Rattle.cacao_cli_rehearsal.specs.Settings.{IsNewSite}
+use Rattle.cacao_cli_rehearsal.specs.Settings.{IsNewSite, RefusesText}
 use Rattle.cacao_cli_rehearsal.specs.declared.error.RehearsalError.{RehearsalError}
 use Rattle.cacao_cli_rehearsal.specs.declared.error.RehearsalError.TheVariants as error
 use Rattle.cacao_cli_rehearsal.specs.declared.summary.Summary.{Summary}
@@ -51,6 +53,14 @@ use Rattle.cacao_cli_rehearsal.proofs.Closing.{may_close}
 use Rattle.cacao_cli_rehearsal.proofs.Held.{keeps_only}
 use Rattle.cacao_cli_rehearsal.proofs.Manual.{was_accepted}
 use Rattle.cacao_cli_rehearsal.proofs.Used.{finds_first}
+
+-- A refusal for what files held before the session: damage, another run, or an act of this run.
+abbrev TellsOfBefore : WorldError → Type 0
+TellsOfBefore (refusal.Damaged file place) = ⊤
+TellsOfBefore (refusal.OtherRun held asked) = ⊤
+TellsOfBefore (refusal.OtherBook index) = ⊤
+TellsOfBefore (refusal.RunUsed agent) = ⊤
+TellsOfBefore other = ⊥
 
 -- ---- the files
 
@@ -218,20 +228,43 @@ module _ (given : Given) (run most : ℕ) (answers : List OperatorAnswer) (old n
   refuses_nothing_old why (inl opening) is = opening_refused why given run old new blank sound opening is
   refuses_nothing_old why (inr later) is = later_refused why later is
 
+-- ---- nor does anything fail
+
+-- what did not rise
+no_rise : (n m : ℕ) → m ≡ 0 → Rose n m → ⊥
+no_rise n m none rose = omega (arith, none, rose)
+
+module _ (given : Given) (old new : SiteView) (blank : IsBlank old) (sound : IsSound new) (steady : new.disk.faults ≡ 0) (heard : new.counts.unsaid ≡ 0) where
+  may_refuse : (why : WorldError) → HasRefused why given run_number most_records [] old new → MayRefuse why
+  may_refuse refusal.Disk how = no_rise old.disk.faults new.disk.faults steady (refuses-failed given run_number most_records [] old new how)
+  may_refuse refusal.Say how = no_rise old.counts.unsaid new.counts.unsaid heard (refuses-unsaid given run_number most_records [] old new how)
+  may_refuse refusal.Memory how = tt
+  may_refuse (refusal.Limit what) how = tt
+  may_refuse (refusal.Damaged file place) how = refuses_nothing_old given run_number most_records [] old new blank sound (refusal.Damaged file place) how tt
+  may_refuse (refusal.OtherRun held asked) how = refuses_nothing_old given run_number most_records [] old new blank sound (refusal.OtherRun held asked) how tt
+  may_refuse (refusal.OtherBook index) how = refuses_nothing_old given run_number most_records [] old new blank sound (refusal.OtherBook index) how tt
+  may_refuse (refusal.RunUsed agent) how = refuses_nothing_old given run_number most_records [] old new blank sound (refusal.RunUsed agent) how tt
+
 -- ---- a rehearsal
 
-module _ (positions : ℕ) (reads : tree (rehearsal_text positions) ≡ Some (rehearsal positions)) (site : MemorySite) (new : SiteView) (sound : IsSound new)
-    (reached : new.clock.asked ≤ site_plan.stop_clock → new.clock.asked ≤ new.clock.now) where
-  may_come : (why : RehearsalError) → IsNewSite site → FailsToRehearse positions (view_of site) new why → MayComeOfNew why
+-- it did not run
+pub not_run : (text : List ℕ) (why : RehearsalError) → RefusesText text why → MayComeOfNew why
+not_run text error.TooLong told = absurd told
+not_run text (error.Broken told) breaks = tt
+not_run text (error.Closed how) told = absurd told
+not_run text (error.Refused why) told = absurd told
+not_run text error.Memory told = tt
+
+module _ (positions : ℕ) (reads : tree (rehearsal_text positions) ≡ Some (rehearsal positions)) (site left : MemorySite) (sound : IsSound (view_of left)) (goes : GoesByPlan left) where
+  may_come : (why : RehearsalError) → IsNewSite site → FailsToRehearse positions (view_of site) (view_of left) why → MayComeOfNew why
   may_come error.TooLong is fails = tt
   may_come (error.Broken told) is fails = tt
   may_come (error.Closed how) is fails =
-      may_close fails.given run_number most_records [] (view_of site) new how (was_accepted AreAccepted FitsKind positions (rehearsal_text positions) fails.given reads fails.accepted) (omega arith) reached fails.fails.closed
+      may_close fails.given run_number most_records [] (view_of site) (view_of left) how (was_accepted AreAccepted FitsKind positions (rehearsal_text positions) fails.given reads fails.accepted) (omega arith) goes.few goes.reached fails.fails.closed
   may_come (error.Refused why) is fails =
-      refuses_nothing_old fails.given run_number most_records [] (view_of site) new (new_is_blank site is) sound why fails.fails
-  may_come error.Disk is fails = tt
+      may_refuse fails.given (view_of site) (view_of left) (new_is_blank site is) sound goes.steady goes.heard why fails.fails
   may_come error.Memory is fails = tt
 
-  pub comes_of_new : (r : Result Summary RehearsalError) → IfErr r (FailsToRehearse positions (view_of site) new) → IsNewSite site → IfErr r MayComeOfNew
+  pub comes_of_new : (r : Result Summary RehearsalError) → IfErr r (FailsToRehearse positions (view_of site) (view_of left)) → IsNewSite site → IfErr r MayComeOfNew
   comes_of_new (Ok summary) fails is = tt
   comes_of_new (Err why) fails is = may_come why is fails

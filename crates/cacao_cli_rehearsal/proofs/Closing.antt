@@ -1,6 +1,9 @@
 -- How no session of a rehearsal closes.
-use Rattle.std.proofs.Common.{◌≡◌, inl, inr, ℕ, ◌+◌, ◌<◌, ◌≤◌, List, [], ◌∷◌, length, length-append, None, sym, ◌∙◌, subst, ap, arith}
+use Rattle.std.proofs.Common.{◌≡◌, inl, inr, ℕ, ◌+◌, ◌<◌, ◌≤◌, List, [], ◌∷◌, ◌++◌, length, length-append, None, sym, ◌∙◌, subst, ap, arith}
+use Rattle.std.specs.Prelude.{Option, Some, IsSomeAnd}
+use Rattle.cacao_site.specs.LinkCalls.{GainsAll}
 use Rattle.cacao_site.specs.View.{SiteView}
+use Rattle.cacao_site.specs.declared.parcel.Parcel.{Parcel}
 use Rattle.run_records.specs.Ranges.{last_moment}
 use Rattle.run_records.specs.declared.record.Record.{Record}
 use Rattle.flow_engine_history.specs.HistoryView.{HistoryView}
@@ -11,7 +14,8 @@ use Rattle.flow_core_rules.specs.Givens.{Given}
 use Rattle.flow_core_rules.specs.Moves.{asks}
 use Rattle.flow_core_rules.specs.State.{Shown}
 use Rattle.flow_world_steps.specs.Causes.{IsShort, Shows}
-use Rattle.flow_world_steps.specs.Worlds.{Phase}
+use Rattle.flow_world_steps.specs.Turns.{most_ignored}
+use Rattle.flow_world_steps.specs.Worlds.{Notes, Phase}
 use Rattle.flow_world_steps.proofs.Bounded.{records_few}
 use Rattle.flow_world.specs.Sessions.{HasClosed}
 use Rattle.flow_world_parts.specs.declared.close.Close.{Close}
@@ -30,6 +34,18 @@ low_moment : (records : List Record) (seen : Shown) → IsSoFar records seen →
 low_moment [] seen blank = let none : seen.moment ≡ 0 = ap (λ (s : Shown). s.moment) blank in omega (arith, none)
 low_moment (first ∷ others) seen after =
     subst (λ (s : Shown). s.moment ≤ last_moment) (sym after.is) (moment_low seen.given seen.run (first ∷ others) after.state after.leads)
+
+-- ---- parcels
+
+-- so many were not taken, of a list that is told and has as many more
+too_many : (old new : Option (List (ℕ × Parcel))) (handled at_hand : List (ℕ × Parcel)) → most_ignored ≤ length handled → GainsAll old (handled ++ at_hand) new
+    → IsSomeAnd new (λ taken. length taken < most_ignored) → ⊥
+too_many old None handled at_hand many gains few = few
+too_many None (Some new) handled at_hand many gains few = gains
+too_many (Some old) (Some new) handled at_hand many gains few =
+    let all : length new ≡ length old + length (handled ++ at_hand) = ap (λ (l : List (ℕ × Parcel)). length l) gains ∙ length-append old (handled ++ at_hand) in
+    let both : length (handled ++ at_hand) ≡ length handled + length at_hand = length-append handled at_hand in
+    omega arith
 
 -- ---- a session
 
@@ -76,9 +92,21 @@ module _ (given : Given) (run most : ℕ) (answers : List OperatorAnswer) (old n
         | inr last ↦ last.asks.in_time
       ]
 
-  pub may_close : (how : Close) → WasAccepted given → 67108864 < most → (new.clock.asked ≤ 9000000000000000 → new.clock.asked ≤ new.clock.now) → HasClosed how given run most answers old new → MayClose how
-  may_close (close.Ended well) was many reached closed = tt
-  may_close close.Paused was many reached closed = pauses_never many closed
-  may_close (close.Waiting moment) was many reached closed = waits_never moment reached closed
-  may_close close.Flooded was many reached closed = tt
-  may_close (close.Asked issue) was many reached closed = asks_nobody issue was closed
+  -- each parcel that changed nothing was taken
+  floods_never : IsSomeAnd new.link.taken (λ taken. length taken < most_ignored) → HasClosed close.Flooded given run most answers old new → ⊥
+  floods_never few closed =
+      let went = closed.went in
+      let handles = went.sums.handles in
+      let many : went.to.notes.ignored ≡ most_ignored = closed.closes.many in
+      let none : went.start.notes.ignored ≡ 0 = ap (λ (n : Notes). n.ignored) went.begins.notes in
+      let counted = handles.counted in
+      let all : most_ignored ≤ length handles.handled = omega (arith, many, none, counted) in
+      too_many went.start.site.link.taken went.to.site.link.taken handles.handled handles.at_hand all handles.takes
+      (subst (λ (site : SiteView). IsSomeAnd site.link.taken (λ taken. length taken < most_ignored)) (sym went.to_is) few)
+
+  pub may_close : (how : Close) → WasAccepted given → 67108864 < most → IsSomeAnd new.link.taken (λ taken. length taken < most_ignored) → (new.clock.asked ≤ 9000000000000000 → new.clock.asked ≤ new.clock.now) → HasClosed how given run most answers old new → MayClose how
+  may_close (close.Ended well) was many few reached closed = tt
+  may_close close.Paused was many few reached closed = pauses_never many closed
+  may_close (close.Waiting moment) was many few reached closed = waits_never moment reached closed
+  may_close close.Flooded was many few reached closed = floods_never few closed
+  may_close (close.Asked issue) was many few reached closed = asks_nobody issue was closed

@@ -10,6 +10,5 @@ pub mod Manual
 pub mod Moments
 pub mod Opened
 pub mod Plain
-pub mod Planned
 pub mod Running
 pub mod Used

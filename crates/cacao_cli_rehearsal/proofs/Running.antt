@@ -1,6 +1,5 @@
 -- What a session that ended well leaves, and what is counted of it.
 use Rattle.std.proofs.Common.{◌≡◌, ◌≤◌, ◌⊎◌, inl, inr, ℕ, Bool, true, false, List, [], ◌∷◌, length, refl, sym, subst, ◌∙◌}
-use Rattle.cacao_site.specs.Counts.{Rose}
 use Rattle.cacao_site.specs.DiskCalls.{AllLeft}
 use Rattle.cacao_site.specs.View.{SiteView}
 use Rattle.flow_engine_history.specs.HistoryView.{HoldsRecords}
@@ -21,7 +20,7 @@ use Rattle.cacao_cli_rehearsal.specs.Books.{rehearsal_text}
 use Rattle.cacao_cli_rehearsal.specs.Counts.{Counts, HoldsFilters, HoldsRun, KeepsImages, OpensFew}
 use Rattle.cacao_cli_rehearsal.specs.NewSites.{EndsByPlan}
 use Rattle.cacao_cli_rehearsal.specs.Plans.{GoesByPlan}
-use Rattle.cacao_cli_rehearsal.specs.Rehearsals.{Closes, ClosesOtherwise, FailsToCount, FailsToRehearse, FailsToRun, Refuses, Rehearsed, RunsWell, ended_well, is_well, most_records, run_number}
+use Rattle.cacao_cli_rehearsal.specs.Rehearsals.{Closes, ClosesOtherwise, FailsToRehearse, FailsToRun, Refuses, Rehearsed, RunsWell, ended_well, is_well, most_records, run_number}
 use Rattle.cacao_cli_rehearsal.specs.Settings.{IsAccepted, RefusesText}
 use Rattle.cacao_cli_rehearsal.specs.declared.error.RehearsalError.{RehearsalError}
 use Rattle.cacao_cli_rehearsal.specs.declared.error.RehearsalError.TheVariants as error
@@ -91,9 +90,6 @@ module _ (given : Given) (how : Close) (answers : List OperatorAnswer) (old afte
   pub all_held : HoldsFilters after
   all_held = holds_filters given run_number most_records [] old after closes
 
-  pub fails_to_count : (new : SiteView) → KeepsImages after.disk new.disk → OpensFew after.disk new.disk → new.counts.says ≡ after.counts.says → Rose after.disk.faults new.disk.faults → FailsToCount given old new
-  fails_to_count new keeps few silent rose = record { after = after; closed = closes; keeps = keeps; few = few; silent = silent; rose = rose }
-
   pub runs_well : (new : SiteView) (summary : Summary) → KeepsImages after.disk new.disk → OpensFew after.disk new.disk → new.counts.says ≡ after.counts.says → Counts after summary → RunsWell given old new summary
   runs_well new summary keeps few silent counts = record {
     after = after;
@@ -120,7 +116,6 @@ module _ (positions : ℕ) (text : List ℕ) (given : Given) (old new : SiteView
   fails_then (Err (error.Broken told)) why = absurd why
   fails_then (Err (error.Closed how)) why = record { short = is_short; given = given; accepted = is_accepted; fails = why }
   fails_then (Err (error.Refused cause)) why = record { short = is_short; given = given; accepted = is_accepted; fails = why }
-  fails_then (Err error.Disk) why = record { short = is_short; given = given; accepted = is_accepted; fails = why }
   fails_then (Err error.Memory) why = tt
 
   pub runs_then : (r : Result Summary RehearsalError) → IfOk r (RunsWell given old new) → IfOk r (Rehearsed positions old new)
@@ -133,7 +128,6 @@ not_read positions text site (error.Broken told) same short breaks =
     record { short = subst (λ (t : List ℕ). length t ≤ 1048576) same short; breaks = subst (λ (t : List ℕ). BreaksRule (t ∷ []) [] told) same breaks; same = refl }
 not_read positions text site (error.Closed how) same short told = absurd told
 not_read positions text site (error.Refused cause) same short told = absurd told
-not_read positions text site error.Disk same short told = absurd told
 not_read positions text site error.Memory same short told = tt
 
 -- where its site went by its plan, so it did whatever came
@@ -143,5 +137,4 @@ goes_by_plan (Err error.TooLong) site goes = tt
 goes_by_plan (Err (error.Broken told)) site goes = tt
 goes_by_plan (Err (error.Closed how)) site goes = goes
 goes_by_plan (Err (error.Refused why)) site goes = goes
-goes_by_plan (Err error.Disk) site goes = goes
 goes_by_plan (Err error.Memory) site goes = tt

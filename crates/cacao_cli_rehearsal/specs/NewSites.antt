@@ -9,31 +9,26 @@ use Rattle.cacao_cli_rehearsal.specs.Plans.{GoesByPlan}
 use Rattle.cacao_cli_rehearsal.specs.declared.error.RehearsalError.{RehearsalError}
 use Rattle.cacao_cli_rehearsal.specs.declared.error.RehearsalError.TheVariants as error
 
--- A refusal for what files held before the session: damage, another run, or an act of this run.
-abbrev pub TellsOfBefore : WorldError → Type 0
-TellsOfBefore (refusal.Damaged file place) = ⊤
-TellsOfBefore (refusal.OtherRun held asked) = ⊤
-TellsOfBefore (refusal.OtherBook index) = ⊤
-TellsOfBefore (refusal.RunUsed agent) = ⊤
-TellsOfBefore other = ⊥
+-- A refusal that a session on a new site may come to: nothing of it fails, and its files are blank, so that none is damaged, of
+-- another run, or of a filter that acted for this one.
+abbrev pub MayRefuse : WorldError → Type 0
+MayRefuse (refusal.Limit what) = ⊤
+MayRefuse refusal.Memory = ⊤
+MayRefuse other = ⊥
 
--- The files of the site have no room for as many records as the session may append, its clock reaches each moment, and the
--- playbook has no command for operators: the session neither pauses nor waits.
+-- A close that it may come to: its files have no room for as many records as it may append, its clock reaches each moment, the
+-- playbook has no command for operators, and fewer parcels are taken than would close it.
 abbrev pub MayClose : Close → Type 0
-MayClose close.Paused = ⊥
-MayClose (close.Waiting moment) = ⊥
-MayClose (close.Asked issue) = ⊥
-MayClose other = ⊤
+MayClose (close.Ended well) = ⊤
+MayClose other = ⊥
 
--- The files of a new site are blank, so a session on it does not refuse for what they hold.
 abbrev pub MayComeOfNew : RehearsalError → Type 0
 MayComeOfNew (error.Closed how) = MayClose how
-MayComeOfNew (error.Refused why) = TellsOfBefore why → ⊥
+MayComeOfNew (error.Refused why) = MayRefuse why
 MayComeOfNew other = ⊤
 
 -- where a session was held, its site went by its plan
 abbrev pub EndsByPlan : MemorySite → RehearsalError → Type 0
 EndsByPlan site (error.Closed how) = GoesByPlan site
 EndsByPlan site (error.Refused why) = GoesByPlan site
-EndsByPlan site error.Disk = GoesByPlan site
 EndsByPlan site other = ⊤

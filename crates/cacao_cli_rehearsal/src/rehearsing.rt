@@ -8,7 +8,7 @@ ghost use Rattle.cacao_cli_rehearsal.specs.Rehearsals.{FailsToRehearse, FailsToR
 ghost use Rattle.cacao_cli_rehearsal.specs.Sites.{inside};
 
 use crate::book::rehearsal_text;
-use crate::counting::{CountError, count};
+use crate::counting::count;
 use crate::error::RehearsalError;
 use crate::setting::{no_answers, read_setup};
 use crate::site::RehearsalSite;
@@ -60,8 +60,7 @@ fn run(
     }
     match count(alloc, site) {
         Ok(summary) => Ok(summary),
-        Err(CountError::Disk) => Err(RehearsalError::Disk),
-        Err(CountError::Memory) => Err(RehearsalError::Memory),
+        Err(_) => Err(RehearsalError::Memory),
     }
 }
 
@@ -69,8 +68,8 @@ fn run(
 /// at most 1,000,000,000 records. Then the records, the acts and the rules are counted.
 ///
 /// On a new site no file is damaged, of another run, or of a filter that acted for the run; and the session neither waits for a
-/// moment or for an operator nor comes to the end of its budget. Where the disk fails, the site is used up. (A line or a parcel of
-/// more than 1,048,576 bytes, which no session hands to a site, would be answered as want of memory.)
+/// moment or for an operator nor comes to the end of its budget. A site that is used up is answered as want of memory, whatever
+/// came: so behind each other answer nothing has failed on it.
 pub fn rehearse(
     alloc: Global,
     site: &mut RehearsalSite,
@@ -91,7 +90,7 @@ pub fn rehearse(
         Err(error) => return Err(error),
     };
     let ran = run(alloc, site, setup, &answers);
-    if site.is_short() {
+    if site.is_sound() {
         ran
     } else {
         Err(RehearsalError::Memory)

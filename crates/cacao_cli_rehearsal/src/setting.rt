@@ -63,5 +63,9 @@ pub fn new_site(alloc: Global) -> Result<RehearsalSite, AllocError>
         weather: WeatherList::from_vec(Vec::new(alloc)),
     };
     let site = MemorySite::new(alloc, plan)?;
-    Ok(RehearsalSite { site, longest: 0 })
+    Ok(RehearsalSite {
+        site,
+        has_failed: false,
+        takes: 0,
+    })
 }

@@ -17,7 +17,7 @@ use Rattle.cacao_cli_status_laws.specs.Statuses.{IsOwnStatus, rehearsal_statuses
 use Rattle.cacao_cli_ends.specs.Work.{Work, ends, judges, opens_filter, opens_run, compares, rehearsals, starts, at_decisions, canon_line, or_end, packets_or_end, start_of, trees_of, trees_wanted, work, work_on}
 use Rattle.cacao_cli_ends.specs.declared.limit.Limit.TheVariants.{BookCount}
 use Rattle.cacao_cli_ends.proofs.TreeCases.{TreesCase, all_trees, one_treeless, trees_case}
-use Rattle.cacao_cli_status_laws.proofs.CountLemmas.{disk-handed, not_understood-ended, own-disk, read-status}
+use Rattle.cacao_cli_status_laws.proofs.CountLemmas.{disk-handed, not_understood-ended, read-status}
 use Rattle.cacao_cli_status_laws.proofs.ExactLemmas.{Comes, performs-comes}
 use Rattle.cacao_cli_status_laws.proofs.JudgedLemmas.{settled-listed}
 use Rattle.cacao_cli_ends.proofs.LineLemmas.{IsCutOff}
@@ -154,4 +154,4 @@ disk-ended (Some shows) shelf old new answer h e = disk-handed (Some shows) shel
 disk-ended (Some (lists_rules agent)) shelf old new answer h e = disk-handed (Some (lists_rules agent)) shelf old new answer tt h e
 disk-ended (Some (decides agent packets)) shelf old new answer h e = disk-handed (Some (decides agent packets)) shelf old new answer tt h e
 disk-ended (Some (shadows agent)) shelf old new answer h e = disk-handed (Some (shadows agent)) shelf old new answer tt h e
-disk-ended (Some (rehearses positions)) shelf old new answer h e = own-disk positions shelf old new answer h e
+disk-ended (Some (rehearses positions)) shelf old new answer h e = never (Some (rehearses positions)) shelf old new answer 8 refl h e

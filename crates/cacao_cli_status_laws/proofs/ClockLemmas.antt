@@ -5,7 +5,7 @@ use Rattle.cacao_cli_ends.specs.Asked.{Asked, canonises, checks, runs, shows, li
 use Rattle.cacao_cli_status_laws.specs.Ended.{Ended}
 use Rattle.cacao_cli_ends.specs.Comes.{IsOneOf, reached_statuses}
 use Rattle.cacao_cli_ends.specs.Files.{ShelfCall}
-use Rattle.cacao_cli_status_laws.specs.OwnSites.{StandsReached}
+use Rattle.cacao_cli_status_laws.specs.Clocks.{StandsReached}
 use Rattle.cacao_cli_status_laws.proofs.ShortLemmas.{ended-settled, unsettled}
 use Rattle.cacao_cli_status_laws.proofs.StandRuns.{came-reached}
 use Rattle.cacao_cli_ends.proofs.StatusLists.{apart-lists}

@@ -16,11 +16,10 @@ use Rattle.cacao_cli_ends.specs.Lines.{SaysWork, Tells}
 use Rattle.cacao_cli_ends.specs.Work.{Work, ends, judges, opens_filter, opens_run, compares, rehearsals, at_decisions, or_end, packets_or_end, trees_of, canon_line, work, work_on, starts, start_of, trees_wanted}
 use Rattle.cacao_cli_status_laws.specs.Ended.{Performs, Performed, Ended}
 use Rattle.cacao_cli_ends.specs.Comes.{IsOneOf}
-use Rattle.cacao_cli_status_laws.specs.Leaves.{CountsDisk, CountsUnsaid}
 use Rattle.cacao_cli_ends.specs.Stays.{NoFault}
 use Rattle.cacao_cli_ends.specs.declared.limit.Limit.TheVariants.{BookCount}
 use Rattle.cacao_cli_looks.proofs.AuditLemmas.{compares-failed, compares-said, compares-unsaid, has-other}
-use Rattle.cacao_cli_status_laws.proofs.RehearseLemmas.{rehearsed-other, rehearses-failed, rehearses-said, rehearses-unsaid}
+use Rattle.cacao_cli_status_laws.proofs.RehearseLemmas.{rehearsed-other, rehearses-said, rehearses-unsaid}
 use Rattle.cacao_cli_ends.proofs.TreeCases.{TreesCase, all_trees, one_treeless, trees_case}
 use Rattle.cacao_cli_status_laws.proofs.ExactLemmas.{Comes, performs-comes}
 use Rattle.cacao_cli_ends.proofs.StatusLists.{not-among, session_statuses}
@@ -313,7 +312,7 @@ rose-unsaid : (asked : Option Asked) (shelf : ShelfCall) (old new : SiteView) (a
 rose-unsaid asked shelf old new answer has h e = performs-unsaid (work asked h.performed.read) old h.between new h.last answer (handed-work asked h.performed.read has)
     (no-nine asked shelf.told h.performed.reads.count h.performed.read h.performed.reads.reads) h.performed.performs h.tells e
 
-pub unsaid-ended : (asked : Option Asked) (shelf : ShelfCall) (old new : SiteView) (answer : ℕ) → Ended asked shelf old new answer → answer ≡ 9 → CountsUnsaid asked old new
+pub unsaid-ended : (asked : Option Asked) (shelf : ShelfCall) (old new : SiteView) (answer : ℕ) → Ended asked shelf old new answer → answer ≡ 9 → Rose old.counts.unsaid new.counts.unsaid
 unsaid-ended None shelf old new answer h e = rose-unsaid None shelf old new answer tt h e
 unsaid-ended (Some (canonises book)) shelf old new answer h e = rose-unsaid (Some (canonises book)) shelf old new answer tt h e
 unsaid-ended (Some (checks books)) shelf old new answer h e = rose-unsaid (Some (checks books)) shelf old new answer tt h e
@@ -390,9 +389,6 @@ failed-ended asked shelf old new answer h three = by asked h.performed
 pub disk-handed : (asked : Option Asked) (shelf : ShelfCall) (old new : SiteView) (answer : ℕ) → WithSite asked → Ended asked shelf old new answer → answer ≡ 8 → Rose old.disk.faults new.disk.faults
 disk-handed asked shelf old new answer has h e = performs-failed (work asked h.performed.read) old h.between new h.last answer (handed-work asked h.performed.read has)
     (no-nine asked shelf.told h.performed.reads.count h.performed.read h.performed.reads.reads) h.performed.performs h.tells e
-
-pub own-disk : (positions : ℕ) (shelf : ShelfCall) (old new : SiteView) (answer : ℕ) → Ended (Some (rehearses positions)) shelf old new answer → answer ≡ 8 → CountsDisk (Some (rehearses positions)) old new
-own-disk positions shelf old new answer h e = rehearses-failed positions old h.between new h.last answer (rehearse-performed positions shelf old h.between h.last h.performed) h.tells e
 
 pub memory-ended : (asked : Option Asked) (shelf : ShelfCall) (old new : SiteView) (answer : ℕ) → Ended asked shelf old new answer → answer ≡ 10 → NoFault shelf.before shelf.after old new
 memory-ended asked shelf old new answer h e = record {

@@ -1,5 +1,5 @@
 -- A rehearsal is held on a site of its own, and what came of it is told.
-use Rattle.std.proofs.Common.{◌≡◌, ◌⊎◌, inl, inr, ◌∙◌, refl, sym, ap, subst, arith, ℕ, ◌≤◌, true, false, List, [], ◌∷◌}
+use Rattle.std.proofs.Common.{◌≡◌, ◌⊎◌, inl, inr, ◌∙◌, refl, sym, ap, subst, arith, ℕ, ◌≤◌, true, false, [], ◌∷◌}
 use Rattle.std.specs.Prelude.{nat_eq}
 use Rattle.std.specs.List.{list_any}
 use Rattle.std.proofs.lemmas.Bool.{true≢false}
@@ -14,9 +14,9 @@ use Rattle.flow_world_parts.specs.declared.close.Close.TheVariants as close
 use Rattle.flow_world_parts.specs.declared.error.WorldError.{WorldError}
 use Rattle.flow_world_parts.specs.declared.error.WorldError.TheVariants as refusal
 use Rattle.cacao_cli_rehearsal.specs.Books.{rehearsal_text}
-use Rattle.cacao_cli_rehearsal.specs.NewSites.{EndsByPlan, MayClose, MayComeOfNew, TellsOfBefore}
+use Rattle.cacao_cli_rehearsal.specs.NewSites.{EndsByPlan, MayClose, MayComeOfNew, MayRefuse}
 use Rattle.cacao_cli_rehearsal.specs.Plans.{GoesByPlan}
-use Rattle.cacao_cli_rehearsal.specs.Rehearsals.{FailsToRehearse, Refuses, Rehearsed, is_well, most_records, run_number}
+use Rattle.cacao_cli_rehearsal.specs.Rehearsals.{FailsToRehearse, Rehearsed, is_well}
 use Rattle.cacao_cli_rehearsal.specs.Settings.{IsAccepted, IsNewSite}
 use Rattle.cacao_cli_rehearsal.specs.declared.error.RehearsalError.{RehearsalError}
 use Rattle.cacao_cli_rehearsal.specs.declared.error.RehearsalError.TheVariants as rehearsal_error
@@ -28,11 +28,10 @@ use Rattle.cacao_cli_status_laws.specs.Exact.{HasRehearsed, IsRehearsed}
 use Rattle.cacao_cli_ends.specs.Comes.{IsOneOf, run_rehearsal_statuses}
 use Rattle.cacao_cli_session.specs.Holding.{close_end, error_end}
 use Rattle.cacao_cli_ends.specs.Lines.{Tells}
-use Rattle.cacao_cli_status_laws.specs.OwnSites.{CountsOwn}
 use Rattle.cacao_cli_status_laws.specs.Rehearsing.{MayEndSo, EndsRun, IsBrokenRehearsal, RehearsalTo, Rehearses, TellsRehearsal, failed_end}
-use Rattle.cacao_cli_ends.proofs.EndCases.{eight-is, nine-or-not}
+use Rattle.cacao_cli_ends.proofs.EndCases.{nine-or-not}
 use Rattle.cacao_cli_ends.proofs.StatusLists.{not-among, session_statuses}
-use Rattle.cacao_cli_session_laws.proofs.HoldLemmas.{close-eight, close-nine, close-status, error-done, error-eight, error-nine, error-status, refuses-failed, refuses-unsaid, rose-later, went-faults}
+use Rattle.cacao_cli_session_laws.proofs.HoldLemmas.{close-status, error-done, error-status}
 use Rattle.cacao_cli_ends.proofs.LineLemmas.{IsCutOff, tells-status}
 use Rattle.cacao_cli_ends.proofs.UnsaidLemmas.{last-said, last-unsaid}
 
@@ -52,23 +51,23 @@ has-summary positions site left summary new goes h = inr (inl (record {
   may = tt;
 }))
 
-close-may : (how : Close) → MayClose how → MayEndSo (close_end how)
-close-may (close.Ended true) may = tt
-close-may (close.Ended false) may = tt
-close-may close.Paused may = may
-close-may (close.Waiting moment) may = may
-close-may close.Flooded may = tt
-close-may (close.Asked issue) may = may
+close-may : (how : Close) → is_well how ≡ false → MayClose how → MayEndSo (close_end how)
+close-may (close.Ended true) other may = absurd (true≢false other)
+close-may (close.Ended false) other may = tt
+close-may close.Paused other may = may
+close-may (close.Waiting moment) other may = may
+close-may close.Flooded other may = may
+close-may (close.Asked issue) other may = may
 
-error-may : (why : WorldError) → (TellsOfBefore why → ⊥) → MayEndSo (error_end why)
-error-may refusal.Disk new = tt
-error-may refusal.Say new = tt
-error-may refusal.Memory new = tt
-error-may (refusal.Limit what) new = tt
-error-may (refusal.OtherRun held asked) new = new tt
-error-may (refusal.OtherBook index) new = new tt
-error-may (refusal.RunUsed agent) new = new tt
-error-may (refusal.Damaged file place) new = new tt
+error-may : (why : WorldError) → MayRefuse why → MayEndSo (error_end why)
+error-may refusal.Disk may = may
+error-may refusal.Say may = may
+error-may refusal.Memory may = tt
+error-may (refusal.Limit what) may = tt
+error-may (refusal.OtherRun held asked) may = may
+error-may (refusal.OtherBook index) may = may
+error-may (refusal.RunUsed agent) may = may
+error-may (refusal.Damaged file place) may = may
 
 pub has-failed : (positions : ℕ) (site left : MemorySite) (why : RehearsalError) → positions ≤ 1000 → IsNewSite site → MayComeOfNew why → EndsByPlan left why → FailsToRehearse positions (view_of site) (view_of left) why → TellsRehearsal positions (failed_end why)
 has-failed positions site left rehearsal_error.TooLong few new may goes h = absurd (omega (arith, h.long, text_short positions few))
@@ -82,7 +81,7 @@ has-failed positions site left (rehearsal_error.Closed how) few new may goes h =
   given = h.given;
   accepted = h.accepted;
   runs = inr (inl (record { how = how; closes = h.fails; ends = refl }));
-  may = close-may how may;
+  may = close-may how h.fails.other may;
 }))
 has-failed positions site left (rehearsal_error.Refused why) few new may goes h = inr (inl (record {
   site = site;
@@ -92,19 +91,8 @@ has-failed positions site left (rehearsal_error.Refused why) few new may goes h 
   short = h.short;
   given = h.given;
   accepted = h.accepted;
-  runs = inr (inr (inl (record { why = why; refuses = h.fails; ends = refl })));
+  runs = inr (inr (record { why = why; refuses = h.fails; ends = refl }));
   may = error-may why may;
-}))
-has-failed positions site left rehearsal_error.Disk few new may goes h = inr (inl (record {
-  site = site;
-  is_new = new;
-  left = left;
-  by_plan = goes;
-  short = h.short;
-  given = h.given;
-  accepted = h.accepted;
-  runs = inr (inr (inr (record { fails = h.fails; ends = refl })));
-  may = tt;
 }))
 has-failed positions site left rehearsal_error.Memory few new may goes h = inr (inr refl)
 
@@ -126,63 +114,42 @@ rehearses-comes positions old mid new last answer h tells = go (tells-status las
 pub run-listed : (positions : ℕ) (given : Given) (old new : SiteView) (last : End) → EndsRun positions given old new last → IsOneOf (status_of last) session_statuses
 run-listed positions given old new last (inl h) = subst (λ (e : End). IsOneOf (status_of e) session_statuses) (sym h.ends) (inl refl)
 run-listed positions given old new last (inr (inl h)) = subst (λ (e : End). IsOneOf (status_of e) session_statuses) (sym h.ends) (close-status h.how)
-run-listed positions given old new last (inr (inr (inl h))) = subst (λ (e : End). IsOneOf (status_of e) session_statuses) (sym h.ends) (error-status h.why)
-run-listed positions given old new last (inr (inr (inr h))) = subst (λ (e : End). IsOneOf (status_of e) session_statuses) (sym h.ends) (inr (inr (inr (inl refl))))
+run-listed positions given old new last (inr (inr h)) = subst (λ (e : End). IsOneOf (status_of e) session_statuses) (sym h.ends) (error-status h.why)
 
 pub rehearsed-listed : (positions : ℕ) (n : ℕ) → IsRehearsed positions n → IsOneOf n session_statuses
 rehearsed-listed positions n h = subst (λ (m : ℕ). IsOneOf m session_statuses) (sym h.is) (run-listed positions h.came.given (view_of h.came.site) (view_of h.came.left) h.last h.came.runs)
 
--- the statuses of a session that no rehearsal answers
-abbrev left-out : List ℕ
-left-out = 7 ∷ 12 ∷ 13 ∷ 14 ∷ 16 ∷ []
-
-may-status : (last : End) → MayEndSo last → list_any (nat_eq (status_of last)) left-out ≡ false
-may-status done h = refl
-may-status accepted h = refl
-may-status (agrees records acts) h = refl
-may-status (disagrees file place) h = refl
-may-status (refused broken) h = refl
-may-status (bind_refused rule) h = refl
-may-status ended_ok h = refl
-may-status ended_failed h = refl
-may-status paused h = absurd h
-may-status (waiting moment) h = absurd h
-may-status flooded h = refl
-may-status (asked_for issue) h = absurd h
-may-status (other_run held asked) h = absurd h
-may-status (other_book index) h = absurd h
-may-status (run_used agent) h = absurd h
-may-status not_understood h = refl
-may-status (past limit) h = refl
-may-status (shelf_failed name) h = refl
-may-status (no_such_file name) h = refl
-may-status (not_readable name reason) h = refl
-may-status (rehearsed positions records acts rules) h = refl
-may-status (damaged file place) h = absurd h
-may-status peers_failed h = refl
-may-status disk_failed h = refl
-may-status unsaid h = refl
-may-status no_memory h = refl
-
--- and those that are left
-left-over : (n : ℕ) → IsOneOf n session_statuses → (IsOneOf n left-out → ⊥) → IsOneOf n run_rehearsal_statuses
-left-over n (inl e) others = inl e
-left-over n (inr (inl e)) others = inr (inl e)
-left-over n (inr (inr (inl e))) others = absurd (others (inl e))
-left-over n (inr (inr (inr (inl e)))) others = inr (inr (inl e))
-left-over n (inr (inr (inr (inr (inl e))))) others = inr (inr (inr (inl e)))
-left-over n (inr (inr (inr (inr (inr (inl e)))))) others = inr (inr (inr (inr (inl e))))
-left-over n (inr (inr (inr (inr (inr (inr (inl e))))))) others = inr (inr (inr (inr (inr (inl e)))))
-left-over n (inr (inr (inr (inr (inr (inr (inr (inl e)))))))) others = absurd (others (inr (inl e)))
-left-over n (inr (inr (inr (inr (inr (inr (inr (inr (inl e))))))))) others = absurd (others (inr (inr (inl e))))
-left-over n (inr (inr (inr (inr (inr (inr (inr (inr (inr (inl e)))))))))) others = absurd (others (inr (inr (inr (inl e)))))
-left-over n (inr (inr (inr (inr (inr (inr (inr (inr (inr (inr (inl e))))))))))) others = inr (inr (inr (inr (inr (inr (inl e))))))
-left-over n (inr (inr (inr (inr (inr (inr (inr (inr (inr (inr (inr (inl e)))))))))))) others = absurd (others (inr (inr (inr (inr (inl e))))))
-left-over n (inr (inr (inr (inr (inr (inr (inr (inr (inr (inr (inr (inr none)))))))))))) others = absurd none
+-- and only some of them
+may-listed : (last : End) → MayEndSo last → IsOneOf (status_of last) run_rehearsal_statuses
+may-listed (rehearsed positions records acts rules) may = inl refl
+may-listed ended_failed may = inr (inl refl)
+may-listed no_memory may = inr (inr (inr (inl refl)))
+may-listed (past limit) may = inr (inr (inr (inr (inl refl))))
+may-listed done may = absurd may
+may-listed accepted may = absurd may
+may-listed (agrees records acts) may = absurd may
+may-listed (disagrees file place) may = absurd may
+may-listed (refused broken) may = absurd may
+may-listed (bind_refused rule) may = absurd may
+may-listed ended_ok may = absurd may
+may-listed paused may = absurd may
+may-listed (waiting moment) may = absurd may
+may-listed flooded may = absurd may
+may-listed (asked_for issue) may = absurd may
+may-listed (other_run held asked) may = absurd may
+may-listed (other_book index) may = absurd may
+may-listed (run_used agent) may = absurd may
+may-listed not_understood may = absurd may
+may-listed (shelf_failed name) may = absurd may
+may-listed (no_such_file name) may = absurd may
+may-listed (not_readable name reason) may = absurd may
+may-listed (damaged file place) may = absurd may
+may-listed peers_failed may = absurd may
+may-listed disk_failed may = absurd may
+may-listed unsaid may = absurd may
 
 pub ran-listed : (positions : ℕ) (n : ℕ) → IsRehearsed positions n → IsOneOf n run_rehearsal_statuses
-ran-listed positions n h = subst (λ (m : ℕ). IsOneOf m run_rehearsal_statuses) (sym h.is)
-    (left-over (status_of h.last) (run-listed positions h.came.given (view_of h.came.site) (view_of h.came.left) h.last h.came.runs) (not-among (status_of h.last) left-out (may-status h.last h.came.may)))
+ran-listed positions n h = subst (λ (m : ℕ). IsOneOf m run_rehearsal_statuses) (sym h.is) (may-listed h.last h.came.may)
 
 pub rehearsed-other : (positions n m : ℕ) → HasRehearsed positions n → n ≡ m → (1 ≡ m → ⊥) → list_any (nat_eq m) session_statuses ≡ false → ⊥
 rehearsed-other positions n m (inl h) e b none = b (sym h.1 ∙ e)
@@ -206,8 +173,7 @@ came-counted positions last h zero = go h.runs
     go : EndsRun positions h.given (view_of h.site) (view_of h.left) last → Counted positions
     go (inl r) = (r.summary.records, r.summary.acts, r.summary.rules, subst (RehearsalTo positions) r.ends h)
     go (inr (inl r)) = absurd (not-done r.how r.closes.other (sym (ap status_of r.ends) ∙ zero))
-    go (inr (inr (inl r))) = absurd (error-done r.why (sym (ap status_of r.ends) ∙ zero))
-    go (inr (inr (inr r))) = absurd (let k : status_of last ≡ 8 = ap status_of r.ends in omega (arith, k, zero))
+    go (inr (inr r)) = absurd (error-done r.why (sym (ap status_of r.ends) ∙ zero))
 
 -- ---- no two of the causes hold
 
@@ -243,62 +209,15 @@ rehearses-disk positions old mid last h = ap (λ (s : SiteView). s.disk.faults) 
 pub rehearses-said : (positions : ℕ) (old mid new : SiteView) (last : End) (answer : ℕ) → Rehearses positions old mid last → Tells last mid new answer → (answer ≡ 9 → ⊥) → new.counts.unsaid ≡ old.counts.unsaid
 rehearses-said positions old mid new last answer h tells unlike = last-said last (text_of last) mid new answer tells unlike ∙ ap (λ (s : SiteView). s.counts.unsaid) h.same
 
--- what has this status is told of a run
-ran : (positions : ℕ) (last : End) → TellsRehearsal positions last → (status_of last ≡ 1 → ⊥) → (status_of last ≡ 10 → ⊥) → RehearsalTo positions last
-ran positions last (inl h) b c = absurd (b (ap status_of h.2))
-ran positions last (inr (inl h)) b c = h
-ran positions last (inr (inr is)) b c = absurd (c (ap status_of is))
-
 rose-next : (n m : ℕ) → m ≡ next_count n → Rose n m
 rose-next n m e = omega (arith, e)
 
--- what rose is not 0
-no-rise : (n m : ℕ) → Rose n m → m ≡ 0 → ⊥
-no-rise n m rose none = omega arith
+-- what is told of a rehearsal is not that a line could not be said
+tells-no-nine : (positions : ℕ) (last : End) → TellsRehearsal positions last → status_of last ≡ 9 → ⊥
+tells-no-nine positions last (inl h) e = let k : status_of last ≡ 1 = ap status_of h.2 in omega (arith, e, k)
+tells-no-nine positions last (inr (inl h)) e = elim (nine-or-not last) [ inl is ↦ subst MayEndSo is h.may | inr other ↦ other e ]
+tells-no-nine positions last (inr (inr is)) e = let k : status_of last ≡ 10 = ap status_of is in omega (arith, e, k)
 
--- the count of its own site that rose
-module _ (positions : ℕ) (h : RehearsalTo positions disk_failed) where
-  fault-rose : EndsRun positions h.given (view_of h.site) (view_of h.left) disk_failed → Rose (view_of h.site).disk.faults (view_of h.left).disk.faults
-  fault-rose (inl r) = let e = r.ends in absurd (cc)
-  fault-rose (inr (inl r)) = absurd (close-eight r.how (sym r.ends))
-  fault-rose (inr (inr (inl r))) =
-      refuses-failed h.given run_number most_records [] (view_of h.site) (view_of h.left)
-      (subst (λ (w : WorldError). Refuses h.given w (view_of h.site) (view_of h.left)) (error-eight r.why (sym r.ends)) r.refuses)
-  fault-rose (inr (inr (inr r))) =
-      rose-later (view_of h.site).disk.faults r.fails.after.disk.faults (view_of h.left).disk.faults
-      (went-faults h.given run_number most_records [] (view_of h.site) r.fails.after r.fails.closed.went) r.fails.rose
-
-  counts-fault : CountsOwn positions disk_failed (λ (s : SiteView). s.disk.faults)
-  counts-fault = let rose = fault-rose h.runs in record { came = h; rose = rose; used_up = λ within. no-rise (view_of h.site).disk.faults (view_of h.left).disk.faults rose (h.by_plan.steady within) }
-
-module _ (positions : ℕ) (h : RehearsalTo positions unsaid) where
-  unsaid-rose : EndsRun positions h.given (view_of h.site) (view_of h.left) unsaid → Rose (view_of h.site).counts.unsaid (view_of h.left).counts.unsaid
-  unsaid-rose (inl r) = let e = r.ends in absurd (cc)
-  unsaid-rose (inr (inl r)) = absurd (close-nine r.how (sym r.ends))
-  unsaid-rose (inr (inr (inl r))) =
-      refuses-unsaid h.given run_number most_records [] (view_of h.site) (view_of h.left)
-      (subst (λ (w : WorldError). Refuses h.given w (view_of h.site) (view_of h.left)) (error-nine r.why (sym r.ends)) r.refuses)
-  unsaid-rose (inr (inr (inr r))) = let e = r.ends in absurd (cc)
-
-  counts-unsaid : CountsOwn positions unsaid (λ (s : SiteView). s.counts.unsaid)
-  counts-unsaid = let rose = unsaid-rose h.runs in record { came = h; rose = rose; used_up = λ within. no-rise (view_of h.site).counts.unsaid (view_of h.left).counts.unsaid rose (h.by_plan.heard within) }
-
-pub rehearses-unsaid : (positions : ℕ) (old mid new : SiteView) (last : End) (answer : ℕ) → Rehearses positions old mid last → Tells last mid new answer → answer ≡ 9
-    → Rose old.counts.unsaid new.counts.unsaid ⊎ CountsOwn positions unsaid (λ (s : SiteView). s.counts.unsaid)
-rehearses-unsaid positions old mid new last answer h tells e = go (nine-or-not last)
-  where
-    go : (last ≡ unsaid) ⊎ (status_of last ≡ 9 → ⊥) → Rose old.counts.unsaid new.counts.unsaid ⊎ CountsOwn positions unsaid (λ (s : SiteView). s.counts.unsaid)
-    go (inl is) = let k : status_of last ≡ 9 = ap status_of is in
-        inr (counts-unsaid positions (subst (RehearsalTo positions) is (ran positions last h.tells (λ f. omega (arith, k, f)) (λ f. omega (arith, k, f)))))
-    go (inr other) = inl (rose-next old.counts.unsaid new.counts.unsaid (last-unsaid last (text_of last) mid new answer other tells e ∙ ap (λ (s : SiteView). next_count s.counts.unsaid) h.same))
-
-pub rehearses-failed : (positions : ℕ) (old mid new : SiteView) (last : End) (answer : ℕ) → Rehearses positions old mid last → Tells last mid new answer → answer ≡ 8
-    → CountsOwn positions disk_failed (λ (s : SiteView). s.disk.faults)
-rehearses-failed positions old mid new last answer h tells e = go (tells-status last mid new answer tells)
-  where
-    go : (answer ≡ status_of last) ⊎ IsCutOff answer → CountsOwn positions disk_failed (λ (s : SiteView). s.disk.faults)
-    go (inl is) = let k : status_of last ≡ 8 = sym is ∙ e in
-        counts-fault positions (subst (RehearsalTo positions) (eight-is last k) (ran positions last h.tells (λ f. omega (arith, k, f)) (λ f. omega (arith, k, f))))
-    go (inr (inl f)) = absurd (omega (arith, e, f))
-    go (inr (inr (inl f))) = absurd (omega (arith, e, f))
-    go (inr (inr (inr f))) = absurd f
+pub rehearses-unsaid : (positions : ℕ) (old mid new : SiteView) (last : End) (answer : ℕ) → Rehearses positions old mid last → Tells last mid new answer → answer ≡ 9 → Rose old.counts.unsaid new.counts.unsaid
+rehearses-unsaid positions old mid new last answer h tells e =
+    rose-next old.counts.unsaid new.counts.unsaid (last-unsaid last (text_of last) mid new answer (tells-no-nine positions last h.tells) tells e ∙ ap (λ (s : SiteView). next_count s.counts.unsaid) h.same)

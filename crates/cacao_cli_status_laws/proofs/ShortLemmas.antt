@@ -21,7 +21,7 @@ use Rattle.cacao_cli_ends.specs.Comes.{IsOneOf}
 use Rattle.cacao_cli_ends.specs.Files.{Files, NamedText, Reads, ShelfCall, files_of, has_too_many}
 use Rattle.cacao_cli_session.specs.Holding.{ClosesSo, RefusesSo, close_end, error_end}
 use Rattle.cacao_cli_ends.specs.Lines.{SaysAtMostALine}
-use Rattle.cacao_cli_status_laws.specs.OwnSites.{StandsShort}
+use Rattle.cacao_cli_status_laws.specs.Clocks.{StandsShort}
 use Rattle.cacao_cli_ends.specs.Work.{Start, ends, starts, or_end, start_of, trees_wanted, work, work_on}
 use Rattle.cacao_cli_ends.specs.declared.limit.Limit.TheVariants.{BookCount}
 use Rattle.cacao_cli_status_laws.proofs.AnswerLemmas.{never}

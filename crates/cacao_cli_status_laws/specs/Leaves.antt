@@ -3,10 +3,9 @@ use Rattle.std.specs.Prelude.{◌≡◌, ◌⊎◌, ℕ, [], ◌∷◌, Option, 
 use Rattle.cacao_site.specs.Counts.{Rose}
 use Rattle.cacao_site.specs.View.{SiteView}
 use Rattle.cacao_cli_ends.specs.Asked.{Asked, canonises, checks, shows, lists_rules, decides, shadows, rehearses, audits, runs}
-use Rattle.cacao_cli_ends.specs.Ends.{End, disk_failed, unsaid}
+use Rattle.cacao_cli_ends.specs.Ends.{End}
 use Rattle.cacao_cli_ends.specs.Comes.{IsOneOf}
 use Rattle.cacao_cli_session.specs.Holding.{CameTo}
-use Rattle.cacao_cli_status_laws.specs.OwnSites.{CountsOwn}
 use Rattle.cacao_cli_ends.specs.Work.{Start}
 use Rattle.cacao_cli_words.specs.Requests.{RunRequest}
 use Rattle.cacao_cli_ends.specs.Stays.{SaysAtMostOnce, WritesNothing}
@@ -35,8 +34,7 @@ Leaves (Some (audits engine filters)) old new answer = SaysAtMostOnce old new an
 abbrev pub LeavesAll : SiteView → SiteView → ℕ → Type 0
 LeavesAll old new answer = IsOneOf answer (1 ∷ 2 ∷ 3 ∷ 4 ∷ 5 ∷ []) → SaysAtMostOnce old new answer
 
--- A fault of the disk was counted, of a command that opens a file of it; for `rehearse` it is one of the site of its own, which
--- is used up.
+-- A fault of the disk was counted, of a command that opens a file of it. (Of `rehearse` none is told: its site is its own.)
 abbrev pub CountsDisk : Option Asked → SiteView → SiteView → Type 0
 CountsDisk None old new = ⊥
 CountsDisk (Some (canonises book)) old new = ⊥
@@ -46,19 +44,5 @@ CountsDisk (Some shows) old new = Rose old.disk.faults new.disk.faults
 CountsDisk (Some (lists_rules agent)) old new = Rose old.disk.faults new.disk.faults
 CountsDisk (Some (decides agent packets)) old new = Rose old.disk.faults new.disk.faults
 CountsDisk (Some (shadows agent)) old new = Rose old.disk.faults new.disk.faults
-CountsDisk (Some (rehearses positions)) old new = CountsOwn positions disk_failed (λ site. site.disk.faults)
+CountsDisk (Some (rehearses positions)) old new = ⊥
 CountsDisk (Some (audits engine filters)) old new = ⊥
-
--- a line was counted that could not be said; or `rehearse` could not say one on the site of its own
-abbrev pub CountsUnsaid : Option Asked → SiteView → SiteView → Type 0
-CountsUnsaid None old new = Rose old.counts.unsaid new.counts.unsaid
-CountsUnsaid (Some (canonises book)) old new = Rose old.counts.unsaid new.counts.unsaid
-CountsUnsaid (Some (checks books)) old new = Rose old.counts.unsaid new.counts.unsaid
-CountsUnsaid (Some (runs wanted)) old new = Rose old.counts.unsaid new.counts.unsaid
-CountsUnsaid (Some shows) old new = Rose old.counts.unsaid new.counts.unsaid
-CountsUnsaid (Some (lists_rules agent)) old new = Rose old.counts.unsaid new.counts.unsaid
-CountsUnsaid (Some (decides agent packets)) old new = Rose old.counts.unsaid new.counts.unsaid
-CountsUnsaid (Some (shadows agent)) old new = Rose old.counts.unsaid new.counts.unsaid
-CountsUnsaid (Some (rehearses positions)) old new =
-    Rose old.counts.unsaid new.counts.unsaid ⊎ CountsOwn positions unsaid (λ site. site.counts.unsaid)
-CountsUnsaid (Some (audits engine filters)) old new = Rose old.counts.unsaid new.counts.unsaid

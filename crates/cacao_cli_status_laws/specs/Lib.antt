@@ -1,10 +1,10 @@
 pub mod Agreement
 pub mod Causes
+pub mod Clocks
 pub mod Commands
 pub mod Ended
 pub mod Exact
 pub mod Leaves
-pub mod OwnSites
 pub mod Rehearsing
 pub mod Statuses
 pub mod Usage

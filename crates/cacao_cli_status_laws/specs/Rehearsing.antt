@@ -10,13 +10,12 @@ use Rattle.flow_world_parts.specs.declared.close.Close.{Close}
 use Rattle.flow_world_parts.specs.declared.error.WorldError.{WorldError}
 use Rattle.cacao_cli_rehearsal.specs.Books.{rehearsal_text}
 use Rattle.cacao_cli_rehearsal.specs.Plans.{GoesByPlan}
-use Rattle.cacao_cli_rehearsal.specs.Rehearsals.{ClosesOtherwise, FailsToCount, Refuses, RunsWell}
+use Rattle.cacao_cli_rehearsal.specs.Rehearsals.{ClosesOtherwise, Refuses, RunsWell}
 use Rattle.cacao_cli_rehearsal.specs.Settings.{IsAccepted, IsNewSite}
 use Rattle.cacao_cli_rehearsal.specs.declared.error.RehearsalError.{RehearsalError}
 use Rattle.cacao_cli_rehearsal.specs.declared.error.RehearsalError.TheVariants as rehearsal_error
 use Rattle.cacao_cli_rehearsal.specs.declared.summary.Summary.{Summary}
-use Rattle.cacao_cli_ends.specs.Ends.{End, asked_for, damaged, disk_failed, no_memory, other_book, other_run, past, paused}
-use Rattle.cacao_cli_ends.specs.Ends.{refused, rehearsed, run_used, waiting}
+use Rattle.cacao_cli_ends.specs.Ends.{End, ended_failed, no_memory, past, refused, rehearsed}
 use Rattle.cacao_cli_session.specs.Holding.{close_end, error_end}
 use Rattle.cacao_cli_ends.specs.declared.limit.Limit.TheVariants.{FileBytes}
 
@@ -49,30 +48,23 @@ pub record EndsRefused (given : Given) (old new : SiteView) (last : End) : Type 
   pub refuses : Refuses given why old new
   pub ends : last ≡ error_end why
 
--- it ended well, and the disk of its site failed before all was counted
-pub record EndsUncounted (given : Given) (old new : SiteView) (last : End) : Type 0 where
-  pub fails : FailsToCount given old new
-  pub ends : last ≡ disk_failed
-
 abbrev pub EndsRun : ℕ → Given → SiteView → SiteView → End → Type 0
 EndsRun positions given old new last =
-    EndsWell positions given old new last
-    ⊎ (EndsOtherwise given old new last ⊎ (EndsRefused given old new last ⊎ EndsUncounted given old new last))
+    EndsWell positions given old new last ⊎ (EndsOtherwise given old new last ⊎ EndsRefused given old new last)
 
--- An end that a rehearsal may come to. Its files are blank, so none is of another run, no filter acted for this one, and none is
--- damaged. Its session neither comes to the end of its budget nor waits, for a moment or for an operator.
+-- An end that the run of a rehearsal may come to: it ended, well or not; a limit was passed; or memory was wanted. Nothing fails on
+-- its site until that is used up, which is answered as want of memory. Its files are blank, so none is of another run, no filter
+-- acted for this one, and none is damaged. Its session neither comes to the end of its budget nor waits, for a moment or for an
+-- operator, nor takes as many parcels as would close it.
 abbrev pub MayEndSo : End → Type 0
-MayEndSo (other_run held asked) = ⊥
-MayEndSo (other_book index) = ⊥
-MayEndSo (run_used agent) = ⊥
-MayEndSo (damaged file place) = ⊥
-MayEndSo paused = ⊥
-MayEndSo (waiting moment) = ⊥
-MayEndSo (asked_for issue) = ⊥
-MayEndSo other = ⊤
+MayEndSo (rehearsed positions records acts rules) = ⊤
+MayEndSo ended_failed = ⊤
+MayEndSo (past limit) = ⊤
+MayEndSo no_memory = ⊤
+MayEndSo other = ⊥
 
 -- The playbook with so many positions is not too long, and is accepted, and its run on a new site of its own came to this end.
--- The site as it was left went by its plan.
+-- Nothing failed on that site.
 pub record RehearsalTo (positions : ℕ) (last : End) : Type 0 where
   pub site : MemorySite
   pub is_new : IsNewSite site
@@ -90,7 +82,6 @@ failed_end rehearsal_error.TooLong = past FileBytes
 failed_end (rehearsal_error.Broken broken) = refused broken
 failed_end (rehearsal_error.Closed how) = close_end how
 failed_end (rehearsal_error.Refused why) = error_end why
-failed_end rehearsal_error.Disk = disk_failed
 failed_end rehearsal_error.Memory = no_memory
 
 -- ---- all

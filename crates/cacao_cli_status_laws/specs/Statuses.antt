@@ -9,9 +9,10 @@ filter_statuses = 0 ∷ 8 ∷ 9 ∷ 10 ∷ 13 ∷ []
 
 -- The files of the site on which a rehearsal runs are blank: there is no other run, no number that was used, and no damage. They
 -- have no room for as many records as its budget, its clock reaches each moment, and no command of its playbook is for operators:
--- it neither pauses nor waits.
+-- it neither pauses nor waits. Nothing fails on that site until it is used up, which is answered as want of memory; so 9 is of its
+-- last line alone.
 abbrev pub rehearsal_statuses : List ℕ
-rehearsal_statuses = 0 ∷ 1 ∷ 6 ∷ 8 ∷ 9 ∷ 10 ∷ 11 ∷ 15 ∷ []
+rehearsal_statuses = 0 ∷ 1 ∷ 6 ∷ 9 ∷ 10 ∷ 11 ∷ []
 
 -- all that it may answer, for each command
 abbrev pub statuses_of : Option Asked → List ℕ

@@ -108,7 +108,7 @@ pub(crate) const AUDIT: &[&str] = &[
 pub(crate) const REHEARSE: &[&str] = &[
     "cacao rehearse N\n",
     "Makes a playbook with N positions, 1 to 1,000, runs it on a site in memory of its own, and says what was counted. It touches no file.\n",
-    "Status 0: the rehearsal ended ok. 1, 6, 8, 11 and 15: as for cacao run, of the rehearsal.\n",
+    "Status 0: the rehearsal ended ok. 1, 6 and 11: as for cacao run, of the rehearsal.\n",
     "Status 2: the words were not understood. 9: a line could not be written. 10: memory was wanted.\n",
 ];
 

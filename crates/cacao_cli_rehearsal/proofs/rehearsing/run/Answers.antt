@@ -1,7 +1,6 @@
-use Rattle.std.proofs.Common.{◌∙◌, sym, ap}
-use Rattle.std.specs.Prelude.{Err}
+use Rattle.std.proofs.Common.{◌∙◌, sym}
 use Rattle.cacao_site_memory.specs.MemorySite.{view_of}
-use Rattle.cacao_cli_rehearsal.proofs.Running.{all_held, closes_otherwise, fails_to_count, refuses, run_held, runs_well}
+use Rattle.cacao_cli_rehearsal.proofs.Running.{all_held, closes_otherwise, refuses, run_held, runs_well}
 use Rattle.cacao_cli_rehearsal.proofs.rehearsing.run.Goals as goal
 
 pub returns-in-Err-clause-err : goal.returns-in-Err-clause-err
@@ -27,9 +26,3 @@ pub returns-in-Ok-count-clause-ok : goal.returns-in-Ok-count-clause-ok
 returns-in-Ok-count-clause-ok c =
     runs_well c.args.setup c.in-Ok.close c.args.answers.now (view_of c.args.site.now.site) (view_of c.session.new.site.site) c.requires.none c.in-Ok.ensures.closed
     (sym c.is_well.ensures ∙ c.if-not-is_well.false) (view_of c.count.new.disk.site) c.in-Ok-count.summary c.count.ensures.keeps c.count.ensures.few c.count.ensures.says c.in-Ok-count.ensures.counts
-
-pub returns-in-Err-Disk-clause-err : goal.returns-in-Err-Disk-clause-err
-returns-in-Err-Disk-clause-err c =
-    fails_to_count c.args.setup c.in-Ok.close c.args.answers.now (view_of c.args.site.now.site) (view_of c.session.new.site.site) c.requires.none c.in-Ok.ensures.closed
-    (sym c.is_well.ensures ∙ c.if-not-is_well.false) (view_of c.count.new.disk.site) c.count.ensures.keeps c.count.ensures.few c.count.ensures.says
-    (c.count.ensures.disk (c.in-Err-Disk.is ∙ ap (λ e. Err e) c.in-Err-Disk.field-0-is))
