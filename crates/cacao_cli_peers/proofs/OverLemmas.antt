@@ -1,5 +1,5 @@
 -- What a session over a wire counts, and how it may end.
-use Rattle.std.proofs.Common.{◌≡◌, ◌⊎◌, inl, inr, ◌∙◌, refl, sym, ap, subst, arith, ℕ, ◌≤◌, Bool, true, false, List, Option, Some, None}
+use Rattle.std.proofs.Common.{◌≡◌, ◌⊎◌, inl, inr, ◌∙◌, refl, sym, ap, subst, ℕ, ◌≤◌, Bool, true, List, Some}
 use Rattle.cacao_site.specs.Counts.{Rose}
 use Rattle.cacao_site.specs.View.{CountsView, SiteView}
 use Rattle.flow_core_rules.specs.Givens.{Given}
@@ -7,19 +7,18 @@ use Rattle.flow_engine_answers.specs.declared.answers.OperatorAnswer.{OperatorAn
 use Rattle.flow_world_steps.specs.Worlds.{Cause, disk_failed as failed_disk, not_said, refused as refused_by}
 use Rattle.flow_world_parts.specs.Closes.{refusal_of}
 use Rattle.flow_world_parts.specs.Openings.{RefusesJournal}
-use Rattle.flow_world_parts.specs.declared.close.Close.{Close}
 use Rattle.flow_world_parts.specs.declared.error.WorldError.{WorldError}
 use Rattle.flow_world_parts.specs.declared.error.WorldError.TheVariants as world
 use Rattle.flow_world.proofs.CloseLemmas.{closes_are_no_refusals}
+use Rattle.flow_world.proofs.FaultLemmas.{cause-disk, cause-say, refused-counts, refused-disk, refused-say, rose-later, shown-as}
 use Rattle.oc2_wire.specs.Errors.{wire_error}
-use Rattle.oc2_wire.specs.Serving.{HasRefused, RefusesFirst, RefusesServing, Serves}
+use Rattle.oc2_wire.specs.Serving.{HasRefused, RefusesServing, Serves}
 use Rattle.oc2_wire.specs.declared.error.WireError.{WireError}
 use Rattle.oc2_wire.specs.declared.error.WireError.TheVariants as error
 use Rattle.cacao_cli_ends.specs.Comes.{IsOneOf}
 use Rattle.cacao_cli_ends.specs.Ends.{End, disk_failed, status_of, unsaid}
-use Rattle.cacao_cli_ends.proofs.StatusLists.{not-among, session_statuses}
-use Rattle.cacao_cli_session.specs.Holding.{close_end}
-use Rattle.cacao_cli_session_laws.proofs.HoldLemmas.{cause-disk, cause-say, close-eight, close-nine, close-status, refused-counts, refused-disk, refused-say, rose-later, shown-as}
+use Rattle.cacao_cli_ends.proofs.StatusLists.{session_statuses}
+use Rattle.cacao_cli_session_laws.proofs.HoldLemmas.{close-eight, close-nine, close-status}
 use Rattle.cacao_cli_session_laws.proofs.StepLemmas.{Unsaid, none_unsaid, one_unsaid, steps_unsaid}
 use Rattle.cacao_cli_peers.specs.Pairing.{ClosesOver, RefusesOver, SessionOver, wire_end}
 

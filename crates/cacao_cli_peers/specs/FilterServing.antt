@@ -6,6 +6,7 @@ use Rattle.cacao_site.specs.declared.parcel.Parcel.{Parcel}
 use Rattle.cacao_site.specs.View.{SiteView}
 use Rattle.oc2_wire.specs.Answering.{Served, TellsLink}
 use Rattle.oc2_wire.specs.Reading.{FiltersKeepByLines}
+use Rattle.oc2_wire.specs.Turns.{Goes}
 use Rattle.oc2_wire.specs.declared.error.WireError.{WireError}
 use Rattle.oc2_wire.specs.declared.error.WireError.TheVariants as error
 use Rattle.oc2_wire_laws.specs.Ends.{IsFiltersStart}
@@ -36,6 +37,7 @@ pub record ServesLink (before after : PeersView) (old new : SiteView) (last : En
   pub over : OverSite false old new first wire
   pub how : Result ℕ WireError
   pub served : Served how first wire
+  pub turns : Goes how first wire
   pub kept : IsTrue first.site.disk.told → IsFiltersStart first.site → FiltersKeepSince first.site wire.site
   pub lines : IsLineLink wire.lines
   pub link : how ≢ Err error.Flooded → TellsLink how wire

@@ -1,5 +1,5 @@
 -- A command that is handed on, and what its filter answered.
-use Rattle.std.proofs.Common.{ℕ, ◌<◌, Bool, List, refl}
+use Rattle.std.proofs.Common.{ℕ, ◌<◌, ◌≤◌, Bool, List, refl}
 use Rattle.std.specs.Prelude.{Result, Err}
 use Rattle.cacao_site.specs.SiteCalls.{Reaches}
 use Rattle.cacao_site.specs.Sound.{IsSound}
@@ -13,7 +13,8 @@ use Rattle.flow_world_parts.specs.Errors.{MayRefuseAct}
 use Rattle.flow_world_parts.proofs.Standing.{filters_stay}
 use Rattle.oc2_wire_site.specs.WireCalls.{KeepsWire}
 use Rattle.oc2_wire_site.specs.Wires.{WireView}
-use Rattle.oc2_wire.specs.FilterTurns.{AnsweredAs, Asks, Handed, HandsOn, IsLate, act_error_of}
+use Rattle.oc2_wire.specs.FilterTurns.{AnsweredAs, Handed, HandsOn, IsLate, act_error_of}
+use Rattle.oc2_wire.specs.Turns.{Asks}
 use Rattle.oc2_wire.proofs.LentWires.{kept_reads_none}
 
 abbrev pub asks_now : (old new : WireView) (now : ℕ) → IsSound old.site → Reaches 0 now old.site new.site → KeepsWire old new → Asks old new
@@ -23,9 +24,9 @@ pub ready_now : (old new : WireView) (now : ℕ) (fs : List ActuatorView) → Re
 ready_now old new now fs reaches ready = filters_stay fs old.site new.site reaches.disk.disk ready
 
 pub hands_on : (r : Result Bool ActError) (parcel : Parcel) (old middle new : WireView) (fs gs : List ActuatorView) (now : ℕ) → IsSound old.site → Reaches 0 now old.site middle.site → KeepsWire old middle
-    → IsSound middle.site → IsSound new.site → Handed r parcel now middle new fs gs → HandsOn r parcel old new fs gs
-hands_on r parcel old middle new fs gs now sound reaches keeps before after handed =
-    record { middle = middle; asks = asks_now old middle now sound reaches keeps; before = before; after = after; handed = handed }
+    → now ≤ last_moment → IsSound middle.site → IsSound new.site → Handed r parcel now middle new fs gs → HandsOn r parcel old new fs gs
+hands_on r parcel old middle new fs gs now sound reaches keeps in_time before after handed =
+    record { middle = middle; asks = asks_now old middle now sound reaches keeps; in_time = in_time; before = before; after = after; handed = handed }
 
 pub is_late : (old new : WireView) (fs : List ActuatorView) (now : ℕ) → IsSound old.site → Reaches 0 now old.site new.site → KeepsWire old new → last_moment < now → IsLate old new fs fs
 is_late old new fs now sound reaches keeps late = record { asks = asks_now old new now sound reaches keeps; late = late; filters = refl }

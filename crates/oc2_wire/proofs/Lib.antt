@@ -13,3 +13,4 @@ pub mod ServeSteps
 pub mod Served
 pub mod ServedLeft
 pub mod Taking
+pub mod TurnLemmas

@@ -26,7 +26,8 @@ use Rattle.oc2_wire_site.specs.LineLinks.{LinesView}
 use Rattle.oc2_wire_site.specs.Wires.{WireView}
 use Rattle.oc2_wire_site.specs.declared.link_state.LinkState.TheVariants as state
 use Rattle.oc2_wire.specs.Answering.{Floods, RefusesLast, Served, Serves, ServesAll, TellsLink, found_by, most_idle}
-use Rattle.oc2_wire.specs.FilterTurns.{AnsweredAs, Asks, Ended, HandsOn, IsCalm, IsLate, KeptTo, Serving, TakesAs, TakesNext, TakesNothing, TookAs}
+use Rattle.oc2_wire.specs.FilterTurns.{AnsweredAs, Ended, HandsOn, IsLate, KeptTo, Serving}
+use Rattle.oc2_wire.specs.Turns.{Asks, IsCalm, TakesAs, TakesNext, TakesNothing, TookAs}
 use Rattle.oc2_wire.specs.declared.error.WireError.{WireError}
 use Rattle.oc2_wire.specs.declared.error.WireError.TheVariants as error
 use Rattle.oc2_wire.proofs.AnswerKept.{kept_acts, kept_did, kept_quiet, kept_repeats, kept_took, taken_since}

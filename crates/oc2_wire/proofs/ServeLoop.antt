@@ -14,7 +14,8 @@ use Rattle.oc2_wire_laws.specs.Ends.{IsFiltersStart}
 use Rattle.oc2_wire_site.specs.Wires.{WireView}
 use Rattle.oc2_wire_site.specs.declared.link_state.LinkState.TheVariants as state
 use Rattle.oc2_wire.specs.Answering.{ReadsNoLine, TellsLink, found_by}
-use Rattle.oc2_wire.specs.FilterTurns.{AnsweredAs, Ended, GoesOnWith, IsAnswering, KeptTo, MayRefuseOpening, Serving, TookAs, counted, most_in_file, opening_error}
+use Rattle.oc2_wire.specs.FilterTurns.{AnsweredAs, Ended, GoesOnWith, IsAnswering, KeptTo, MayRefuseOpening, Serving, counted, most_in_file}
+use Rattle.oc2_wire.specs.Turns.{TookAs, opening_error}
 use Rattle.oc2_wire.specs.declared.error.WireError.{WireError}
 use Rattle.oc2_wire.specs.declared.error.WireError.TheVariants as error
 use Rattle.oc2_wire.specs.declared.tally.Tally.{Tally}

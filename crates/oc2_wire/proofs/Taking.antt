@@ -12,7 +12,8 @@ use Rattle.oc2_wire_site.specs.Wires.{WireView}
 use Rattle.oc2_wire_site.specs.declared.link_state.LinkState.{LinkState}
 use Rattle.oc2_wire_site.specs.declared.link_state.LinkState.TheVariants as state
 use Rattle.oc2_wire.specs.Answering.{found_by}
-use Rattle.oc2_wire.specs.FilterTurns.{IsAnswering, IsCalm, TakesAs, TakesNext, TakesNothing, TookAs, end_of}
+use Rattle.oc2_wire.specs.FilterTurns.{IsAnswering, end_of}
+use Rattle.oc2_wire.specs.Turns.{IsCalm, TakesAs, TakesNext, TakesNothing, TookAs}
 use Rattle.oc2_wire.proofs.LentWires.{whole_or_not}
 
 -- what the clauses of a take say
@@ -38,6 +39,7 @@ module _ (first : ℕ) (old new : WireView) (answering : IsAnswering first old) 
             addressed = record { low = reads.spells.carried.agent_low; high = reads.spells.carried.agent_high; small = reads.spells.carried.short };
             command = reads.command;
           };
+          reads = reads;
           asking = line.asking;
           later = let more = reads.passes.passed in omega (arith, more);
           whole = reads.whole;
@@ -51,7 +53,15 @@ module _ (first : ℕ) (old new : WireView) (answering : IsAnswering first old) 
   ]
 
   takes_nothing : IsSound old.site → TakesOnly old.site new.site → new.site.link.taken ≡ old.site.link.taken → TakesLine None old new → TakesNothing old new
-  takes_nothing sound only same line = record { sound = sound; only = only; taken = same; asking = line.asking; later = later_none line }
+  takes_nothing sound only same line = record {
+    sound = sound;
+    only = only;
+    taken = same;
+    reads = λ whole. line.takes.answers answering.answering whole;
+    broken = λ broken. (line.takes.broken broken).1;
+    asking = line.asking;
+    later = later_none line;
+  }
 
   pub took_as : {E : Type 0} (r : Result (Option Parcel) E) → Took r old new → TakesAs (taken_of r) old new
   took_as (Ok (Some parcel)) took = takes_next parcel took.sound took.only took.taken took.line

@@ -1,7 +1,6 @@
 -- Scaffold: The parts of a call of the filters' end: the opening, a command that is taken, and one that is handed to its filter.
 use Rattle.std.specs.Prelude.{◌≡◌, ◌≢◌, ℕ, suc, ◌+◌, ◌*◌, ◌-◌, ◌<◌, ◌≤◌, Bool, true, false, List, [], length, All, Option, Some, None, IsTrue, IsErrOf, OnOk, OnErr, Result, Ok, Err, slice_get, ⊤}
 use Rattle.cacao_site.specs.Counts.{Rose}
-use Rattle.cacao_site.specs.SiteCalls.{Reaches, TakesOnly, TakesSome}
 use Rattle.cacao_site.specs.Sound.{IsSound}
 use Rattle.cacao_site.specs.View.{SiteView}
 use Rattle.cacao_site.specs.declared.parcel.Parcel.{Parcel}
@@ -14,7 +13,6 @@ use Rattle.slpf_actuator.specs.ActuatorView.{ActuatorView}
 use Rattle.slpf_actuator.specs.declared.error.ActError.{ActError}
 use Rattle.slpf_actuator.specs.declared.error.ActError.TheVariants as act_error
 use Rattle.flow_world_steps.specs.Grown.{acts_of}
-use Rattle.flow_world_steps.specs.Handled.{IsCommand}
 use Rattle.flow_world_steps.specs.Sides.{FiltersReady}
 use Rattle.flow_world_steps.specs.Sums.{total}
 use Rattle.flow_world_steps.specs.Written.{act_bytes}
@@ -28,17 +26,12 @@ use Rattle.oc2_wire_site.specs.Wires.{WireView}
 use Rattle.oc2_wire_site.specs.declared.link_state.LinkState.{LinkState}
 use Rattle.oc2_wire_site.specs.declared.link_state.LinkState.TheVariants as state
 use Rattle.oc2_wire.specs.Answering.{ReadsNoLine, Served, Serves, TellsLink, found_by, most_idle}
+use Rattle.oc2_wire.specs.Turns.{Asks, Goes}
 use Rattle.oc2_wire.specs.declared.error.WireError.{WireError}
 use Rattle.oc2_wire.specs.declared.error.WireError.TheVariants as error
 use Rattle.oc2_wire.specs.declared.tally.Tally.{Tally}
 
 -- ---- errors
-
--- the refusal of a call that could not open a filter's file
-abbrev pub opening_error : WorldError → WireError
-opening_error world.Disk = error.Disk
-opening_error (world.Damaged file place) = error.Damaged file place
-opening_error other = error.Memory
 
 -- those of a filter's file
 abbrev pub MayRefuseOpening : WorldError → Type 0
@@ -79,50 +72,6 @@ pub record IsAnswering (first : ℕ) (wire : WireView) : Type 0 where
   pub found_none : found_by wire.lines.state ≡ 0
   pub since : first ≤ wire.lines.passed
 
-pub record TakesNext (parcel : Parcel) (old new : WireView) : Type 0 where
-  pub sound : IsSound old.site
-  pub only : TakesOnly old.site new.site
-  pub some : TakesSome parcel old.site new.site
-  pub is_command : IsCommand parcel
-  pub asking : new.asking ≡ old.asking
-  pub later : old.lines.passed ≤ new.lines.passed
-  pub whole : new.lines.state ≡ state.Whole
-
-pub record TakesNothing (old new : WireView) : Type 0 where
-  pub sound : IsSound old.site
-  pub only : TakesOnly old.site new.site
-  pub taken : new.site.link.taken ≡ old.site.link.taken
-  pub asking : new.asking ≡ old.asking
-  pub later : old.lines.passed ≤ new.lines.passed
-
-abbrev pub TakesAs : Option Parcel → WireView → WireView → Type 0
-TakesAs None old new = TakesNothing old new
-TakesAs (Some parcel) old new = TakesNext parcel old new
-
--- none was taken, as the link is so
-pub record EndsAs (at : LinkState) (old new : WireView) : Type 0 where
-  pub takes : TakesNothing old new
-  pub is : new.lines.state ≡ at
-
--- the flood is tested first
-pub record Overflowed (first repeats : ℕ) (old new : WireView) : Type 0 where
-  pub taken : Option Parcel
-  pub takes : TakesAs taken old new
-  pub many : most_idle ≤ new.lines.passed - first + repeats
-
-abbrev pub IsCalm : ℕ → ℕ → WireView → Type 0
-IsCalm first repeats new = new.lines.passed - first + repeats < most_idle
-
--- how a take ended
-abbrev pub TookAs : Result (Option Parcel) WireError → ℕ → ℕ → WireView → WireView → Type 0
-TookAs (Ok (Some parcel)) first repeats old new = TakesNext parcel old new × IsCalm first repeats new
-TookAs (Ok None) first repeats old new = EndsAs state.Ended old new × IsCalm first repeats new
-TookAs (Err error.Flooded) first repeats old new = Overflowed first repeats old new
-TookAs (Err error.TooLong) first repeats old new = EndsAs state.TooLong old new × IsCalm first repeats new
-TookAs (Err error.Link) first repeats old new = EndsAs state.Failed old new × IsCalm first repeats new
-TookAs (Err error.Memory) first repeats old new = EndsAs state.NoMemory old new × IsCalm first repeats new
-TookAs (Err other) first repeats old new = ⊥
-
 -- ---- a command that is handed on
 
 -- its filter did so at this moment, and no line was read
@@ -132,18 +81,11 @@ pub record Handed (r : Result Bool ActError) (parcel : Parcel) (moment : ℕ) (o
   pub reads_none : ReadsNoLine old new
   pub whole : OnErr r (new.lines.state ≡ state.Whole)
 
--- the clock was asked for no later moment
-pub record Asks (old new : WireView) : Type 0 where
-  pub sound : IsSound old.site
-  pub lines : new.lines ≡ old.lines
-  pub now : ℕ
-  pub reaches : Reaches 0 now old.site new.site
-  pub reads_none : ReadsNoLine old new
-
 -- the clock was asked, and then the filter, with this answer
 pub record HandsOn (r : Result Bool ActError) (parcel : Parcel) (old new : WireView) (fs gs : List ActuatorView) : Type 0 where
   pub middle : WireView
   pub asks : Asks old middle
+  pub in_time : asks.now ≤ last_moment
   pub before : IsSound middle.site
   pub after : IsSound new.site
   pub handed : Handed r parcel asks.now middle new fs gs
@@ -216,3 +158,8 @@ pub record Ended (r : Result ℕ WireError) (old new : WireView) : Type 0 where
   pub answering : new.asking ≡ false
   pub lines : old.lines.passed ≤ new.lines.passed
   pub link : r ≢ Err error.Flooded → TellsLink r new
+
+-- and how it went
+pub record EndedInTurns (r : Result ℕ WireError) (old new : WireView) : Type 0 where
+  pub ended : Ended r old new
+  pub turns : Goes r old new

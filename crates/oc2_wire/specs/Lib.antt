@@ -4,3 +4,4 @@ pub mod FilterTurns
 pub mod Reading
 pub mod ReplyWires
 pub mod Serving
+pub mod Turns

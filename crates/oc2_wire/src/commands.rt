@@ -2,7 +2,8 @@
 ghost use Rattle.std.specs.Prelude.{◌≡◌, ◌≢◌, ◌↔◌, ◌+◌, ◌-◌, ◌≤◌, IsTrue};
 ghost use Rattle.oc2_wire_site.specs.WireOf.{wire_of};
 ghost use Rattle.oc2_wire.specs.Answering.{most_idle};
-ghost use Rattle.oc2_wire.specs.FilterTurns.{IsAnswering, TookAs, end_of};
+ghost use Rattle.oc2_wire.specs.FilterTurns.{IsAnswering, end_of};
+ghost use Rattle.oc2_wire.specs.Turns.{TookAs};
 
 use crate::error::WireError;
 use crate::handing::is_sound;

@@ -8,8 +8,9 @@ ghost use Rattle.oc2_wire_laws.specs.Since.{FiltersKeepSince};
 ghost use Rattle.oc2_wire_site.specs.ReadLines.{KeepsLinesSince, mark_now};
 ghost use Rattle.oc2_wire_site.specs.WireOf.{wire_of};
 ghost use Rattle.oc2_wire.specs.Answering.{Served, TellsLink};
-ghost use Rattle.oc2_wire.specs.FilterTurns.{Ended};
+ghost use Rattle.oc2_wire.specs.FilterTurns.{EndedInTurns};
 ghost use Rattle.oc2_wire.specs.Reading.{FiltersKeepByLines};
+ghost use Rattle.oc2_wire.specs.Turns.{Goes};
 
 use crate::commands::take_command;
 use crate::error::WireError;
@@ -25,7 +26,7 @@ use std::alloc::Global;
 fn serve<S: Site, K: Link>(alloc: Global, wire: &mut WireSite<S, K>) -> Result<u32, WireError>
     requires answering { (wire_of S.view K.view wire.old).asking ≡ false }
     requires whole { (wire_of S.view K.view wire.old).lines.state ≡ LinkState.Whole }
-    ensures { Ended result (wire_of S.view K.view wire.old) (wire_of S.view K.view wire.new) }
+    ensures { EndedInTurns result (wire_of S.view K.view wire.old) (wire_of S.view K.view wire.new) }
 {
     let first = wire.passed();
     is_sound(wire);
@@ -68,6 +69,8 @@ pub fn serve_agent<S: Site, K: Link>(
     ensures steady { result ≢ Err WireError.Disk → (wire_of S.view K.view wire.new).site.disk.faults ≡ (wire_of S.view K.view wire.old).site.disk.faults }
     ensures answering { (wire_of S.view K.view wire.new).asking ≡ false }
     ensures lines { (wire_of S.view K.view wire.old).lines.passed ≤ (wire_of S.view K.view wire.new).lines.passed }
+    // Each command that it took was answered in its turn, at the moment that the clock told right behind its take.
+    ensures turns { Goes result (wire_of S.view K.view wire.old) (wire_of S.view K.view wire.new) }
     // Unless it was flooded, which is told first, what broke the link is told.
     ensures link { result ≢ Err WireError.Flooded → TellsLink result (wire_of S.view K.view wire.new) }
     // Where the wire was just made or marked, the commands that it took are those of the lines `c` that it read; and what this end promises

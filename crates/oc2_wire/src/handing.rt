@@ -6,7 +6,8 @@ ghost use Rattle.flow_world_steps.specs.Sides.{FiltersReady};
 ghost use Rattle.flow_world_steps.specs.Steps.{IsAddressed};
 ghost use Rattle.flow_world_parts.specs.Errors.{MayRefuseAct};
 ghost use Rattle.oc2_wire_site.specs.WireOf.{wire_of};
-ghost use Rattle.oc2_wire.specs.FilterTurns.{AnsweredAs, Handed, MayRefuseOpening, Opened, act_error_of, opening_error};
+ghost use Rattle.oc2_wire.specs.FilterTurns.{AnsweredAs, Handed, MayRefuseOpening, Opened, act_error_of};
+ghost use Rattle.oc2_wire.specs.Turns.{opening_error};
 
 use crate::error::WireError;
 use crate::reply_wire::ReplyWire;

@@ -50,6 +50,7 @@ returns-clause-accepts g c =
         over = over;
         how = c.serve_agent.result;
         served = c.serve_agent.ensures.served;
+        turns = c.serve_agent.ensures.turns;
         kept = c.serve_agent.ensures.keeps;
         lines = c.state.ensures.holds;
         link = c.serve_agent.ensures.link;

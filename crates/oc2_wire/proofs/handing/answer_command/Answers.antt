@@ -21,7 +21,7 @@ pub returns-in-Ok : goal.returns-in-Ok
 returns-in-Ok g c =
     hands_on (Ok c.in-Ok.acted) c.args.parcel.now (wire_of g.S.Disk.view g.K.Link.view c.args.wire.now) (wire_of g.S.Disk.view g.K.Link.view c.reach-now.new.self)
     (wire_of g.S.Disk.view g.K.Link.view c.hand-handed.new.wire) c.args.filters.now c.hand-handed.new.filters c.reach-now.result c.is_sound.ensures c.reach-now.ensures.reaches c.reach-now.ensures.wire
-    c.is_sound-2.ensures c.is_sound-3.ensures c.in-Ok.ensures.handed
+    c.if-now-gt-LAST_MOMENT.false c.is_sound-2.ensures c.is_sound-3.ensures c.in-Ok.ensures.handed
 
 pub returns-in-Err : goal.returns-in-Err
 returns-in-Err g c =
@@ -31,4 +31,4 @@ returns-in-Err g c =
     c.in-Err.ensures.may
     (hands_on (Err c.in-Err.error) c.args.parcel.now (wire_of g.S.Disk.view g.K.Link.view c.args.wire.now) (wire_of g.S.Disk.view g.K.Link.view c.reach-now.new.self)
     (wire_of g.S.Disk.view g.K.Link.view c.hand-handed.new.wire) c.args.filters.now c.hand-handed.new.filters c.reach-now.result c.is_sound.ensures c.reach-now.ensures.reaches c.reach-now.ensures.wire
-    c.is_sound-2.ensures c.is_sound-3.ensures c.in-Err.ensures.handed))
+    c.if-now-gt-LAST_MOMENT.false c.is_sound-2.ensures c.is_sound-3.ensures c.in-Err.ensures.handed))
