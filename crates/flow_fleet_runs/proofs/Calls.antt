@@ -1,5 +1,5 @@
 -- What a call of a fleet does to the journals of its runs and to the lines.
-use Rattle.std.proofs.Common.{◌≡◌, ℕ, ◌+◌, ◌-◌, ◌<◌, ◌≤◌, Bool, true, false, List, [], ◌∷◌, ◌++◌, refl, sym, ◌∙◌, subst, ap, arith}
+use Rattle.std.proofs.Common.{◌≡◌, ℕ, ◌+◌, ◌-◌, ◌≤◌, Bool, true, false, List, [], ◌∷◌, ◌++◌, refl, sym, ◌∙◌, subst, ap, arith}
 use Rattle.std.specs.Prelude.{Option, Some, None, Contains, IfSome, IsSome, nat_le, nat_lt, option_and_then, option_map, slice_get, slice_set, if◌then◌else◌}
 use Rattle.std.proofs.lemmas.List.Elements.{Contains-push}
 use Rattle.base_dues.specs.Pairs.{is_by}
@@ -26,7 +26,7 @@ use Rattle.flow_world_steps.specs.Appends.Tries.{done, failed, limited}
 use Rattle.flow_world_steps.specs.Ready.{FoundNone}
 use Rattle.flow_world_steps.specs.Steps.{after_reach}
 use Rattle.flow_world_steps.specs.Sums.{owed_lines}
-use Rattle.flow_world_steps.specs.Worlds.{Cause, Notes, Phase, World, holds, looked, owes, past, refused, rests, waits}
+use Rattle.flow_world_steps.specs.Worlds.{Cause, Notes, Phase, holds, looked, owes, past, refused, rests, waits}
 use Rattle.flow_world_steps.proofs.Adding.{begins_now, moves_now, of_option, replies_now}
 use Rattle.flow_world_steps.proofs.Failing.{fails_notes}
 use Rattle.flow_world_steps.proofs.Handling.{get_set_same}
@@ -116,21 +116,21 @@ overdue place issue old new is =
       lower = is.lower;
     }
 
-why_begins : (place : ℕ) (old new : FleetWorld) (is : BeginsAt place old new) (next : Record) → IsBeginning is.does.v.history old.site.clock.now next → ShowsWhy next place is.does.v old
+pub why_begins : (place : ℕ) (old new : FleetWorld) (is : BeginsAt place old new) (next : Record) → IsBeginning is.does.v.history old.site.clock.now next → ShowsWhy next place is.does.v old
 why_begins place old new is next first = subst (λ (r : Record). ShowsWhy r place is.does.v old) (sym first.is) (record {
   phase = is.does.does.phase;
   settled = is.settled;
   is = record { empty = first.empty; is = refl };
 })
 
-why_moves : (place : ℕ) (old new : FleetWorld) (is : MovesAt place old new) (next : Record) → IsMove is.does.v.history old.site.clock.now next → ShowsWhy next place is.does.v old
+pub why_moves : (place : ℕ) (old new : FleetWorld) (is : MovesAt place old new) (next : Record) → IsMove is.does.v.history old.site.clock.now next → ShowsWhy next place is.does.v old
 why_moves place old new is next one =
     shows_move is.does.v old place old.site.clock.now one.move next one.is (record { has_looked = is.has_looked; turn = is.turn_of; move = one })
 
-why_expires : (place issue : ℕ) (old new : FleetWorld) (is : ExpiresAt place issue old new) (next : Record) → next ≡ entry.Expire issue old.site.clock.now → ShowsWhy next place is.does.v old
+pub why_expires : (place issue : ℕ) (old new : FleetWorld) (is : ExpiresAt place issue old new) (next : Record) → next ≡ entry.Expire issue old.site.clock.now → ShowsWhy next place is.does.v old
 why_expires place issue old new is next e = subst (λ (r : Record). ShowsWhy r place is.does.v old) (sym e) (overdue place issue old new is)
 
-why_replies : (beat : ℕ) (parcel : Parcel) (place : ℕ) (old new : FleetWorld) (is : RepliesAt beat parcel place old new) (next : Record) → IsReply is.does.v.history parcel old.site.clock.now next
+pub why_replies : (beat : ℕ) (parcel : Parcel) (place : ℕ) (old new : FleetWorld) (is : RepliesAt beat parcel place old new) (next : Record) → IsReply is.does.v.history parcel old.site.clock.now next
     → ShowsWhy next place is.does.v old
 why_replies beat parcel place old new is next reply = subst (λ (r : Record). ShowsWhy r place is.does.v old) (sym reply.is) (record {
   beat = beat;

@@ -1,5 +1,5 @@
 -- How the records of one run came.
-use Rattle.std.proofs.Common.{◌≡◌, ◌≢◌, ℕ, Bool, true, false, List, [], ◌∷◌, ◌++◌, refl, sym, ◌∙◌, subst, ap, arith}
+use Rattle.std.proofs.Common.{◌≡◌, ℕ, Bool, true, false, List, [], ◌∷◌, ◌++◌, refl, sym, ◌∙◌, subst, ap}
 use Rattle.std.specs.Prelude.{Some, slice_get, ◌==◌, if◌then◌else◌}
 use Rattle.std.proofs.lemmas.List.{append_assoc, append_cancel_left}
 use Rattle.run_records.specs.declared.record.Record.{Record}
@@ -9,8 +9,7 @@ use Rattle.flow_core_rules.specs.Runs.{begin_of}
 use Rattle.flow_engine.specs.EngineView.{EngineView}
 use Rattle.flow_world_steps.specs.Ready.{FoundNone}
 use Rattle.flow_world_steps.specs.Worlds.{looked, owes, rests}
-use Rattle.flow_fleet_steps.specs.Openings.{IsFleetOpened, Runs}
-use Rattle.flow_fleet_steps.specs.Steps.{FleetSteps}
+use Rattle.flow_fleet_steps.specs.Openings.{Runs}
 use Rattle.flow_fleet_steps.specs.Steps.FleetSteps.{nothing, and_then}
 use Rattle.flow_fleet_steps.specs.Worlds.{FleetWorld}
 use Rattle.flow_fleet_sums.specs.Sums.{AddsAt, of_place}
@@ -116,7 +115,7 @@ begins_as : (runs : Runs) (place run moment : ℕ) (given : Given) → slice_get
 begins_as runs place run moment given there next e =
     subst (λ (r : Record). BeginsAsGiven runs place r) (sym e) (record { given = given; there = there; books_are = refl; bind_is = refl })
 
-begins_why : (runs : Runs) (place : ℕ) (from v : EngineView) (w : FleetWorld) (r : Record) → slice_get runs place ≡ Some (from.history.seen.run, from.history.seen.given) → v.history.seen.run ≡ from.history.seen.run
+pub begins_why : (runs : Runs) (place : ℕ) (from v : EngineView) (w : FleetWorld) (r : Record) → slice_get runs place ≡ Some (from.history.seen.run, from.history.seen.given) → v.history.seen.run ≡ from.history.seen.run
     → v.history.seen.given ≡ from.history.seen.given → ShowsWhy r place v w → BeginsAsGiven runs place r
 begins_why runs place from v w (entry.Begin run moment books bind) there same given why =
     begins_as runs place from.history.seen.run w.site.clock.now from.history.seen.given there (entry.Begin run moment books bind)

@@ -12,18 +12,15 @@ use Rattle.run_records.specs.declared.record.Record.{Record}
 use Rattle.flow_laws.proofs.Basics.{same_some}
 use Rattle.flow_engine_history.specs.Histories.{IsLineAt}
 use Rattle.flow_engine.specs.EngineView.{EngineView}
-use Rattle.flow_world_steps.specs.Sums.{owed_lines}
 use Rattle.flow_world_steps.specs.Worlds.{Phase, opened, owes_line}
-use Rattle.flow_world_steps.proofs.Issues.{below}
-use Rattle.flow_fleet_laws.specs.Fleets.{AreRuns, IsAt}
+use Rattle.flow_fleet_laws.specs.Fleets.{IsAt}
 use Rattle.flow_fleet_laws.specs.Speeches.{head_of}
-use Rattle.flow_fleet_laws.specs.Speeches.Form.{with_numbers}
-use Rattle.flow_fleet_steps.specs.Openings.{IsFleetOpened, Runs, numbers}
+use Rattle.flow_fleet_steps.specs.Openings.{numbers}
 use Rattle.flow_fleet_steps.specs.Worlds.{FleetWorld}
 use Rattle.flow_fleet_steps.proofs.Numbers.{at_place, opened_for}
 use Rattle.flow_fleet_sums.specs.Sums.{FleetAdds, of_place}
 use Rattle.flow_fleet_sums.proofs.Adding.{of_both}
-use Rattle.flow_fleet_runs.specs.Lines.{EachFleetSpeaksAt, FleetSpeaksAt, FleetTells, IsLineOf, behind, lines_of}
+use Rattle.flow_fleet_runs.specs.Lines.{EachFleetSpeaksAt, FleetTells, IsLineOf, behind, lines_of}
 use Rattle.flow_fleet_runs.proofs.Lines.{fleets_tell, same_eqb}
 
 -- ---- a line tells its number

@@ -21,3 +21,10 @@ pub mod Complete
 pub mod Filters
 pub mod Standing
 pub mod Acted
+pub mod Pairs
+pub mod Saying
+pub mod Reaching
+pub mod Offered
+pub mod InTime
+pub mod Acting
+pub mod Counting

@@ -1,5 +1,5 @@
 -- What a fleet appends, in order, and the lines that it says of it.
-use Rattle.std.proofs.Common.{◌≡◌, inl, inr, ℕ, zero, suc, ◌+◌, ◌<◌, ◌≤◌, Bool, true, false, List, [], ◌∷◌, ◌++◌, length, take, refl, sym, ◌∙◌, subst, ap, arith}
+use Rattle.std.proofs.Common.{◌≡◌, inl, inr, ℕ, zero, suc, ◌+◌, ◌<◌, Bool, true, false, List, [], ◌∷◌, ◌++◌, length, take, refl, sym, ◌∙◌, subst, ap, arith}
 use Rattle.std.specs.Prelude.{Option, Some, slice_get, ◌==◌, if◌then◌else◌}
 use Rattle.std.proofs.lemmas.List.{append_assoc, append_cancel_left, append-nil, length-append, take-append-le}
 use Rattle.cacao_site.specs.LinkCalls.{GainsAll}
@@ -21,7 +21,6 @@ use Rattle.flow_fleet_steps.specs.Steps.FleetSteps.{nothing, and_then}
 use Rattle.flow_fleet_steps.specs.Worlds.{FleetWorld, Shared}
 use Rattle.flow_fleet_sums.specs.Sums.{AddsAt, FleetAdds, of_place}
 use Rattle.flow_fleet_sums.proofs.Adding.{adds-then, adds_none, of_both, of_tag, step_adds, there_of}
-use Rattle.flow_fleet_runs.specs.Came.{AppendedAt}
 use Rattle.flow_fleet_runs.specs.Lines.{AppendedBehind, EachFleetTells, FleetSpeaks, IsLineOf}
 use Rattle.flow_fleet_runs.proofs.Calls.{Did, NoMore, OneMore, did}
 use Rattle.flow_fleet_runs.proofs.Calls.Did.{no_more, one_line, one_more}

@@ -1,8 +1,14 @@
 pub mod Came
+pub mod Unsure
+pub mod Moments
 pub mod Lines
+pub mod Said
 pub mod Handled
 pub mod Parcels
+pub mod Counted
 pub mod Puts
 pub mod Ends
 pub mod Complete
 pub mod Standing
+pub mod Reached
+pub mod Pairs

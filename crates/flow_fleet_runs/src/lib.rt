@@ -4,12 +4,18 @@
 
 ghost use Rattle.flow_fleet_runs.specs.Came.{EachFleetBegins, EachFleetCame, EachFleetLooked};
 ghost use Rattle.flow_fleet_runs.specs.Complete.{EachEndedRunIsActedOn, EachFleetComplete, EachFleetSendIsActedOn, EachFleetUnderWay, NoFleetExpiry};
+ghost use Rattle.flow_fleet_runs.specs.Counted.{EachFleetCloseCounts, EachFleetCounts, EachFleetRefusalCounts};
 ghost use Rattle.flow_fleet_runs.specs.Ends.{EachFleetClosesByKind, EachFleetClosesExactly};
 ghost use Rattle.flow_fleet_runs.specs.Handled.{EachFleetHandles};
 ghost use Rattle.flow_fleet_runs.specs.Lines.{EachFleetSpeaksAt, EachFleetTells};
+ghost use Rattle.flow_fleet_runs.specs.Moments.{EachFleetActed, EachFleetRecordIsInTime, EachOfferedIsInTime};
+ghost use Rattle.flow_fleet_runs.specs.Pairs.{FleetRunsAreRuns, OneRunIsAFleet, OneRunMoreIsAFleet, PairsHaveTheirPlaces, PlacesHaveTheirPairs};
 ghost use Rattle.flow_fleet_runs.specs.Parcels.{EachFleetCloseHandles, EachFleetRefusalHandles};
 ghost use Rattle.flow_fleet_runs.specs.Puts.{EachFleetPutsFew};
+ghost use Rattle.flow_fleet_runs.specs.Reached.{EachFleetCloseReaches, EachFleetRefusalReaches};
+ghost use Rattle.flow_fleet_runs.specs.Said.{EachFleetCloseSays, EachFleetRefusalSays};
 ghost use Rattle.flow_fleet_runs.specs.Standing.{EachFleetStands};
+ghost use Rattle.flow_fleet_runs.specs.Unsure.{EachFleetOffered, EachFleetOfferedAct, EachOfferedBegin};
 
 use flow_fleet_laws::events_law;
 
@@ -77,4 +83,58 @@ pub fn fleet_complete_law()
     ensures complete { EachFleetComplete }
     ensures ended { EachEndedRunIsActedOn }
     ensures acted_on { EachFleetSendIsActedOn }
+{}
+
+/// A record that may stand behind those of a run, since the disk failed while it was appended, was offered by the last call, at the
+/// clock's moment, and came as one that was appended comes: a Begin has the number and the texts of its run. An act that may stand
+/// behind those of a filter is on the command that was in hand in the last call. The function does nothing; its contract is the law.
+pub fn fleet_unsure_law()
+    ensures offered { EachFleetOffered }
+    ensures begins { EachOfferedBegin }
+    ensures acts { EachFleetOfferedAct }
+{}
+
+/// In the journal of a run no record is of an earlier moment than one before it, nor is one that may stand behind them. Each act
+/// that a fleet appended came by one call, from the command in hand, at the clock's moment, or at that of the last act in its
+/// filter's file, if that is later. The function does nothing; its contract is the law.
+pub fn fleet_moments_law()
+    ensures in_time { EachFleetRecordIsInTime }
+    ensures offered { EachOfferedIsInTime }
+    ensures acted { EachFleetActed }
+{}
+
+/// Of the parcels that a fleet handed on, each brought one act, or one Reply in the journal of a run, or changed no journal. It is
+/// flooded exactly where 1,000,000 of those that it took changed none, and never more do. The function does nothing; its contract is
+/// the law.
+pub fn fleet_floods_law()
+    ensures counts { EachFleetCounts }
+    ensures closes { EachFleetCloseCounts }
+    ensures refuses { EachFleetRefusalCounts }
+{}
+
+/// A fleet that closes said the lines of all records that it appended, in order, and nothing else. One that refuses lacks at most
+/// that of the last record: it does where that could not be said, it may where memory was wanted, and else it lacks none. One that
+/// could not open its files said nothing. The function does nothing; its contract is the law.
+pub fn fleet_said_law()
+    ensures closes { EachFleetCloseSays }
+    ensures refuses { EachFleetRefusalSays }
+{}
+
+/// However a fleet ends, the greatest moment that its clock was asked for is no later than it was at the start, than the greatest
+/// moment of a last record there, or than what was due for one of its runs meanwhile. While files are opened the clock is not asked.
+/// The function does nothing; its contract is the law.
+pub fn fleet_reach_law()
+    ensures closes { EachFleetCloseReaches }
+    ensures refuses { EachFleetRefusalReaches }
+{}
+
+/// One pair of a number of 64 bits and what the run is given makes a fleet's list, and so do those of one and a pair more, where
+/// there are fewer than 16 and none has its number. Each run has the place of its pair. The function does nothing; its contract is
+/// the law.
+pub fn fleet_pairs_law()
+    ensures one { OneRunIsAFleet }
+    ensures more { OneRunMoreIsAFleet }
+    ensures places { PairsHaveTheirPlaces }
+    ensures pairs { PlacesHaveTheirPairs }
+    ensures runs { FleetRunsAreRuns }
 {}
