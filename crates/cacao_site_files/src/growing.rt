@@ -16,6 +16,8 @@ const STEP: u64 = 65_536;
 pub(crate) struct Growing<F> {
     file: F,
     bytes: Vec<u8>,
+    // Whether it is a regular file: no other grows.
+    is_file: bool,
     // Where it is a journal, the place of its closed gate.
     gate: Option<usize>,
 }
@@ -30,8 +32,8 @@ impl<F: Read + Seek + OpenFile + Drop> Growing<F> {
         mut file: F,
         most: u32,
     ) -> Result<io::Result<Growing<F>>, AllocError> {
-        let told = match file.metadata() {
-            Ok(metadata) => metadata.len(),
+        let (told, is_file) = match file.metadata() {
+            Ok(metadata) => (metadata.len(), metadata.is_file()),
             Err(error) => return Ok(Err(error)),
         };
         let mut bytes = vec![in alloc; 0u8; room_for(told.max(4_096), most)]?;
@@ -40,7 +42,12 @@ impl<F: Read + Seek + OpenFile + Drop> Growing<F> {
             Err(error) => return Ok(Err(error)),
         }
         let gate = closed_gate(bytes.as_slice(), HEADER);
-        Ok(Ok(Growing { file, bytes, gate }))
+        Ok(Ok(Growing {
+            file,
+            bytes,
+            is_file,
+            gate,
+        }))
     }
 
     /// Whether the journal has grown since it was read; then what came is read too.
@@ -70,12 +77,12 @@ impl<F: Read + Seek + OpenFile + Drop> Growing<F> {
     /// The place from which on the journal is to be read again: that of its gate, where another program has opened it, or
     /// the front, where it had no gate yet.
     fn is_open(&mut self) -> io::Result<Option<usize>> {
-        let metadata = self.file.metadata()?;
-        if !metadata.is_file() {
+        if !self.is_file {
             return Ok(None);
         }
         let Some(gate) = self.gate else {
-            let is_begun = self.bytes.len() <= HEADER && metadata.len() > self.bytes.len() as u64;
+            let length = self.file.seek(SeekFrom::End(0))?;
+            let is_begun = self.bytes.len() <= HEADER && length > self.bytes.len() as u64;
             return Ok(if is_begun { Some(0) } else { None });
         };
         let mut byte = [0u8];

@@ -47,6 +47,13 @@ static NAMES: [&str; FILES] = [
 /// Who may open a lock file that is made, but for those whom the umask leaves out. Whoever can open it can hold it.
 const MODE: u32 = 0o660;
 
+/// Whether the lock file of the file of this number is there: a program may hold its lock. It takes no lock.
+pub(crate) fn has_file<R: Files>(rt: &R, file: u8) -> bool
+    requires { file ≤ 31 }
+{
+    rt.metadata(NAMES[file as usize]).is_ok()
+}
+
 /// The locks that this program holds, by the numbers of the files that they stand for.
 ///
 /// A lock is held from the first call for its file until the value is dropped or the process ends, however it does. A

@@ -2,6 +2,7 @@
 ghost use Rattle.std.specs.Prelude.{◌≡◌, ◌≤◌, length, drop, None, IfOk, OnOk, IfSome, IsSome, IsSomeAnd};
 ghost use Rattle.cacao_site_files.specs.Holding.{IsHeld, KeepsHeld};
 
+use crate::locks;
 use crate::locks::Locks;
 use std::fs::{File, OpenFile, OpenOptions};
 use std::io::{Read, Seek, SeekFrom, Write};
@@ -13,6 +14,9 @@ pub(crate) const FILES: usize = 32;
 
 /// The most bytes of a journal.
 const MOST_BYTES: u64 = 67_108_864;
+
+/// How often a file whose lock file is there is looked at until it has grown. A look takes some ten-millionths of a second.
+const MOST_LOOKS: u32 = 40_000;
 
 /// The names of the files in the current folder, by number.
 static NAMES: [&str; FILES] = [
@@ -60,8 +64,9 @@ struct OneFile {
 
 /// Files 0 to 31 in the current folder.
 ///
-/// A file is opened by its first read or write, and stays open until a sync that is Ok, so that no error of an
-/// earlier write is lost to it. After a sync that failed each later sync of the file fails. No call takes memory.
+/// A file is opened by its first read, write or sync, and stays open. Each write and each sync behind the first write
+/// has the same descriptor, so that no error of an earlier write is lost to a sync. After a sync that failed each later
+/// sync of the file fails. No call takes memory.
 ///
 /// Files that are to be written are written by no other program that keeps to the locks: the first call on a file takes
 /// its lock, and fails where it can't. Files that are to be read alone may be lengthened meanwhile. They are whole
@@ -161,8 +166,7 @@ impl<'a, R: Files<File = File>> OpenFiles<'a, R> {
 
     /// Fills the front of the buffer with what the file has from place `at` on, and answers how many bytes that is.
     ///
-    /// It needs no right to write. Where a file that is to be read alone ends, it is synced: what was read, perhaps of another
-    /// program's last write, is durable before anything is told of it.
+    /// It needs no right to write. Where a file that is to be read alone ends, its entries are durable when this returns.
     pub fn read(&mut self, file: u8, at: u64, into: &mut [u8]) -> io::Result<usize>
         requires file { file ≤ 31 }
         requires size { length into.old ≤ 4_096 }
@@ -174,14 +178,15 @@ impl<'a, R: Files<File = File>> OpenFiles<'a, R> {
     {
         self.hold(file)?;
         self.open_to_read(file)?;
-        let is_written = self.locks.is_some();
+        let (rt, is_written) = (self.rt, self.locks.is_some());
         let Some(one) = &mut self.slots[file as usize] else {
             return Ok(0);
         };
         one.file.seek(SeekFrom::Start(at))?;
         let count = fill(&mut one.file, into)?;
-        if !is_written && count < into.len() {
-            one.file.sync_all()?;
+        let end = at.saturating_add(count as u64);
+        if !is_written && (count < into.len() || end >= MOST_BYTES) {
+            settle(rt, &mut one.file, file, end)?;
         }
         Ok(count)
     }
@@ -218,7 +223,7 @@ impl<'a, R: Files<File = File>> OpenFiles<'a, R> {
         done
     }
 
-    /// Makes the file durable, if it is there, and closes it. It needs no right to write.
+    /// Makes the file durable, if it is there. It needs no right to write.
     ///
     /// Of a file that is to be read alone nothing is to be made durable here: the read that comes to its end does that.
     pub fn sync(&mut self, file: u8) -> io::Result<()>
@@ -246,7 +251,6 @@ impl<'a, R: Files<File = File>> OpenFiles<'a, R> {
             self.spoilt[file as usize] = true;
             return Err(error);
         }
-        self.slots[file as usize] = None;
         Ok(())
     }
 
@@ -291,6 +295,31 @@ fn write_at<F: Write + Seek + OpenFile>(file: &mut F, at: u64, bytes: &[u8]) -> 
     }
     file.seek(SeekFrom::Start(at))?;
     file.write_all(bytes)
+}
+
+/// Sees to it that the entries that were read of the file of this number are durable, of which no byte came from place `end` on.
+///
+/// Where the file has grown since, they are: who appends an entry has synced the file behind the gates of all before it,
+/// and only then makes the file longer. Else it is synced here, at once where no program seems to write it: a sync keeps
+/// those waiting that another program makes meanwhile.
+fn settle<R: Files<File = File>>(rt: &R, opened: &mut File, file: u8, end: u64) -> io::Result<()>
+    requires { file ≤ 31 }
+{
+    if locks::has_file(rt, file) && has_grown(opened, end) {
+        return Ok(());
+    }
+    opened.sync_all()
+}
+
+/// Whether the file gets longer than this, while it is looked at. Its length is asked in the way that leaves no trace in the
+/// file's own record of when it was read or asked for, which the next sync of who writes it would have to take along.
+fn has_grown<F: Seek>(file: &mut F, end: u64) -> bool {
+    for _ in 0..MOST_LOOKS {
+        if matches!(file.seek(SeekFrom::End(0)), Ok(length) if length > end) {
+            return true;
+        }
+    }
+    false
 }
 
 /// Fills the front of the buffer with what the reader has, and answers how many bytes that is.

@@ -17,12 +17,11 @@ use std::rt::Files;
 /// A site over std's files and standard output, which tells no contents but its pending parcels.
 ///
 /// File 0 is `engine.journal`, file `a` is `agent-NN.journal` and run file `k` is `engine-KK.journal`, with two
-/// digits, in the current folder. A file stays open from its first read or write until a sync that is Ok; a file that
-/// can only be read can be read, and synced where nothing was written. A site writes the files, and then keeps other
-/// such sites from them by locks, or only reads them. Each error of std, want of memory too, is a fault that is
-/// counted. A line goes out as it is, with no buffer of this program's own. The link is a queue inside the process,
-/// first in, first out, and a parcel for which it finds no memory is lost and counted. The clock starts at 0 and
-/// reaches what it is asked.
+/// digits, in the current folder. A file stays open from the first call that opens it; a file that can only be read can
+/// be read, and synced where nothing was written. A site writes the files, and then keeps other such sites from them by
+/// locks, or only reads them. Each error of std, want of memory too, is a fault that is counted. A line goes out as it
+/// is, with no buffer of this program's own. The link is a queue inside the process, first in, first out, and a parcel
+/// for which it finds no memory is lost and counted. The clock starts at 0 and reaches what it is asked.
 #[derive(Drop)]
 pub struct FileSite<'a, R> {
     rt: &'a R,
@@ -39,8 +38,8 @@ impl<'a, R: Files<File = File> + Print> FileSite<'a, R> {
     /// takes no memory.
     ///
     /// Another program may write the files meanwhile. What is read of a journal from its front to the first read that
-    /// comes short has the entries that the journal had at one moment, and that read makes them durable. `length` of a
-    /// file that is there is so no less than the most that a journal can have.
+    /// comes short has the entries that the journal had at one moment, and they are durable when that read returns.
+    /// `length` of a file that is there is so no less than the most that a journal can have.
     pub fn reading(rt: &'a R, alloc: Global) -> FileSite<'a, R>
         ensures { ⟦<FileSite<'a, R> as Disk>⟧.view result ≡ untold_site 0 0 [] (clock_at 0) no_counts }
     {
