@@ -1,0 +1,6 @@
+use Rattle.flow_world_records_law.proofs.Came.{each_offered_came, each_record_came, each_record_in_time}
+use Rattle.flow_world_records_law.proofs.Expires.{each_expiry_was_put}
+use Rattle.flow_world_records_law.proofs.records_law.Goals as goal
+
+pub returns : goal.returns
+returns c = record { came = each_record_came; moments = each_record_in_time; offered = each_offered_came; expires = each_expiry_was_put }
