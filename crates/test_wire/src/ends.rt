@@ -1,23 +1,31 @@
 // Rows that make one end of a wire, and those of calls on it.
 use crate::links::{call_list, pieces};
 use crate::plans::{site, whole_link};
+use crate::slow::Slow;
 use crate::streams::{long_command, nothings};
 use crate::wires::Wires;
 use cacao_site_memory::MemorySite;
-use oc2_wire_memory::MemoryLink;
+use oc2_wire_memory::{MemoryLink, Pieces};
 use std::alloc::{AllocError, Global};
 use test_rows::Row;
 use test_site_calls::answers::text;
 use test_site_calls::number;
 
 /// Ends of wires in memory.
-pub(crate) type Ends = Wires<MemorySite, MemoryLink>;
+pub(crate) type Ends = Wires<MemorySite, Slow<MemoryLink>>;
 
 /// The link of a row `asks ROOM FAILING PIECE ..`.
 fn link_over_pieces(alloc: Global, row: &Row) -> Result<MemoryLink, AllocError> {
     let failing = call_list(alloc, row.text(2))?;
     let pieces = pieces(alloc, row)?;
     MemoryLink::new(alloc, pieces, failing, number(row, 1).min(1_000_000))
+}
+
+/// The link of a row `slow ROOM FAILING MOST`, over which nothing comes.
+fn link_that_ends(alloc: Global, row: &Row) -> Result<MemoryLink, AllocError> {
+    let failing = call_list(alloc, row.text(2))?;
+    let none = Pieces::from_vec(Vec::new(alloc));
+    MemoryLink::new(alloc, none, failing, number(row, 1).min(1_000_000))
 }
 
 /// A link that brings a command of so many bytes, with its line feed.
@@ -39,15 +47,25 @@ fn link(alloc: Global, row: &Row) -> Result<MemoryLink, AllocError> {
         "line" => link_of_line(alloc, row),
         "rest" => whole_link(alloc, long_command(alloc, number(row, 1))?, 1_000),
         "flood" => link_of_nothings(alloc, row),
+        "slow" => link_that_ends(alloc, row),
         _ => link_over_pieces(alloc, row),
+    }
+}
+
+/// How many bytes may go out over the link of a row in one call: those that a row `slow` says, else all.
+fn most(row: &Row) -> usize {
+    if row.text(0) == "slow" {
+        number(row, 3).min(1_000_000) as usize
+    } else {
+        1_000_000
     }
 }
 
 /// Makes the end of a row.
 fn make(alloc: Global, ends: &mut Ends, row: &Row) -> Result<(), AllocError> {
-    let link = link(alloc, row)?;
+    let link = Slow::new(link(alloc, row)?, most(row));
     let site = site(alloc)?;
-    if row.text(0) == "asks" {
+    if row.text(0) == "asks" || row.text(0) == "slow" {
         ends.ask(site, link)
     } else {
         ends.reply(site, link)
@@ -55,10 +73,11 @@ fn make(alloc: Global, ends: &mut Ends, row: &Row) -> Result<(), AllocError> {
 }
 
 /// The bytes that were sent, or how many, where there are many.
-fn sent(alloc: Global, link: Option<MemoryLink>) -> Result<Vec<u8>, AllocError> {
+fn sent(alloc: Global, link: Option<Slow<MemoryLink>>) -> Result<Vec<u8>, AllocError> {
     let Some(link) = link else {
         return text(alloc, "no wire");
     };
+    let link = link.into_link();
     let count = link.sent().len();
     if count > 1_000 {
         let line = format!(in alloc; "{count} bytes")?;
@@ -89,7 +108,7 @@ fn called(alloc: Global, ends: &mut Ends, row: &Row) -> Result<Vec<u8>, AllocErr
 /// What comes of a row; `no such row` where there is no call of that name.
 pub(crate) fn end_answer(alloc: Global, ends: &mut Ends, row: &Row) -> Result<Vec<u8>, AllocError> {
     match row.text(0) {
-        "asks" | "answers" | "line" | "rest" | "flood" => made(alloc, ends, row),
+        "asks" | "slow" | "answers" | "line" | "rest" | "flood" => made(alloc, ends, row),
         "sent" => given_up(alloc, ends),
         _ => called(alloc, ends, row),
     }

@@ -6,6 +6,7 @@ mod ends;
 mod lines;
 mod links;
 mod plans;
+mod slow;
 mod streams;
 mod wires;
 

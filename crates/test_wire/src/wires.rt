@@ -2,7 +2,7 @@
 use crate::plans::parcel;
 use cacao_site::{Bytes, Parcel, Site};
 use oc2_wire_link::Link;
-use oc2_wire_site::{LineRoom, LinkState, WireSite};
+use oc2_wire_site::{LinkState, WireSite};
 use std::alloc::{AllocError, Global};
 use test_rows::Row;
 use test_site_calls::answers::{text, whole};
@@ -67,15 +67,19 @@ impl<S: Site + Drop, K: Link + Drop> Wires<S, K> {
 
     /// Makes the end that asks, over this site and this link.
     pub(crate) fn ask(&mut self, site: S, link: K) -> Result<(), AllocError> {
-        let room = LineRoom::new(self.alloc)?;
-        self.wire = Some(WireSite::asking_in(self.alloc, room, site, link));
+        match WireSite::asking(self.alloc, site, link) {
+            Ok(wire) => self.wire = Some(wire),
+            Err(_) => return Err(AllocError),
+        }
         Ok(())
     }
 
     /// Makes the end that answers, over this site and this link.
     pub(crate) fn reply(&mut self, site: S, link: K) -> Result<(), AllocError> {
-        let room = LineRoom::new(self.alloc)?;
-        self.wire = Some(WireSite::answering_in(self.alloc, room, site, link));
+        match WireSite::answering(self.alloc, site, link) {
+            Ok(wire) => self.wire = Some(wire),
+            Err(_) => return Err(AllocError),
+        }
         Ok(())
     }
 
