@@ -1,7 +1,7 @@
 #!/usr/bin/env python3
 """Plays the built program as a hostile world would, on real files in temporary folders, and prints what was tried and what was found.
 
-usage: hostile.py [PROGRAM] [--rounds N] [--jobs N] [--seed N] [--only kill|stop|lies|memory|fault|disk|depth|rows|hands|beside|pair|fleet|turns].. [--examples FOLDER]
+usage: hostile.py [PROGRAM] [--rounds N] [--jobs N] [--seed N] [--only kill|stop|lies|memory|fault|disk|depth|rows|hands|loop|beside|pair|fleet|turns].. [--examples FOLDER]
   kill    `run` is killed at random moments, and played again until it ends
   stop    `run` is stopped before each of its calls to the outside, also with torn writes
   lies    the same on a disk that syncs nothing: there something has to be found, or the comparison sees nothing
@@ -12,6 +12,7 @@ usage: hostile.py [PROGRAM] [--rounds N] [--jobs N] [--seed N] [--only kill|stop
   rows    bad input: cut files, broken bytes, texts at the edge of a limit
   hands   several programs in one folder at one time, as often as there are rounds
   beside  the same, one of them a fleet
+  loop    the time of a long run with a reader in a loop beside it: alone (`--jobs 1`), on a machine that does nothing else
   pair    two processes over a socket: killed, refused, failed on either side; hostile clients and servers; others beside them
   fleet   fleets of two to five runs, killed, stopped, refused, failed, and taken on; as many as there are rounds
   turns   fleets of random playbooks that nothing disturbs, each line against a model; as many as there are rounds
@@ -26,7 +27,7 @@ import subprocess
 import sys
 import tempfile
 
-from hostile_parts import books, depth, disk, fleets, hands, hands_fleets, peers, play, rows, stops, turns
+from hostile_parts import books, depth, disk, fleets, hands, hands_fleets, hands_loop, peers, play, rows, stops, turns
 
 HERE = os.path.dirname(os.path.realpath(__file__))
 TOP = os.path.dirname(HERE)
@@ -41,6 +42,7 @@ PARTS = {
     "rows": rows.rows,
     "hands": hands.hands,
     "beside": hands_fleets.beside,
+    "loop": hands_loop.loops,
     "pair": peers.pair,
     "fleet": fleets.fleets,
     "turns": turns.turns,

@@ -9,6 +9,8 @@ usage: speed.py [--small] [--program FILE] [--folder FOLDER] [--rounds N] [ROW..
   steps    the records of a loop in memory (test_speed), beside a plain Python interpreter of it
   decide   packets over 65,536 rules and over 256, and a plain scan (test_speed)
   start    a short run from start to exit, beside `true` and jq
+  fleet    the records of 16 runs side by side, beside as many of one run
+  pair     commands and replies over a socket, beside two bare processes that send as much and sync as often
 --small takes a few seconds a row, and its figures say little. FOLDER is where files are made, on the disk that is measured.
 A tool that this machine lacks is left out. The programs are built first where they are missing, which takes long.
 docs/SPEED.md says what came of it and what limits it.
@@ -21,7 +23,7 @@ import tempfile
 import time
 
 from measure import Report
-from speed_parts import canon, check, decide, durable, show, start, steps
+from speed_parts import canon, check, decide, durable, fleet, pair, show, start, steps
 
 HERE = os.path.dirname(os.path.realpath(__file__))
 TOP = os.path.dirname(HERE)
@@ -33,6 +35,8 @@ ROWS = {
     "steps": steps.measure,
     "decide": decide.measure,
     "start": start.measure,
+    "fleet": fleet.measure,
+    "pair": pair.measure,
 }
 
 

@@ -3,7 +3,6 @@ import fcntl
 import os
 import subprocess
 import tempfile
-import threading
 import time
 
 from .books import END, action, deny, identifier, loop, playbook, starts, text_of
@@ -166,40 +165,6 @@ def beside(program, table, rounds, turns):
                 row.expect(ended.status in (0, KILLED), f"{ended}")
 
 
-def timed(program, folder, words, meanwhile):
-    """The seconds of a run by the clock and of the processor, and how often `meanwhile` was done until it ended."""
-    begin, count, ends = time.perf_counter(), 0, []
-    run = Started(program, folder, words)
-    waiter = threading.Thread(target=lambda: ends.append((run.end(), time.perf_counter())))
-    waiter.start()
-    while not ends:
-        meanwhile()
-        count += 1
-    waiter.join()
-    return ends[0][1] - begin, run.processor, count, ends[0][0]
-
-
-def tight_loop(program, table, turns, rounds):
-    """The time of a long run alone, and of one with a reader in a loop beside it, in turn. The least of each is compared, which a busy machine
-    changes least."""
-    files, run = {"book.json": text_of(loop(turns))}, ["run", "--run", "1", "book.json"]
-    for name in ("show", "rules 1", "audit"):
-        row = table.row("hands", f"a run of {5 * turns + 4:,} records with `{name}` in a loop beside it")
-        alone, beside_one, reads = [], [], 0
-        for _ in range(rounds):
-            for times in (alone, beside_one):
-                with Folder(files) as folder:
-                    read = (lambda: program.play(folder, READERS[name][0])) if times is beside_one else (lambda: time.sleep(0.01))
-                    clock, processor, count, ended = timed(program, folder, run, read)
-                times.append((clock, processor))
-                reads += count if times is beside_one else 0
-                row.expect(ended.status == 0, f"{ended}")
-                row.tries += 1
-        clock, processor = (min(one[at] for one in beside_one) / min(one[at] for one in alone) for at in (0, 1))
-        row.what += f": {clock:.2f} of its time ({min(alone)[0]:.1f} s), {processor:.2f} of its processor's; {reads} reads"
-        row.expect(clock <= 1.1, f"the run took {clock:.3f} of its time alone")
-
-
 # -- locks ---------------------------------------------------------------------------------------------------------------------------------
 
 
@@ -269,4 +234,3 @@ def hands(program, cases, table, rounds, draw):
     pairs(program, table, rounds)
     answers(program, table, rounds, examples)
     beside(program, table, rounds, 3000)
-    tight_loop(program, table, 20_000 if rounds >= 100 else 1_000, 5)

@@ -8,6 +8,7 @@ from .fleets import Kept, journal_of
 from .hands import DISK_FAILED, Started
 from .journal import ENGINE, Damaged, agent_file, line_front
 from .play import Folder, bytes_of, progress
+from .processes import Watched, left_in
 from .reference import is_record
 from .stops import KILLED
 
@@ -25,19 +26,20 @@ class Beside:
     def play(self, rounds):
         for number in range(rounds):
             self.row.tries += 1
-            with Folder(self.files) as folder:
+            with self.folder() as folder:
                 # The one that is begun first is not always the same.
                 words = self.words if number % 2 else self.words[::-1]
                 self.judge(folder, [one.end() for one in [Started(self.program, folder, one) for one in words]])
+
+    def folder(self):
+        return Folder(self.files)
 
     def judge(self, folder, played):
         """Each record is said once, by who wrote it; who came second said `disk failed` and wrote nothing, or came behind the end of the first.
         No lock is left, and the files of each run agree."""
         how = " and ".join(map(str, played))
-        try:
-            kept = Kept(folder, MOST_PLACES)
-        except (Damaged, ValueError) as error:
-            return self.row.find(f"{how}: a file is damaged: {error}")
+        if self.whole(folder, how, played) is None:
+            return
         second = [one for one in played if (one.status, one.lines) == DISK_FAILED]
         late = [one for one in played if one.status == 12 and len(one.lines) == 1]
         ended = [one for one in played if one.status == 0]
@@ -46,6 +48,13 @@ class Beside:
         self.row.expect(all(one.lines[0].startswith(("other ", "run used ")) for one in late), how)
         left = [name for name in os.listdir(folder) if name.endswith(".lock")]
         self.row.expect(not left, f"{how}: left {left}")
+
+    def whole(self, folder, how, played):
+        """What the files have, of which none is damaged: of each run the records that were said, each once; and `audit` finds them right."""
+        try:
+            kept = Kept(folder, MOST_PLACES)
+        except (Damaged, ValueError) as error:
+            return self.row.find(f"{how}: a file is damaged: {error}")
         numbers = {str(records[0]["run"]): place for place, records in enumerate(kept.runs) if records}
         said = [[] for _ in kept.runs]
         for one in played:
@@ -62,10 +71,29 @@ class Beside:
                 told = self.program.play(folder, words)
                 wanted = f"audit ok {len(records)} {sum(map(len, kept.acts.values()))}"
                 self.row.expect((told.status, told.lines) == (0, [wanted]), f"{how}, and then {told}")
-        return None
+        return kept
 
 
 TWO = ["fleet", "1", "one.json", "2", "other.json"]
+
+
+class BesidePair(Beside):
+    """A `pair` and a fleet that are started at one time. Either may be refused a file: that of the engine, or those of filters, which the `filters` of
+    the `pair` locks."""
+
+    def folder(self):
+        return Watched(self.row, self.files)
+
+    def judge(self, folder, played):
+        """The files are whole and have what was said. Behind both, the fleet goes on to its end, or is refused the journal of the `pair`."""
+        how = " and ".join(map(str, played))
+        left_in(folder)
+        self.whole(folder, how, played)
+        self.row.stopped += sum((one.status, one.lines) == DISK_FAILED for one in played)
+        self.row.expect(all(one.status in (0, 6, 8, 12, 17) for one in played), how)
+        last = self.program.play(folder, TWO)
+        self.row.expect(last.status in (0, 6, 12), f"{how}, and then {last}")
+        self.whole(folder, f"{how}, and then {last}", [*played, last])
 
 
 def held(program, table):
@@ -160,5 +188,9 @@ def beside(program, cases, table, rounds, draw):
     progress("beside: two longer fleets, and a longer run beside one")
     Beside(program, table, f"two fleets of runs of {5 * LONG + 4:,} records", TWO, ["fleet", "3", "other.json", "4", "one.json"], LONG).play(rounds)
     Beside(program, table, f"a `run` beside a fleet of runs of {5 * LONG + 4:,} records", [*run, "1", "one.json"], TWO, LONG).play(rounds)
+    pair = ["pair", "--run"]
+    for what, one in (("has the first run of the fleet", [*pair, "1", "one.json"]), ("has another run", [*pair, "3", "one.json"])):
+        progress(f"beside: a `pair` that {what}")
+        BesidePair(program, table, f"a `pair` that {what}, beside it", one, TWO).play(rounds)
     readers(program, table, rounds, 1500)
     return None
