@@ -48,6 +48,7 @@ few-behind : (usage : Usage) (old mid new : SiteView) → UsesFew usage.opened u
 few-behind usage old mid new few says = record {
   calls = λ told. last-call (device_calls old) (device_calls mid) (device_calls new) (5 * length usage.opened) (total blocks usage.opened) (4 * length usage.appended)
       old.link.said mid.link.said new.link.said says.told (few.calls told) says.calls;
+  disk_calls = λ told. let calls = few.disk_calls told in let same = says.disk_calls in omega (arith, calls, same);
   written = let w = few.written in let s = says.disk.written in omega (arith, w, s);
   one = few.one;
 }

@@ -22,7 +22,7 @@ AreTold (Some before) (Some after) = Unit {0}
 abbrev pub Tallies : ℕ → ℕ → ℕ → Option (List (ℕ × Text)) → Option (List (ℕ × Text)) → Type 0
 Tallies k before after old new = IfSome old (λ (said : List (ℕ × Text)). IfSome new (λ (more : List (ℕ × Text)). after + length said ≤ before + length more + k))
 
--- Lines were said, and nothing else changed; so many calls may have said none.
+-- Lines were said, and nothing else changed, so no call of the disk was made; so many calls may have said none.
 pub record SaysSome (k : ℕ) (old new : SiteView) : Type 0 where
   pub disk : KeepsDisk old.disk new.disk
   pub link : SaysAtMost old.link new.link
@@ -30,6 +30,7 @@ pub record SaysSome (k : ℕ) (old new : SiteView) : Type 0 where
   pub mishaps : new.counts.mishaps ≡ old.counts.mishaps
   pub told : AreTold old.link.said new.link.said
   pub calls : Tallies k (device_calls old) (device_calls new) old.link.said new.link.said
+  pub disk_calls : new.disk.calls ≡ old.disk.calls
 
 pub keeps-refl : (disk : DiskView) → KeepsDisk disk disk
 keeps-refl disk = record {
@@ -63,6 +64,7 @@ some-refl k site = record {
   mishaps = refl;
   told = told-refl site.link.said;
   calls = tallies-refl (device_calls site) k site.link.said;
+  disk_calls = refl;
 }
 
 told-trans : (a b c : Option (List (ℕ × Text))) → AreTold a b → AreTold b c → AreTold a c
@@ -97,6 +99,7 @@ some-trans k m a b c p q = record {
   mishaps = q.mishaps ∙ p.mishaps;
   told = told-trans a.link.said b.link.said c.link.said p.told q.told;
   calls = tallies-trans k m (device_calls a) (device_calls b) (device_calls c) a.link.said b.link.said c.link.said p.told p.calls q.calls;
+  disk_calls = q.disk_calls ∙ p.disk_calls;
 }
 
 gains-told : (old new : Option (List (ℕ × Text))) (entry : ℕ × Text) → Gains old entry new → AreTold old new
@@ -122,6 +125,7 @@ some-line line old new h = record {
   mishaps = h.only.mishaps;
   told = gains-told old.link.said new.link.said (new.disk.beat, line) h.said;
   calls = gains-tally (device_calls old) (device_calls new) old.link.said new.link.said (new.disk.beat, line) (one-call old new h.only) h.said;
+  disk_calls = h.only.calls;
 }
 
 same-tally : (x y : ℕ) (old new : Option (List (ℕ × Text))) → y ≤ x + 1 → new ≡ old → Tallies 1 x y old new
@@ -137,6 +141,7 @@ some-failed old new h = record {
   mishaps = h.only.mishaps;
   told = subst (AreTold old.link.said) (sym h.said) (told-refl old.link.said);
   calls = same-tally (device_calls old) (device_calls new) old.link.said new.link.said (one-call old new h.only) h.said;
+  disk_calls = h.only.calls;
 }
 
 pub some-same : (k : ℕ) (old new : SiteView) → new ≡ old → SaysSome k old new
@@ -152,7 +157,15 @@ tally-more k x y (Some old) None le h = tt
 tally-more k x y (Some old) (Some new) le h = omega (arith, le, h)
 
 pub some-more : (k : ℕ) (old new : SiteView) → k ≤ 1 → SaysSome k old new → SaysSome 1 old new
-some-more k old new le h = record { disk = h.disk; link = h.link; time = h.time; mishaps = h.mishaps; told = h.told; calls = tally-more k (device_calls old) (device_calls new) old.link.said new.link.said le h.calls }
+some-more k old new le h = record {
+  disk = h.disk;
+  link = h.link;
+  time = h.time;
+  mishaps = h.mishaps;
+  told = h.told;
+  calls = tally-more k (device_calls old) (device_calls new) old.link.said new.link.said le h.calls;
+  disk_calls = h.disk_calls;
+}
 
 -- ---- the lines of a work, and the last one
 

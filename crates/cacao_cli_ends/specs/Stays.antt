@@ -27,7 +27,7 @@ CallsFew bytes old new = IsTrue old.disk.told → IfSome old.link.said (λ befor
     device_calls new + length before ≤ device_calls old + length after + 4 + bytes / 4096))
 
 -- No file was written, nothing was put or taken, and no time went by: each image that a crash may leave of a file at each beat of
--- the call is one that it could leave before.
+-- the call is one that it could leave before. Of the disk three calls were made, and one for each 4,096 bytes, at most.
 pub record WritesNothing (file : ℕ) (old new : SiteView) : Type 0 where
   pub reads_only : (other : ℕ) → EachBeat other old.disk new.disk (IsLeft old.disk other old.disk.beat)
   pub written : new.disk.written ≤ old.disk.written
@@ -35,6 +35,7 @@ pub record WritesNothing (file : ℕ) (old new : SiteView) : Type 0 where
   pub time : KeepsTime old.clock new.clock
   pub mishaps : new.counts.mishaps ≡ old.counts.mishaps
   pub calls : CallsFew (length (new.disk.reads file)) old new
+  pub disk_calls : IsTrue old.disk.told → new.disk.calls ≤ old.disk.calls + 3 + length (new.disk.reads file) / 4096
 
 -- at most so many reads were counted, where the shelf tells them
 abbrev pub ReadsAtMost : ℕ → Option ℕ → Option ℕ → Type 0

@@ -60,6 +60,8 @@ nothing-written file old between new opens says = record {
       (subst (λ (bytes : List ℕ). device_calls between ≤ device_calls old + 3 + length bytes / 4096) (sym (says.disk.stays file).reads)
       (omega (arith, opens.calls told, ap (λ c. c.says) opens.only.rest.counts)))
       (subst (λ (said : Option (List (ℕ × Text))). Tallies 1 (device_calls between) (device_calls new) said new.link.said) (ap (λ l. l.said) opens.only.rest.link) says.calls);
+  disk_calls = λ told. subst (λ (bytes : List ℕ). new.disk.calls ≤ old.disk.calls + 3 + length bytes / 4096) (sym (says.disk.stays file).reads)
+      (omega (arith, opens.calls told, says.disk_calls));
 }
 
 -- nothing was opened

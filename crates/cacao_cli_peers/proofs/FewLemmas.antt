@@ -25,7 +25,7 @@ use Rattle.oc2_wire_site.specs.Wires.{WireView}
 use Rattle.cacao_cli_words.specs.Words.{Text}
 use Rattle.cacao_cli_ends.specs.Ends.{End}
 use Rattle.cacao_cli_ends.proofs.SayingLemmas.{AreTold, SaysSome, Tallies}
-use Rattle.cacao_cli_status_laws.specs.Usage.{IsFew, Usage, blocks, entry_bytes, opens_only, reads_to}
+use Rattle.cacao_cli_status_laws.specs.Usage.{DiskCallsFew, IsFew, Usage, blocks, entry_bytes, opens_only, reads_to}
 use Rattle.cacao_cli_peers.specs.Pairing.{ClosesOver, OverSite, RefusesOver}
 use Rattle.cacao_cli_peers.specs.PeerUsage.{acts_usage, over_usage, refused_usage, served_usage, serves_usage, unopened_usage}
 use Rattle.cacao_cli_peers.proofs.AloneLemmas.{acts_not}
@@ -47,6 +47,7 @@ few-tally k x y (Some p) (Some q) le h = omega (arith, le, h)
 pub few-some : (k : ℕ) (old new : SiteView) → k ≤ 10 → SaysSome k old new → IsFew (opens_only []) old new
 few-some k old new le says = record {
   calls = λ told. few-tally k (device_calls old) (device_calls new) old.link.said new.link.said le says.calls;
+  disk_calls = λ told. omega (arith, says.disk_calls);
   written = omega (arith, says.disk.written);
   one = omega arith;
 }
@@ -57,6 +58,7 @@ few-some k old new le says = record {
 pub record IsFewer (usage : Usage) (old new : SiteView) : Type 0 where
   pub told : AreTold old.link.said new.link.said
   pub calls : IsTrue old.disk.told → CallsBy 9 (device_calls old) (device_calls new) (5 * length usage.opened) (total blocks usage.opened) (4 * length usage.appended) old.link.said new.link.said
+  pub disk_calls : DiskCallsFew usage old new
   pub written : new.disk.written ≤ old.disk.written + 9 * length usage.opened + total entry_bytes usage.appended + total entry_bytes usage.failed
   pub one : length usage.failed ≤ 1
 
@@ -70,6 +72,7 @@ pub few-then : (usage : Usage) (old mid new : SiteView) → IsFewer usage old mi
 few-then usage old mid new few says = record {
   calls = λ told. last-call (device_calls old) (device_calls mid) (device_calls new) (5 * length usage.opened) (total blocks usage.opened) (4 * length usage.appended)
       old.link.said mid.link.said new.link.said few.told (few.calls told) says.calls;
+  disk_calls = λ told. let calls = few.disk_calls told in omega (arith, calls, says.disk_calls);
   written = omega (arith, few.written, says.disk.written);
   one = few.one;
 }
@@ -94,6 +97,7 @@ few-behind usage old said mid says few = record {
   told = told-then old.link.said said.link.said mid.link.said says.told few.told;
   calls = λ told. first-line (device_calls old) (device_calls said) (device_calls mid) (5 * length usage.opened) (total blocks usage.opened) (4 * length usage.appended)
       old.link.said said.link.said mid.link.said says.told says.calls (few.calls (subst IsTrue (sym says.disk.goes_on.told) told));
+  disk_calls = λ told. let calls = few.disk_calls (subst IsTrue (sym says.disk.goes_on.told) told) in omega (arith, calls, says.disk_calls);
   written = omega (arith, few.written, says.disk.written);
   one = few.one;
 }
@@ -105,12 +109,13 @@ calls-as x y x' y' n b e p q p' q' one two three four h =
     subst (λ (k : ℕ). CallsBy 9 k y' n b e p' q') one (subst (λ (k : ℕ). CallsBy 9 x k n b e p' q') two
     (subst (λ (o : Said). CallsBy 9 x y n b e o q') three (subst (λ (o : Said). CallsBy 9 x y n b e p o) four h)))
 
-fewer-as : (usage : Usage) (a b old new : SiteView) → a.disk.told ≡ old.disk.told → device_calls a ≡ device_calls old → device_calls b ≡ device_calls new → a.disk.written ≡ old.disk.written
-    → b.disk.written ≡ new.disk.written → a.link.said ≡ old.link.said → b.link.said ≡ new.link.said → IsFewer usage a b → IsFewer usage old new
-fewer-as usage a b old new told calls calls' written written' said said' few = record {
+fewer-as : (usage : Usage) (a b old new : SiteView) → a.disk.told ≡ old.disk.told → device_calls a ≡ device_calls old → device_calls b ≡ device_calls new → a.disk.calls ≡ old.disk.calls
+    → b.disk.calls ≡ new.disk.calls → a.disk.written ≡ old.disk.written → b.disk.written ≡ new.disk.written → a.link.said ≡ old.link.said → b.link.said ≡ new.link.said → IsFewer usage a b → IsFewer usage old new
+fewer-as usage a b old new told calls calls' disk disk' written written' said said' few = record {
   told = subst (λ (o : Said). AreTold o new.link.said) said (subst (λ (o : Said). AreTold a.link.said o) said' few.told);
   calls = λ t. calls-as (device_calls a) (device_calls b) (device_calls old) (device_calls new) (5 * length usage.opened) (total blocks usage.opened) (4 * length usage.appended)
       a.link.said b.link.said old.link.said new.link.said calls calls' said said' (few.calls (subst IsTrue (sym told) t));
+  disk_calls = λ t. let most = few.disk_calls (subst IsTrue (sym told) t) in omega (arith, most, disk, disk');
   written = omega (arith, few.written, written, written');
   one = few.one;
 }
@@ -118,6 +123,7 @@ fewer-as usage a b old new told calls calls' written written' said said' few = r
 pub few-over : (asking : _) (usage : Usage) (old new : SiteView) (first last : WireView) → OverSite asking old new first last → IsFewer usage first.site last.site → IsFewer usage old new
 few-over asking usage old new first last over few = fewer-as usage first.site last.site old new
     (ap (λ (w : WireView). w.site.disk.told) over.begins) (ap (λ (w : WireView). device_calls w.site) over.begins) (ap device_calls over.site)
+    (ap (λ (w : WireView). w.site.disk.calls) over.begins) (ap (λ (s : SiteView). s.disk.calls) over.site)
     (ap (λ (w : WireView). w.site.disk.written) over.begins) (ap (λ (s : SiteView). s.disk.written) over.site)
     (ap (λ (w : WireView). w.site.link.said) over.begins) (ap (λ (s : SiteView). s.link.said) over.site) few
 
@@ -202,6 +208,7 @@ module _ (given : Given) (run most : ℕ) (answers : List OperatorAnswer) (old m
       let grown : length w.engine.history.records ≡ length s.start.engine.history.records + length sums.adds.added =
       ap length sums.adds.is ∙ length-append s.start.engine.history.records sums.adds.added in
       let last_calls : device_calls w.site ≡ device_calls mid = ap device_calls s.to_is in
+      let last_disk : w.site.disk.calls ≡ mid.disk.calls = ap (λ (v : SiteView). v.disk.calls) s.to_is in
       let last_written : w.site.disk.written ≡ mid.disk.written = ap (λ (v : SiteView). v.disk.written) s.to_is in
       let said_start : start.link.said ≡ old.link.said = link-said old start one.only.rest.link in
       let gains : GainsAll old.link.said sums.speaks.said mid.link.said =
@@ -218,6 +225,7 @@ module _ (given : Given) (run most : ℕ) (answers : List OperatorAnswer) (old m
             let says : start.counts.says ≡ old.counts.says = counts-says old start one.only.rest.counts in
             more-said (device_calls old) (device_calls mid) (5 * 1) (blocks (start.disk.reads 0) + 0) (4 * length records) old.link.said mid.link.said sums.speaks.said gains
             (omega (arith, a, c, d, says, none, acted.0, entries, grown, last_calls));
+        disk_calls = λ told. let a = one.calls told in let c = sums.disk_calls in omega (arith, a, c, none, acted.0, entries, last_disk);
         written =
             let a = one.written in
             let c : w.site.disk.written ≤ start.disk.written + 9 * (1 + length s.start.filters) + total record_bytes sums.adds.added
@@ -231,6 +239,7 @@ first-few why given run old mid r = record {
   told = told-same old.link.said mid.link.said (link-said old mid r.opens.only.rest.link);
   calls = λ told. none-said (device_calls old) (device_calls mid) (5 * length (mid.disk.reads 0 ∷ [])) (total blocks (mid.disk.reads 0 ∷ [])) (4 * 0) old.link.said mid.link.said
       (link-said old mid r.opens.only.rest.link) (let few = r.opens.calls told in let says = counts-says old mid r.opens.only.rest.counts in omega (arith, few, says));
+  disk_calls = λ told. omega (arith, r.opens.calls told);
   written = omega (arith, r.opens.written);
   one = omega arith;
 }
@@ -264,6 +273,10 @@ unopened-few why old mid r =
           let c = three.calls (subst IsTrue (sym two.goes_on.told) told) in
           let says : mid.counts.says ≡ old.counts.says = counts-says r.middle mid three.only.rest.counts ∙ counts-says old r.middle two.rest.counts in
           none-said (device_calls old) (device_calls mid) (5 * length files) (total blocks files) (4 * 0) old.link.said mid.link.said said (omega (arith, b, c, says, many, filled));
+      disk_calls = λ told.
+          let b = two.calls told in
+          let c = three.calls (subst IsTrue (sym two.goes_on.told) told) in
+          omega (arith, b, c, many, filled);
       written = let b = two.written in let c = three.written in omega (arith, b, c);
       one = omega arith;
     }
@@ -285,6 +298,7 @@ acts-few old opened new filters acted repeats at_hand unsure hand s =
           let says = s.says in
           none-said (device_calls old.site) (device_calls new.site) (5 * length files) (total blocks files) (4 * length acts) old.site.link.said new.site.link.said s.said
           (omega (arith, a, says, hand, many, filled, entries));
+      disk_calls = λ told. let a = s.calls told in omega (arith, a, hand, many, filled, entries);
       written = let a = s.written in omega (arith, a, many, behind, left);
       one = length-one (option_map (λ (e : ℕ × Act). act_layout e.1) unsure);
     }

@@ -31,7 +31,7 @@ use Rattle.cacao_cli_session.specs.Holding.{ClosesSo, RefusesSo}
 use Rattle.cacao_cli_status_laws.specs.Leaves.{LeavesSession}
 use Rattle.cacao_cli_ends.specs.Stays.{WritesNothing}
 use Rattle.cacao_cli_ends.specs.Lines.{Tells}
-use Rattle.cacao_cli_status_laws.specs.Usage.{IsFew, Usage, UsesFew, blocks, entry_bytes, held_usage, opening_usage, opens_only, reads_to, refused_usage, session_usage, went_usage}
+use Rattle.cacao_cli_status_laws.specs.Usage.{DiskCallsFew, IsFew, Usage, UsesFew, blocks, entry_bytes, held_usage, opening_usage, opens_only, reads_to, refused_usage, session_usage, went_usage}
 use Rattle.cacao_cli_ends.specs.Work.{Work, ends, or_end, start_of, starts, trees_of, trees_wanted, work, work_on}
 use Rattle.cacao_cli_ends.specs.declared.limit.Limit.TheVariants.{BookCount}
 use Rattle.cacao_cli_status_laws.proofs.LeaveLemmas.{IsBrief, silent, one_line, judged, compared, rehearsed, brief-audit, brief-canon, brief-check, brief-rehearse, leaves-ended}
@@ -51,6 +51,7 @@ few-tally x y (Some a) (Some b) h = omega (arith, h)
 few-some : (old new : SiteView) → SaysSome 1 old new → IsFew (opens_only []) old new
 few-some old new says = record {
   calls = λ told. few-tally (device_calls old) (device_calls new) old.link.said new.link.said says.calls;
+  disk_calls = λ told. omega (arith, says.disk_calls);
   written = omega (arith, says.disk.written);
   one = omega arith;
 }
@@ -77,6 +78,7 @@ few-file x y q (Some a) (Some b) h = omega (arith, h)
 few-opened : (file : ℕ) (old new : SiteView) → WritesNothing file old new → IsFew (opens_only (new.disk.reads file ∷ [])) old new
 few-opened file old new h = record {
   calls = λ told. few-file (device_calls old) (device_calls new) (blocks (new.disk.reads file)) old.link.said new.link.said (h.calls told);
+  disk_calls = λ told. omega (arith, h.disk_calls told);
   written = omega (arith, h.written);
   one = omega arith;
 }
@@ -88,6 +90,7 @@ record IsFewer (usage : Usage) (old new : SiteView) : Type 0 where
   pub told : AreTold old.link.said new.link.said
   pub calls : IsTrue old.disk.told → IfSome old.link.said (λ before. IfSome new.link.said (λ after.
       device_calls new + length before ≤ device_calls old + length after + 9 + 5 * length usage.opened + total blocks usage.opened + 4 * length usage.appended))
+  pub disk_calls : DiskCallsFew usage old new
   pub written : new.disk.written ≤ old.disk.written + 9 * length usage.opened + total entry_bytes usage.appended + total entry_bytes usage.failed
   pub one : length usage.failed ≤ 1
 
@@ -103,6 +106,7 @@ few-then : (usage : Usage) (old mid new : SiteView) → IsFewer usage old mid �
 few-then usage old mid new few says = record {
   calls = λ told. last-call (device_calls old) (device_calls mid) (device_calls new) (5 * length usage.opened) (total blocks usage.opened) (4 * length usage.appended)
       old.link.said mid.link.said new.link.said few.told (few.calls told) says.calls;
+  disk_calls = λ told. let calls = few.disk_calls told in omega (arith, calls, says.disk_calls);
   written = omega (arith, few.written, says.disk.written);
   one = few.one;
 }
@@ -171,6 +175,7 @@ opening-few error given run old mid (inl r) = record {
   told = told-same old.link.said mid.link.said (said-of old mid r.opens.only.rest.link);
   calls = λ told. none-said (device_calls old) (device_calls mid) (5 * length (mid.disk.reads 0 ∷ [])) (total blocks (mid.disk.reads 0 ∷ [])) (4 * 0) old.link.said mid.link.said
       (said-of old mid r.opens.only.rest.link) (let few = r.opens.calls told in let says = says-of old mid r.opens.only.rest.counts in omega (arith, few, says));
+  disk_calls = λ told. omega (arith, r.opens.calls told);
   written = omega (arith, r.opens.written);
   one = omega arith;
 }
@@ -197,6 +202,13 @@ opening-few error given run old mid (inr r) =
           let c = three.calls told_two in
           let says : mid.counts.says ≡ old.counts.says = says-of r.refuses.middle mid three.only.rest.counts ∙ says-of r.middle r.refuses.middle two.rest.counts ∙ says-of old r.middle one.only.rest.counts in
           none-said (device_calls old) (device_calls mid) (5 * length files) (total blocks files) (4 * 0) old.link.said mid.link.said said (omega (arith, a, b, c, says, many, filled));
+      disk_calls = λ told.
+          let told_one = told-then old r.middle one.only.each.goes_on.told told in
+          let told_two = told-then r.middle r.refuses.middle two.goes_on.told told_one in
+          let a = one.calls told in
+          let b = two.calls told_one in
+          let c = three.calls told_two in
+          omega (arith, a, b, c, many, filled);
       written = let a = one.written in let b = two.written in let c = three.written in omega (arith, a, b, c);
       one = omega arith;
     }
@@ -268,6 +280,7 @@ module _ (given : Given) (run most : ℕ) (answers : List OperatorAnswer) (old m
       let grown : length w.engine.history.records ≡ length went.start.engine.history.records + length sums.adds.added =
       ap length sums.adds.is ∙ length-append went.start.engine.history.records sums.adds.added in
       let last_calls : device_calls w.site ≡ device_calls mid = ap device_calls went.to_is in
+      let last_disk : w.site.disk.calls ≡ mid.disk.calls = ap (λ (s : SiteView). s.disk.calls) went.to_is in
       let last_written : w.site.disk.written ≡ mid.disk.written = ap (λ (s : SiteView). s.disk.written) went.to_is in
       let said_start : start.link.said ≡ old.link.said = said-of went.files.middle start two.rest.link ∙ said-of old went.files.middle one.only.rest.link in
       let gains : GainsAll old.link.said sums.speaks.said mid.link.said =
@@ -296,6 +309,11 @@ module _ (given : Given) (run most : ℕ) (answers : List OperatorAnswer) (old m
             let says : start.counts.says ≡ old.counts.says = says-of went.files.middle start two.rest.counts ∙ says-of old went.files.middle one.only.rest.counts in
             more-said (device_calls old) (device_calls mid) (5 * length files) (total blocks files) (4 * length (records ++ acts)) old.link.said mid.link.said sums.speaks.said gains
             (omega (arith, a, b, c, d, says, many, stand, filled, entries, grown, last_calls));
+        disk_calls = λ told.
+            let a = one.calls told in
+            let b = two.calls (told-then old went.files.middle one.only.each.goes_on.told told) in
+            let c = sums.disk_calls in
+            omega (arith, a, b, c, many, stand, filled, entries, last_disk);
         written =
             let a = one.written in
             let b = two.written in

@@ -30,12 +30,20 @@ blocks bytes = length bytes / 4096
 abbrev pub entry_bytes : List ℕ → ℕ
 entry_bytes entry = length entry + 6
 
--- Calls of the disk and of `say`: ten, five for each of these files, one for each 4,096 bytes of them, four for each entry that
--- was appended and one for each line said, at most. Bytes: nine for each file, and six more than it has for each entry, at most.
+-- calls of the disk: five, five for each of these files, one for each 4,096 bytes of them and four for each entry that was
+-- appended, at most
+abbrev pub DiskCallsFew : Usage → SiteView → SiteView → Type 0
+DiskCallsFew usage old new = IsTrue old.disk.told → new.disk.calls
+    ≤ old.disk.calls + 5 + 5 * length usage.opened + total blocks usage.opened + 4 * length usage.appended
+
+-- Calls of the disk and of `say`, where the lines said are told: ten, five for each of these files, one for each 4,096 bytes of
+-- them, four for each entry that was appended and one for each line said, at most. Calls of the disk alone, whether lines are
+-- told or not. Bytes: nine for each file, and six more than it has for each entry, at most.
 pub record IsFew (usage : Usage) (old new : SiteView) : Type 0 where
   pub calls : IsTrue old.disk.told → IfSome old.link.said (λ before. IfSome new.link.said (λ after.
       device_calls new + length before
       ≤ device_calls old + length after + 10 + 5 * length usage.opened + total blocks usage.opened + 4 * length usage.appended))
+  pub disk_calls : DiskCallsFew usage old new
   pub written : new.disk.written
       ≤ old.disk.written + 9 * length usage.opened + total entry_bytes usage.appended + total entry_bytes usage.failed
   pub one : length usage.failed ≤ 1

@@ -126,6 +126,10 @@ journal_few error runs old new is =
     let many : length (new.disk.reads (file_of is.place) ∷ journals_to is.place old.disk) ≡ is.place + 1 = omega (arith, long) in
     let says : new.counts.says ≡ old.counts.says = says_of is.middle new opens.only.rest.counts ∙ took.says in
     record {
+      disk_calls = λ told.
+          let few = took.calls told in
+          let here = opens.calls (subst IsTrue (sym took.told) told) in
+          omega (arith, few, here, many);
       calls = λ told.
           let few = took.calls told in
           let here = opens.calls (subst IsTrue (sym took.told) told) in
@@ -152,6 +156,12 @@ filter_few error runs old new is =
     let filled : total blocks files ≡ blocks (new.disk.reads (n + 1)) + (total blocks (journals_to (length runs) old.disk) + blocks_to n mid.disk) = omega (arith, same, sum) in
     let says : new.counts.says ≡ old.counts.says = says_of mid new opens.only.rest.counts ∙ says_of is.middle mid two.rest.counts ∙ took.says in
     record {
+      disk_calls = λ told.
+          let told_one = subst IsTrue (sym took.told) told in
+          let few = took.calls told in
+          let then_ = two.calls told_one in
+          let here = opens.calls (subst IsTrue (sym two.goes_on.told) told_one) in
+          omega (arith, few, then_, here, many, filled);
       calls = λ told.
           let told_one = subst IsTrue (sym took.told) told in
           let few = took.calls told in
@@ -206,11 +216,18 @@ module _ (runs : Runs) (most : ℕ) (old new : SiteView) (went : FleetWent runs 
       let gains : GainsAll old.link.said lines.said new.link.said =
       subst (λ (s : SiteView). GainsAll old.link.said lines.said s.link.said) went.to_is (subst (λ (o : Option (List (ℕ × List ℕ))). GainsAll o lines.said b.site.link.said) said_start lines.says) in
       let last_calls : device_calls b.site ≡ device_calls new = ap device_calls went.to_is in
+      let last_disk : b.site.disk.calls ≡ new.disk.calls = ap (λ (s : SiteView). s.disk.calls) went.to_is in
       let last_written : b.site.disk.written ≡ new.disk.written = ap (λ (s : SiteView). s.disk.written) went.to_is in
       let says : a.site.counts.says ≡ old.counts.says = says_of went.files.middle a.site two.rest.counts ∙ took.says in
       let grown = adds.all in
       let spoken = lines.many in
       record {
+        disk_calls = λ told.
+            let few = took.calls told in
+            let then_ = two.calls (subst IsTrue (sym took.told) told) in
+            let calls = sums.disk_calls in
+            let same_added = sums.adds.all in
+            omega (arith, few, then_, calls, same_added, grown, many, filled, entries, last_disk);
         calls = λ told.
             let told_one = subst IsTrue (sym took.told) told in
             let few = took.calls told in

@@ -33,13 +33,16 @@ abbrev pub filters_to : ℕ → DiskView → List (List ℕ)
 filters_to zero disk = []
 filters_to (suc n) disk = disk.reads (suc n) ∷ filters_to n disk
 
--- These files were opened, these entries were appended, and of these the append failed. Calls of the disk and of `say`: five, and
--- five for each file, one for each 4,096 bytes of the files, four for each entry that was appended and one for each line said, at
--- most. Bytes: nine for each file, and six more than it has for each entry, at most. At most one append failed.
+-- These files were opened, these entries were appended, and of these the append failed. Calls of the disk: five, and five for
+-- each file, one for each 4,096 bytes of the files and four for each entry that was appended, at most; with those of `say`, where
+-- the lines said are told, one more for each line. Bytes: nine for each file, and six more than it has for each entry, at most.
+-- At most one append failed.
 pub record UsesFew (opened appended failed : List (List ℕ)) (old new : SiteView) : Type 0 where
   pub calls : IsTrue old.disk.told → IfSome old.link.said (λ before. IfSome new.link.said (λ after.
       device_calls new + length before
       ≤ device_calls old + length after + 5 + 5 * length opened + total blocks opened + 4 * length appended))
+  pub disk_calls : IsTrue old.disk.told
+      → new.disk.calls ≤ old.disk.calls + 5 + 5 * length opened + total blocks opened + 4 * length appended
   pub written : new.disk.written ≤ old.disk.written + 9 * length opened + total entry_bytes appended + total entry_bytes failed
   pub one : length failed ≤ 1
 

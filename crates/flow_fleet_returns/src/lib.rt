@@ -20,10 +20,10 @@ pub fn fleet_prefix_law()
     ensures refuses_opening { EachRefusedFleetOpeningAddsNothing }
 {}
 
-/// However a fleet ends, from the start of the call on: device calls are at most five, five for each file that it opened, one for
-/// each 4,096 bytes of these files, four for each record and act that it appended and one for each line that it said; and bytes
-/// handed to the disk at most nine for each file and, for each entry that it appended and for one whose append failed, six more
-/// than the entry has. The function does nothing; its contract is the law.
+/// However a fleet ends, from the start of the call on: calls of the disk are at most five, five for each file that it opened, one
+/// for each 4,096 bytes of these files and four for each record and act that it appended; device calls, where the lines said are
+/// told, one more for each line that it said; and bytes handed to the disk at most nine for each file and, for each entry that it
+/// appended and for one whose append failed, six more than the entry has. The function does nothing; its contract is the law.
 pub fn fleet_costs_law()
     ensures closes { EachFleetCloseUsesFew }
     ensures refuses { EachFleetRefusalUsesFew }

@@ -1,4 +1,4 @@
--- Device calls and calls of `say` of a fleet.
+-- Device calls of a fleet: those of the disk and of `say`, and those of the disk alone.
 use Rattle.std.proofs.Common.{◌≡◌, ℕ, ◌+◌, ◌-◌, ◌≤◌, List, length, refl, ◌∙◌, ap, arith}
 use Rattle.std.specs.Prelude.{Some, slice_get}
 use Rattle.run_journal.specs.Durable.{header_calls}
@@ -74,7 +74,10 @@ lifted old new at v w own was there sums records going costs =
     let more = more_of new.phase (calls_of w + filter_calls new) rest in
     let before = all_of old.phase (calls_of v + filter_calls old) going in
     let before_all = all_of old.phase (headers old) going in
-    record { calls = omega (arith, part_of, same, more, before, before_all, records, costs.calls) }
+    record {
+      calls = omega (arith, part_of, same, more, before, before_all, records, costs.calls);
+      disk = omega (arith, part_of, same, more, before, before_all, records, costs.disk);
+    }
 
 one_costs : (old new : FleetWorld) (at : ℕ) (v w : EngineView) (own : Own) → OneRun old new at v w own → IsGoing old.phase → FleetCosts old new
 one_costs old new at v w own is going =
@@ -95,7 +98,10 @@ quiet_costs old new is going =
     let acted = ap (λ (l : List (ℕ × Act)). length l) is.acted in
     let most = at_most new.phase (headers new) in
     let before = all_of old.phase (headers old) going in
-    record { calls = omega (arith, engines, filters, records, acted, most, before, is.calls) }
+    record {
+      calls = omega (arith, engines, filters, records, acted, most, before, is.calls);
+      disk = omega (arith, engines, filters, records, acted, most, before, is.disk);
+    }
 
 kind_costs : (old new : FleetWorld) → Kind old new → IsGoing old.phase → FleetCosts old new
 kind_costs old new (tries place v w own IsNext is try) going = one_costs old new place v w own is going
@@ -104,10 +110,10 @@ kind_costs old new (filter v is did) going = no_run_costs old new v is going
 kind_costs old new (quiet is) going = quiet_costs old new is going
 
 pub fleet_steps_cost : (a b : FleetWorld) → FleetSteps a b → FleetCosts a b
-fleet_steps_cost a b nothing = record { calls = omega arith }
+fleet_steps_cost a b nothing = record { calls = omega arith; disk = omega arith }
 fleet_steps_cost a b (and_then {mid} steps step) =
     let going = fleet_step_going mid b step in
-    let p = (fleet_steps_cost a mid steps).calls in
-    let q = (kind_costs mid b (kind_of mid b step) going).calls in
+    let p = fleet_steps_cost a mid steps in
+    let q = kind_costs mid b (kind_of mid b step) going in
     let none = slack_of mid.phase going in
-    record { calls = omega (arith, p, q, none) }
+    record { calls = omega (arith, p.calls, q.calls, none); disk = omega (arith, p.disk, q.disk, none) }

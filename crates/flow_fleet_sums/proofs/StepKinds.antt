@@ -49,6 +49,7 @@ pub record IsQuiet (old new : FleetWorld) : Type 0 where
   pub acted : new.notes.acted ≡ old.notes.acted
   pub unsure : new.notes.unsure_act ≡ old.notes.unsure_act
   pub calls : device_calls new.site + owed_lines new.phase ≤ device_calls old.site + owed_lines old.phase + slack new.phase
+  pub disk : new.site.disk.calls ≡ old.site.disk.calls
   pub written : new.site.disk.written ≡ old.site.disk.written
   pub later : old.site.clock.now ≤ new.site.clock.now
   pub puts : new.site.link.puts ≡ old.site.link.puts
@@ -86,6 +87,7 @@ towards moment answer old new is = record {
   acted = ap (λ (n : Shared). n.acted) is.notes;
   unsure = ap (λ (n : Shared). n.unsure_act) is.notes;
   calls = let same = same_calls old.site new.site is.reaches.disk in let none = reached_owes new.phase moment answer is.phase in omega (arith, same, none);
+  disk = is.reaches.disk.calls;
   written = is.reaches.disk.disk.written;
   later = let later = is.reaches.later in let now = is.reaches.now in omega (arith, later, now);
   puts = is.reaches.puts;
@@ -101,6 +103,7 @@ same_site old new same sides left acts unsure owed = record {
   acted = acts;
   unsure = unsure;
   calls = let calls = site_calls old.site new.site same in omega (arith, calls, owed);
+  disk = ap (λ (s : SiteView). s.disk.calls) same;
   written = ap (λ (s : SiteView). s.disk.written) same;
   later = let now = ap (λ (s : SiteView). s.clock.now) same in omega (arith, now);
   puts = ap (λ (s : SiteView). s.link.puts) same;
@@ -126,6 +129,7 @@ taken old new sides notes disk now link mishaps owed = record {
   acted = ap (λ (n : Shared). n.acted) notes;
   unsure = ap (λ (n : Shared). n.unsure_act) notes;
   calls = let same = same_calls old.site new.site disk in omega (arith, same, owed);
+  disk = disk.calls;
   written = disk.disk.written;
   later = omega (arith, now);
   puts = link;
@@ -151,6 +155,7 @@ kind_of old new (says place v bytes is) = quiet (record {
   acted = ap (λ (n : Shared). n.acted) is.speaks.notes;
   unsure = ap (λ (n : Shared). n.unsure_act) is.speaks.notes;
   calls = let was = ap owed_lines is.speaks.phase in let now = ap owed_lines is.phase in let calls = is.speaks.only.calls in let handed = is.speaks.only.says in omega (arith, was, now, calls, handed);
+  disk = is.speaks.only.calls;
   written = is.speaks.only.disk.written;
   later = let now = is.speaks.only.time.now in omega (arith, now);
   puts = is.speaks.only.puts;
@@ -162,6 +167,7 @@ kind_of old new (fails_to_say place v bytes is) = quiet (record {
   acted = ap (λ (n : Shared). n.acted) is.speaks.notes;
   unsure = ap (λ (n : Shared). n.unsure_act) is.speaks.notes;
   calls = let was = ap owed_lines is.speaks.phase in let now = ap owed_lines is.phase in let over = ap slack is.phase in let calls = is.speaks.only.calls in let handed = is.speaks.only.says in omega (arith, was, now, over, calls, handed);
+  disk = is.speaks.only.calls;
   written = is.speaks.only.disk.written;
   later = let now = is.speaks.only.time.now in omega (arith, now);
   puts = is.speaks.only.puts;

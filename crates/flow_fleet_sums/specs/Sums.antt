@@ -55,13 +55,16 @@ headers w = total (λ (v : EngineView). header_calls v.history.prepared) w.engin
 abbrev pub bytes_left : FleetWorld → ℕ
 bytes_left w = total (λ (v : EngineView). header_bytes v.history.prepared) w.engines + total (λ (v : ActuatorView). header_bytes v.prepared) w.filters
 
--- Device calls and calls of `say`: four for each record and act, one for each line, two for each header; after a refusal five more
--- at most.
+-- Device calls: of the disk four for each record and act and two for each header, of `say` one for each line; after a refusal
+-- five more at most. Those of the disk alone are bounded without the lines.
 pub record FleetCosts (a b : FleetWorld) : Type 0 where
   pub calls : device_calls b.site + if_going b.phase (headers b) + owed_lines b.phase + 5 * total records_of a.engines
       + 4 * length a.notes.acted
       ≤ device_calls a.site + if_going a.phase (headers a) + owed_lines a.phase + 5 * total records_of b.engines
       + 4 * length b.notes.acted + slack b.phase
+  pub disk : b.site.disk.calls + if_going b.phase (headers b) + 4 * total records_of a.engines + 4 * length a.notes.acted
+      ≤ a.site.disk.calls + if_going a.phase (headers a) + 4 * total records_of b.engines + 4 * length b.notes.acted
+      + slack b.phase
 
 -- the bytes of a run's records, with their gates
 abbrev pub bytes_of : EngineView → ℕ
@@ -117,6 +120,8 @@ pub record FleetAddsUp (a b : FleetWorld) (runs : Runs) (most : ℕ) : Type 0 wh
   pub counted : FleetPutsAreCounted b
   pub calls : device_calls b.site + owed_lines b.phase
       ≤ device_calls a.site + 2 * (length runs + 16) + 5 * length adds.added + 4 * length b.notes.acted + 5
+  pub disk_calls : b.site.disk.calls
+      ≤ a.site.disk.calls + 2 * (length runs + 16) + 4 * length adds.added + 4 * length b.notes.acted + 5
   pub written : b.site.disk.written + total bytes_of a.engines
       ≤ a.site.disk.written + 9 * (length runs + 16) + total bytes_of b.engines + total act_bytes b.notes.acted + unsure_bytes b
 

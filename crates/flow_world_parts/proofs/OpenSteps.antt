@@ -12,6 +12,7 @@ use Rattle.flow_world_steps.proofs.Filters.{ready_stays}
 use Rattle.flow_world_steps.proofs.Growth.{get_last_or}
 use Rattle.flow_world_steps.proofs.Readiness.{engine_stays}
 use Rattle.flow_world_parts.specs.Openings.{IsFilterOpen, OpensFilters, OpensNext, RefusesFile, RefusesFilters, blocks_to}
+use Rattle.flow_world_parts.specs.Openings.OpensInOrder.{nothing, and_then}
 use Rattle.flow_world_parts.specs.declared.error.WorldError.{WorldError}
 
 -- ---- files that stay
@@ -42,6 +43,7 @@ rest_then a b c one two = record { link = two.link ∙ one.link; clock = two.clo
 
 pub opens_none : (site : SiteView) → OpensFilters 0 site site []
 opens_none site = record {
+  in_order = nothing;
   many = refl;
   each = λ k v there. absurd (cc);
   goes_on = goes_on-refl site.disk;
@@ -134,6 +136,7 @@ module _ (n : ℕ) (old mid new : SiteView) (fs gs : List ActuatorView) (was : O
 
   pub opens_more : OpensFilters (n + 1) old new gs
   opens_more = record {
+    in_order = and_then was.in_order next.opens;
     many = ap length next.more ∙ length_last fs next.v ∙ ap (λ (k : ℕ). k + 1) was.many;
     each = each_open;
     goes_on = goes_on-trans was.goes_on on;

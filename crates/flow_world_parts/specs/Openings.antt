@@ -68,9 +68,15 @@ abbrev pub blocks_to : ℕ → DiskView → ℕ
 blocks_to zero disk = 0
 blocks_to (suc n) disk = length (disk.reads (suc n)) / 4096 + blocks_to n disk
 
+-- the files of agents 1 to n were opened one after another, and nothing else was done
+pub data OpensInOrder (start : SiteView) : ℕ → SiteView → Type 0 where
+  nothing : OpensInOrder start 0 start
+  and_then : {n : ℕ} {old new : SiteView} → OpensInOrder start n old → OpensFile (n + 1) old new → OpensInOrder start (n + 1) new
+
 -- The files of agents 1 to n were opened, in order, and read as before; the journal's and those of the others stay, and no call of
 -- the disk failed.
 pub record OpensFilters (n : ℕ) (old new : SiteView) (filters : List ActuatorView) : Type 0 where
+  pub in_order : OpensInOrder old n new
   pub many : length filters ≡ n
   pub each : (k : ℕ) (v : ActuatorView) → slice_get filters k ≡ Some v → IsFilterOpen (suc k) new v
   pub goes_on : GoesOn old.disk new.disk

@@ -48,8 +48,8 @@ FromAStart Does Ends =
     → KeepsAgreement old new → Ends given run most answers old new → Does most old new
 
 -- Each session that closed goes on so, and each that refused once its files were open, or since a filter's file was not; and
--- each that refused. Of the records that were added, their moments, the texts of a Begin, whose move each Walk and Send is and
--- where the clock came to speaks `AddsUp` of `flow_world_steps`.
+-- each that refused. How each record that was added came, and their moments, tells `records_law` of `flow_world_records_law`; where
+-- the clock came to, `AddsUp` of `flow_world_steps`.
 abbrev pub EachCloseGoesOn : Type 0
 EachCloseGoesOn = (close : Close) → FromAStart GoesOnDurably (HasClosed close)
 

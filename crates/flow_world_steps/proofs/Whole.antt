@@ -88,6 +88,7 @@ steps_add_up a b given run most answers is steps =
     let long = ap (λ (l : List Record). length l) adds.is ∙ length-append a.engine.history.records adds.added in
     let journal_sure : IsJournalSure a = record { whole = is.whole; sure = ap (λ (n : Notes). n.unsure) is.notes } in
     let filters_sure : AreFiltersSure a = record { filters = is.filters; sure = ap (λ (n : Notes). n.unsure_act) is.notes } in
+    let costs = steps_cost a b steps in
     let written = (steps_write_few a b (journal_stands a journal_sure) (filters_stand a filters_sure) steps).written in
     let bytes : total record_bytes b.engine.history.records ≡ total record_bytes a.engine.history.records + total record_bytes adds.added =
     ap (λ (l : List Record). total record_bytes l) adds.is ∙ total_append record_bytes a.engine.history.records adds.added in
@@ -113,5 +114,6 @@ steps_add_up a b given run most answers is steps =
       waits = λ all still_. steps_wait a b all is.no_puts still_ steps;
       complete = λ all told still_. steps_complete a b all is.phase is.no_puts (journal_stands a journal_sure) told still_ steps;
       written = omega (arith, written, bytes, none, all_left, nine_each a.filters, nine_at_most a.engine.history.prepared);
-      calls = omega (arith, (steps_cost a b steps).calls, going, free, acted, long, two_each a.filters, two_at_most a.engine.history.prepared, slack_at_most b.phase);
+      calls = omega (arith, costs.calls, going, free, acted, long, two_each a.filters, two_at_most a.engine.history.prepared, slack_at_most b.phase);
+      disk_calls = omega (arith, costs.disk, going, acted, long, two_each a.filters, two_at_most a.engine.history.prepared, slack_at_most b.phase);
     }

@@ -115,7 +115,7 @@ pub record EndedByStep (a b : World) : Type 0 where
 abbrev pub EachEnded : Type 0
 EachEnded = (a b : World) → IsGoing a.phase → Steps a b → (IsGoing b.phase → ⊥) → EndedByStep a b
 
--- Each appended act came by one step, which tells its command and its moment.
+-- Each appended act came by one step, which is that of its command at its moment.
 pub record ActedByStep (a b : World) (front : List (ℕ × Act)) (e : ℕ × Act) : Type 0 where
   pub old : World
   pub new : World

@@ -113,13 +113,16 @@ total f (x ∷ xs) = f x + total f xs
 abbrev pub headers : World → ℕ
 headers w = header_calls w.engine.history.prepared + total (λ (v : ActuatorView). header_calls v.prepared) w.filters
 
--- Device calls and calls of `say`: four for each record and act, one for each line, two for each header; after a refusal five
--- more at most.
+-- Device calls: of the disk four for each record and act and two for each header, of `say` one for each line; after a refusal
+-- five more at most. Those of the disk alone are bounded without the lines.
 pub record Costs (a b : World) : Type 0 where
   pub calls : device_calls b.site + if_going b.phase (headers b) + owed_lines b.phase + 5 * length a.engine.history.records
       + 4 * length a.notes.acted
       ≤ device_calls a.site + if_going a.phase (headers a) + owed_lines a.phase + 5 * length b.engine.history.records
       + 4 * length b.notes.acted + slack b.phase
+  pub disk : b.site.disk.calls + if_going b.phase (headers b) + 4 * length a.engine.history.records + 4 * length a.notes.acted
+      ≤ a.site.disk.calls + if_going a.phase (headers a) + 4 * length b.engine.history.records + 4 * length b.notes.acted
+      + slack b.phase
 
 abbrev pub EachCosts : Type 0
 EachCosts = (a b : World) → Steps a b → Costs a b

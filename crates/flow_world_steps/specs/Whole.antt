@@ -59,6 +59,8 @@ pub record AddsUp (a b : World) (most : ℕ) : Type 0 where
       → IsComplete a b
   pub calls : device_calls b.site + owed_lines b.phase
       ≤ device_calls a.site + 2 * (1 + length a.filters) + 5 * length adds.added + 4 * length b.notes.acted + 5
+  pub disk_calls : b.site.disk.calls
+      ≤ a.site.disk.calls + 2 * (1 + length a.filters) + 4 * length adds.added + 4 * length b.notes.acted + 5
   pub written : b.site.disk.written
       ≤ a.site.disk.written + 9 * (1 + length a.filters) + total record_bytes adds.added + noted_bytes b.notes
 

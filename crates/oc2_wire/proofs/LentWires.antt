@@ -16,7 +16,8 @@ use Rattle.slpf_actuator.specs.declared.error.ActError.{ActError}
 use Rattle.slpf_actuator.specs.declared.error.ActError.TheVariants as act_error
 use Rattle.flow_world_steps.specs.Sides.{FiltersReady}
 use Rattle.flow_world_parts.specs.Acting.{FilterAnswers, IsActCause, OneAnswers}
-use Rattle.flow_world_parts.specs.Openings.{IsFileCause, IsFilterOpen, OpensFile, OpensFilters, RefusesFile, RefusesFilters, blocks_to}
+use Rattle.flow_world_parts.specs.Openings.{IsFileCause, IsFilterOpen, OpensFile, OpensFilters, OpensInOrder, RefusesFile, RefusesFilters, blocks_to}
+use Rattle.flow_world_parts.specs.Openings.OpensInOrder.{nothing, and_then}
 use Rattle.flow_world_parts.specs.declared.error.WorldError.{WorldError}
 use Rattle.flow_world_parts.specs.declared.error.WorldError.TheVariants as world
 use Rattle.oc2_wire_lines.specs.Lines.{IsCarried}
@@ -391,8 +392,18 @@ blocks_as : (l : List ℕ) (n : ℕ) (y : DiskView) → blocks_to n (record y { 
 blocks_as l zero y = refl
 blocks_as l (suc n) y = ap (λ (m : ℕ). length (y.reads (suc n)) / 4096 + m) (blocks_as l n y)
 
+each_as : (k : List ℕ) (i : ℕ) (x : SiteView) (n : ℕ) (y : SiteView) → OpensInOrder x n y → OpensInOrder (retell k i x) n (retell k i y)
+each_as k i x n y nothing = nothing
+each_as k i x many y (and_then {n} {old} {new} before last) = and_then (each_as k i x n old before) (file_as k k i i old y (n + 1) refl refl last)
+
+order_as : (k l : List ℕ) (i j : ℕ) (x : SiteView) (n : ℕ) (y : SiteView) → l ≡ k → j ≡ i → OpensInOrder x n y → OpensInOrder (retell k i x) n (retell l j y)
+order_as k l i j x n y same lost order =
+    subst (λ (m : List ℕ). OpensInOrder (retell k i x) n (retell m j y)) (sym same)
+    (subst (λ (h : ℕ). OpensInOrder (retell k i x) n (retell k h y)) (sym lost) (each_as k i x n y order))
+
 opens_as : (k l : List ℕ) (i j : ℕ) (x y : SiteView) (n : ℕ) (fs : List ActuatorView) → l ≡ k → j ≡ i → OpensFilters n x y fs → OpensFilters n (retell k i x) (retell l j y) fs
 opens_as k l i j x y n fs same lost opens = record {
+  in_order = order_as k l i j x n y same lost opens.in_order;
   many = opens.many;
   each = λ m v there. open_as l j y (suc m) v (opens.each m v there);
   goes_on = on_as k l x.disk y.disk same opens.goes_on;
