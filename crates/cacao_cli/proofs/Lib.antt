@@ -4,5 +4,6 @@ pub mod PastLemmas
 pub mod PeerLemmas
 pub mod FleetLemmas
 pub mod FleetUse
+pub mod RunLemmas
 pub mod TextLemmas
 pub mod UseLemmas

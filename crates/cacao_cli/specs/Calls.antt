@@ -1,7 +1,15 @@
 -- Promise: A call of the program, and what is promised of it.
+use Rattle.std.proofs.Common.{inl, inr}
 use Rattle.std.specs.Prelude.{◌≡◌, ◌≢◌, ◌⊎◌, ℕ, List, [], ◌∷◌, IsTrue, IfSome, Option, Some, None, ⊤}
 use Rattle.cacao_site.specs.View.{SiteView}
+use Rattle.cacao_site.specs.declared.parcel.Parcel.{Parcel}
+use Rattle.flow_core_rules.specs.Givens.{Given}
+use Rattle.flow_engine_answers.specs.declared.answers.OperatorAnswer.{OperatorAnswer}
 use Rattle.flow_laws.specs.Good.{IsGood}
+use Rattle.flow_world.specs.Sessions.{HasRefused, IsStart}
+use Rattle.flow_world_parcels_law.specs.Parcels.{AreHandled, IsOfTaken, Took, but_the_last}
+use Rattle.flow_world_parts.specs.declared.error.WorldError.{WorldError}
+use Rattle.flow_world_prefix_law.specs.Prefixes.{GoesOn, GoesOnDurably}
 use Rattle.cacao_cli_words.specs.Requests.{FleetRequest, PeerRequest, RunRequest, fleet_request, peer_request}
 use Rattle.cacao_cli_words.specs.Words.{Text}
 use Rattle.cacao_site.specs.Counts.{Rose}
@@ -12,7 +20,7 @@ use Rattle.cacao_cli_ends.specs.FileCauses.{HasTexts, IsMissing, IsTooLong}
 use Rattle.cacao_cli_ends.specs.Files.{Files, NamedText, files_of}
 use Rattle.cacao_cli_ends.specs.Stays.{SaysAtMostOnce}
 use Rattle.cacao_cli_ends.specs.Work.{start_of}
-use Rattle.cacao_cli_session.specs.Holding.{CameTo}
+use Rattle.cacao_cli_session.specs.Holding.{CameTo, ClosesSo, RefusesSo}
 use Rattle.cacao_cli_session_laws.specs.Completing.{Completes}
 use Rattle.cacao_cli_session_laws.specs.Returning.{TellsOnReturn}
 use Rattle.cacao_cli_status_laws.specs.Causes.{CanBeDone, EndsAs, EndsAsAnother, EndsAsAsked, EndsAsWaiting, FindsDisagreement, FindsItDamaged, IsPastLimit, IsRefused, IsUnreadable, NamesTooMuch}
@@ -96,12 +104,36 @@ pub record StatusesTell (call : Call) : Type 0 where
   pub stands_short : call.status ≡ 14 → StandsShort call.wanted call.new
   pub stands_reached : IsOneOf call.status reached_statuses → StandsReached call.wanted call.new
 
--- what a `run` leaves that came to its session: these are the texts of its files, and the session was held with what they give
+-- the engine's file was opened: the session closed, or it did not refuse that file
+abbrev pub opened_by : {error : WorldError} {given : Given} {run most : ℕ} {answers : List OperatorAnswer} {old new : SiteView}
+    → HasRefused error given run most answers old new → Type 0
+opened_by (inl (inl journal)) = ⊥
+opened_by (inl (inr filter)) = ⊤
+opened_by (inr later) = ⊤
+
+abbrev pub HasOpened : {given : Given} {run most : ℕ} {answers : List OperatorAnswer} {old new : SiteView} {last : End}
+    → ClosesSo given run most answers old new last ⊎ RefusesSo given run most answers old new last → Type 0
+HasOpened (inl closes) = ⊤
+HasOpened (inr refuses) = opened_by refuses.why
+
+-- the parcels that are handled: all that were taken where the session closed, and all but the last where it refused
+abbrev pub handled_of : {A B : Type 0} → A ⊎ B → List (ℕ × Parcel) → List (ℕ × Parcel)
+handled_of (inl closes) taken = taken
+handled_of (inr refuses) taken = but_the_last taken
+
+-- What a `run` leaves that came to its session: these are the texts of its files, and the session was held with what they give.
+-- From a start where all agreed, the engine's file goes on from a run to one that has it as its front; where it was opened and no
+-- call of the disk failed, so does each image of it. When the session ended, each command that it took had its act, each final
+-- reply its Reply, and each further act and Reply was of a parcel that it took.
 pub record LeavesRun (wanted : RunRequest) (told : Option Files) (old new : SiteView) : Type 0 where
   pub texts : List NamedText
   pub has : IfSome told (λ files. HasTexts files wanted texts)
   pub last : End
   pub came : CameTo (start_of wanted texts) last old new
+  pub goes_on : IsStart old wanted.run → GoesOn wanted.most old new
+  pub durably : IsStart old wanted.run → HasOpened came.session.holds.held → GoesOnDurably wanted.most old new
+  pub handled : IsStart old wanted.run → (taken : List (ℕ × Parcel)) → Took old came.between taken
+      → AreHandled came.between (handled_of came.session.holds.held taken) × IsOfTaken taken wanted.run old came.between
 
 abbrev pub LeavesByTexts : Option Asked → Option Files → SiteView → SiteView → ℕ → Type 0
 LeavesByTexts (Some (runs wanted)) told old new answer = SaysAtMostOnce old new answer ⊎ LeavesRun wanted told old new

@@ -2,6 +2,7 @@
 use Rattle.std.specs.Prelude.{◌≡◌, ◌≢◌, ◌⊎◌, ℕ, List, Ok, Err, IsSome, IsTrue}
 use Rattle.serde_json.specs.Data.{Data}
 use Rattle.cacao_check.specs.declared.breaks.Break.{Break}
+use Rattle.cacao_site.specs.Sound.{IsSound}
 use Rattle.cacao_site.specs.View.{SiteView}
 use Rattle.flow_fleet.specs.Fleets.{FleetClosed, FleetRefused}
 use Rattle.flow_fleet_laws.specs.Events.{Events}
@@ -71,7 +72,8 @@ pub record FleetHeld (runs : Runs) (most : ℕ) (old new : SiteView) (last : Fle
   pub agreement : IsFleetStart old (numbers runs) → KeepsEach (numbers runs) old new
   pub steady : last ≢ plain disk_failed → new.disk.faults ≡ old.disk.faults
 
--- the playbooks were accepted, and a fleet was held with what they give
+-- The playbooks were accepted, and a fleet was held with what they give. What it came to is sound, as each rack is: what the laws
+-- of fleets ask.
 pub record HoldsFleet (wanted : FleetRequest) (shelf : ShelfCall) (old new : SiteView) (last : FleetEnd) : Type 0 where
   pub texts : List NamedText
   pub reads : ReadsTo shelf (fleet_files wanted) (Ok texts)
@@ -80,6 +82,7 @@ pub record HoldsFleet (wanted : FleetRequest) (shelf : ShelfCall) (old new : Sit
   pub runs : Runs
   pub ready : AreReady wanted texts runs
   pub holds : FleetHeld runs wanted.most old new last
+  pub sound : IsSound new
 
 abbrev pub GoesAsFleet : FleetRequest → ShelfCall → SiteView → SiteView → FleetEnd → Type 0
 GoesAsFleet wanted shelf old new last =

@@ -2,6 +2,7 @@
 use Rattle.std.specs.Prelude.{◌≡◌, ◌⊎◌, ℕ, Bool, true, false, List, Some}
 use Rattle.cacao_check.specs.Fits.{FitsKind}
 use Rattle.cacao_check.specs.declared.breaks.Break.{Break}
+use Rattle.cacao_site.specs.Sound.{IsSound}
 use Rattle.cacao_site.specs.View.{SiteView}
 use Rattle.flow_core_rules.specs.Accepted.{Accepted}
 use Rattle.flow_core_rules.specs.Givens.{Given}
@@ -108,10 +109,12 @@ pub record RefusesSo (given : Given) (run most : ℕ) (answers : List OperatorAn
   pub why : HasRefused error given run most answers old new
   pub ends : last ≡ error_end error
 
--- and all agrees at each beat, where it did when the session began
+-- And all agrees at each beat, where it did when the session began. What the session came to is sound, as each site is: what the
+-- laws of sessions ask.
 pub record HoldsSo (given : Given) (run most : ℕ) (answers : List OperatorAnswer) (old new : SiteView) (last : End) : Type 0 where
   pub held : ClosesSo given run most answers old new last ⊎ RefusesSo given run most answers old new last
   pub agreement : IsStart old run → KeepsAgreement old new
+  pub sound : IsSound new
 
 -- The texts were accepted, and a session was held with what they give: the lines of its records were said.
 pub record HoldsSession (start : Start) (old new : SiteView) (last : End) : Type 0 where

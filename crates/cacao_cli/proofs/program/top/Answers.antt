@@ -97,7 +97,7 @@ returns-in-None-clause-returned g c no_fleet none = record {
   uses_few = uses-ended _ _ _ _ _ (came (c.perform_any-end.ensures.alone none) c.finish.ensures);
   stays = stays-ended _ _ _ _ _ (came (c.perform_any-end.ensures.alone none) c.finish.ensures);
   leaves = leaves-ended _ _ _ _ _ (came (c.perform_any-end.ensures.alone none) c.finish.ensures);
-  by_texts = texts-ended _ _ _ _ _ (came (c.perform_any-end.ensures.alone none) c.finish.ensures);
+  by_texts = texts-ended _ _ _ _ _ (g.met.S.Disk.sound c.args.site.now) (came (c.perform_any-end.ensures.alone none) c.finish.ensures);
 }
 
 pub returns-in-None-clause-ended : goal.returns-in-None-clause-ended

@@ -41,6 +41,7 @@ returns-in-Ok-set_up-clause-performed g c =
       runs = c.in-Ok-set_up.runs;
       ready = c.in-Ok-set_up.ensures.ok.ready;
       holds = c.hold.ensures;
+      sound = g.met.R.Disk.sound c.hold.new.rack;
     }))
 
 pub returns-clause-performed : goal.returns-clause-performed
