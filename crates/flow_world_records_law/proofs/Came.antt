@@ -1,5 +1,5 @@
 -- How each record came that a session appended.
-use Rattle.std.proofs.Common.{◌≡◌, ◌⊎◌, inl, inr, ℕ, ◌≤◌, true, List, [], ◌∷◌, ◌++◌, length, refl, sym, ◌∙◌, subst, ap, arith}
+use Rattle.std.proofs.Common.{◌≡◌, ◌⊎◌, inl, inr, ℕ, ◌≤◌, true, List, [], ◌∷◌, ◌++◌, length, refl, sym, ◌∙◌, subst, ap, ap₂, arith}
 use Rattle.std.specs.Prelude.{Option, Some, None, All, nat_le, option_and_then, option_map, slice_get}
 use Rattle.std.proofs.lemmas.List.{append_cancel_left, length-append}
 use Rattle.std.specs.Option.{option_map_or}
@@ -12,19 +12,23 @@ use Rattle.flow_core_rules.specs.Changes.{moment_of}
 use Rattle.flow_core_rules.specs.Givens.{Given}
 use Rattle.flow_core_rules.specs.Moves.{deadline_of, record_of}
 use Rattle.flow_core_rules.specs.Runs.{begin_of}
+use Rattle.flow_core_rules.specs.State.{Shown}
 use Rattle.flow_core_rules.specs.declared.issues.Issue.{Issue}
 use Rattle.flow_core_rules.specs.declared.moves.Move.{Move}
 use Rattle.flow_core_rules.specs.declared.moves.Move.TheVariants as move
+use Rattle.flow_core_rules.proofs.RunLemmas.{list_heads}
 use Rattle.flow_laws.proofs.Basics.{same_some}
+use Rattle.flow_engine_history.specs.Histories.{IsShownAfter, IsSoFar}
 use Rattle.flow_engine_history.specs.HistoryView.{HistoryView}
 use Rattle.flow_engine.specs.EngineCalls.{put_deadline}
 use Rattle.flow_engine.specs.EngineView.{EngineView}
 use Rattle.flow_engine.specs.OpenIssues.{puts_of}
 use Rattle.flow_engine.specs.declared.puts.Puts.{Puts}
+use Rattle.flow_engine_answers.specs.declared.answers.OperatorAnswer.{OperatorAnswer}
 use Rattle.flow_world_steps.specs.Appends.{Tries}
 use Rattle.flow_world_steps.specs.Appends.Tries.{done, failed, limited}
 use Rattle.flow_world_steps.specs.Ready.{FoundNone}
-use Rattle.flow_world_steps.specs.Steps.{Expires, Step}
+use Rattle.flow_world_steps.specs.Steps.{Expires, Step, Steps}
 use Rattle.flow_world_steps.specs.Steps.Step.{opens_clock, finds_run_used, asks_clock, finds_late, begins, moves, upgrades, tells, expires, says, fails_to_say}
 use Rattle.flow_world_steps.specs.Steps.Step.{puts_first, resends, takes, finds_none, fails_to_take, drops, replies, ignores_reply, acts_on, repeats_reply, fails_to_act, wants_memory_now}
 use Rattle.flow_world_steps.specs.Stands.{InTime}
@@ -37,7 +41,10 @@ use Rattle.flow_world_steps.proofs.Issues.{is_put_of}
 use Rattle.flow_world_steps.proofs.Looked.{steps_look}
 use Rattle.flow_world_steps.proofs.Timely.{in_time_bounds, opened_in_time, steps_in_time}
 use Rattle.flow_world_steps.proofs.Unsure.{steps_unsure}
-use Rattle.flow_world_records_law.specs.Came.{EachOfferedCame, EachRecordCame, EachRecordInTime, ShowsWhy, WasEnabled, WasOverdue}
+use Rattle.flow_world_steps.proofs.Whole.{steps_add_up}
+use Rattle.flow_world.specs.Sessions.{Went}
+use Rattle.flow_world_records_law.specs.AllCame.{WentOn}
+use Rattle.flow_world_records_law.specs.Came.{AppendedBehind, BeginsAs, EachOfferedCame, EachRecordCame, EachRecordInTime, IsInTime, IsOwnRun, OfferedLast, ShowsWhy, WasEnabled, WasOverdue}
 
 -- ---- what a call knew
 
@@ -103,6 +110,7 @@ module _ (given : Given) (run : ℕ) (old : World) (given_is : old.engine.histor
       record {
         found = looks is.overdue.untold.idle.has_looked.phase;
         no_move = is.overdue.untold.idle.no_move;
+        untold = is.overdue.untold.none;
         it = put.issue;
         waiting = record { there = put.there; waits = put.waits; of_filter = put.of_filter };
         put = subst (λ (o : Option Puts). 1 ≤ option_map_or (λ (p : Puts). p.count) o 0) (sym passed.put) put.some;
@@ -204,68 +212,122 @@ module _ (given : Given) (run : ℕ) (old : World) (given_is : old.engine.histor
     by_step (fails_to_act beat parcel v w error cause is) = same is.engine (ap (λ (n : Notes). n.unsure) (fails_notes error parcel v old new is.notes))
     by_step (wants_memory_now is) = same is.only.sides.engine (ap (λ (n : Notes). n.unsure) is.only.notes)
 
--- ---- a session
+-- ---- whose journal it was
+
+begins_as : (given : Given) (run : ℕ) (records : List Record) (seen : Shown) → seen.given ≡ given → seen.run ≡ run → IsSoFar records seen → BeginsAs given run records
+begins_as given run [] seen given_is run_is is = tt
+begins_as given run (first ∷ others) seen given_is run_is is =
+    let shows : IsShownAfter seen.given seen.run (first ∷ others) seen = is in
+    let leads = shows.leads in
+    (leads.now, (list_heads first (begin_of seen.given seen.run leads.now) others leads.others leads.records_are).0 ∙ ap₂ (λ (g : Given) (n : ℕ). begin_of g n leads.now) given_is run_is)
+
+-- ---- what went on from open files
 
 phase_not : (p : Phase) → p ≡ opened → p ≡ looked → ⊥
 phase_not p e f = let same : opened ≡ looked = sym e ∙ f in cc
 
-pub each_record_came : EachRecordCame
-each_record_came given run most answers old new went front back r split =
-    let c = steps_came went.start went.to went.steps front back r split in
-    let kept = steps_same_given went.start c.old c.before in
-    let why = by_step given run c.old (kept.given ∙ went.begins.given_is) (kept.run ∙ went.begins.of_run)
-    (steps_in_time went.start c.old (opened_in_time went.start went.begins.phase) c.before)
-    (steps_look went.start c.old (phase_not went.start.phase went.begins.phase) c.before) c.new r (inl c.has) c.step in
-    record {
-      old = c.old;
-      new = c.new;
-      before = c.before;
-      step = c.step;
-      after = c.after;
-      was = c.was;
-      has = c.has;
-      moment = why.moment;
-      no_earlier = why.no_earlier;
-      why = why.why;
-    }
-
--- ---- moments
-
 none_later : (from to moment : ℕ) → moment ≡ to → (records : List Record) → All (IsBetween from to) records → All (λ (r : Record). moment_of r ≤ moment) records
 none_later from to moment same records all k d lt = let is = (all k d lt).1 in omega (arith, is, same)
 
-pub each_record_in_time : EachRecordInTime
-each_record_in_time given run most answers old new went front back r split =
-    let came = each_record_came given run most answers old new went front back r split in
-    let early = steps_add went.start came.old came.before in
-    let call = step_adds came.old came.new came.step in
-    let late = steps_add came.new went.to came.after in
-    let at = came.moment in
-    let first : went.start.site.clock.now ≡ old.clock.now = ap (λ (c : ClockView). c.now) (went.files.others.rest.clock ∙ went.files.journal.opens.only.rest.clock) in
-    let last : went.to.site.clock.now ≡ new.clock.now = ap (λ (s : SiteView). s.clock.now) went.to_is in
-    let one : early.added ≡ front = append_cancel_left went.start.engine.history.records early.added front (sym early.is ∙ came.was) in
-    record {
-      between = (omega (arith, at, early.later, first), omega (arith, at, call.later, late.later, last));
-      none_later = none_later went.start.site.clock.now came.old.site.clock.now (moment_of r) at front
-          (subst (λ (l : List Record). All (IsBetween went.start.site.clock.now came.old.site.clock.now) l) one early.moments);
-    }
+module _ (given : Given) (run most : ℕ) (answers : List OperatorAnswer) (a b : World) (old new : SiteView) (went : WentOn given run most answers a b old new) where
+  own_run : (mid : World) → Steps a mid → IsOwnRun given run a mid
+  own_run mid before =
+      let kept = steps_same_given a mid before in
+      let given_is = kept.given ∙ went.begins.given_is in
+      let run_is = kept.run ∙ went.begins.of_run in
+      let engine = (steps_add_up a mid given run most answers went.begins before).journal.engine in
+      record {
+        of_run = run_is;
+        given_is = given_is;
+        begins = begins_as given run mid.engine.history.records mid.engine.history.seen given_is run_is engine.history.so_far;
+        answers = kept.answers;
+      }
 
--- ---- a record that may stand behind the others
+  in_time_at : (mid : World) → Steps a mid → InTime mid
+  in_time_at mid before = steps_in_time a mid (opened_in_time a went.begins.phase) before
+
+  looks_at : (mid : World) → Steps a mid → mid.phase ≡ looked → FoundNone mid.site mid.site.clock.now
+  looks_at mid before = steps_look a mid (phase_not a.phase went.begins.phase) before
+
+  first_now : a.site.clock.now ≡ old.clock.now
+  first_now = ap (λ (c : ClockView). c.now) went.rest.clock
+
+  last_now : b.site.clock.now ≡ new.clock.now
+  last_now = ap (λ (s : SiteView). s.clock.now) went.to_is
+
+  pub record_came : (front back : List Record) (r : Record) → b.engine.history.records ≡ (a.engine.history.records ++ front) ++ r ∷ back → AppendedBehind given run a b front r
+  record_came front back r split =
+      let c = steps_came a b went.steps front back r split in
+      let own = own_run c.old c.before in
+      let why = by_step given run c.old own.given_is own.of_run (in_time_at c.old c.before) (looks_at c.old c.before) c.new r (inl c.has) c.step in
+      record {
+        old = c.old;
+        new = c.new;
+        before = c.before;
+        step = c.step;
+        after = c.after;
+        was = c.was;
+        has = c.has;
+        own = own;
+        moment = why.moment;
+        no_earlier = why.no_earlier;
+        why = why.why;
+      }
+
+  pub record_in_time : (front back : List Record) (r : Record) → b.engine.history.records ≡ (a.engine.history.records ++ front) ++ r ∷ back → IsInTime old new front r
+  record_in_time front back r split =
+      let came = record_came front back r split in
+      let early = steps_add a came.old came.before in
+      let call = step_adds came.old came.new came.step in
+      let late = steps_add came.new b came.after in
+      let at = came.moment in
+      let one : early.added ≡ front = append_cancel_left a.engine.history.records early.added front (sym early.is ∙ came.was) in
+      record {
+        between = (omega (arith, at, early.later, first_now), omega (arith, at, call.later, late.later, last_now));
+        none_later = none_later a.site.clock.now came.old.site.clock.now (moment_of r) at front
+            (subst (λ (l : List Record). All (IsBetween a.site.clock.now came.old.site.clock.now) l) one early.moments);
+      }
+
+  -- a record that may stand behind the others
+  pub offered_came : (added : List Record) (r : Record) → b.engine.history.records ≡ a.engine.history.records ++ added → b.notes.unsure ≡ Some r
+      → OfferedLast given run a b r × IsInTime old new added r
+  offered_came added r are unsure =
+      let by = steps_unsure a b r (ap (λ (n : Notes). n.unsure) went.begins.notes) went.steps unsure in
+      let own = own_run by.old by.before in
+      let why = by_step given run by.old own.given_is own.of_run (in_time_at by.old by.before) (looks_at by.old by.before) b r (inr (by.was, by.has)) by.step in
+      let at = by.moment in
+      let now : b.site.clock.now ≡ by.old.site.clock.now = ap (λ (c : ClockView). c.now) by.offers.file.rest.clock in
+      let all = steps_add a b went.steps in
+      let one : all.added ≡ added = append_cancel_left a.engine.history.records all.added added (sym all.is ∙ are) in (
+        record { old = by.old; before = by.before; step = by.step; own = own; moment = why.moment; no_earlier = why.no_earlier; why = why.why },
+        record {
+          between = (omega (arith, at, by.later, first_now), omega (arith, at, by.up_to, last_now));
+          none_later = none_later a.site.clock.now b.site.clock.now (moment_of r) (at ∙ sym now) added
+              (subst (λ (l : List Record). All (IsBetween a.site.clock.now b.site.clock.now) l) one all.moments);
+        },
+      )
+
+-- ---- a session
+
+pub went_on : (given : Given) (run most : ℕ) (answers : List OperatorAnswer) (old new : SiteView) → (went : Went given run most answers old new)
+    → WentOn given run most answers went.start went.to old new
+went_on given run most answers old new went = record {
+  begins = went.begins;
+  rest = record {
+    link = went.files.others.rest.link ∙ went.files.journal.opens.only.rest.link;
+    clock = went.files.others.rest.clock ∙ went.files.journal.opens.only.rest.clock;
+    counts = went.files.others.rest.counts ∙ went.files.journal.opens.only.rest.counts;
+  };
+  steps = went.steps;
+  to_is = went.to_is;
+}
+
+pub each_record_came : EachRecordCame
+each_record_came given run most answers old new went = record_came given run most answers went.start went.to old new (went_on given run most answers old new went)
+
+pub each_record_in_time : EachRecordInTime
+each_record_in_time given run most answers old new went = record_in_time given run most answers went.start went.to old new (went_on given run most answers old new went)
 
 pub each_offered_came : EachOfferedCame
 each_offered_came given run most answers old new went r unsure =
-    let by = steps_unsure went.start went.to r (ap (λ (n : Notes). n.unsure) went.begins.notes) went.steps unsure in
-    let kept = steps_same_given went.start by.old by.before in
-    let why = by_step given run by.old (kept.given ∙ went.begins.given_is) (kept.run ∙ went.begins.of_run)
-    (steps_in_time went.start by.old (opened_in_time went.start went.begins.phase) by.before)
-    (steps_look went.start by.old (phase_not went.start.phase went.begins.phase) by.before) went.to r (inr (by.was, by.has)) by.step in
-    let at = by.moment in
-    let first : went.start.site.clock.now ≡ old.clock.now = ap (λ (c : ClockView). c.now) (went.files.others.rest.clock ∙ went.files.journal.opens.only.rest.clock) in
-    let last : went.to.site.clock.now ≡ new.clock.now = ap (λ (s : SiteView). s.clock.now) went.to_is in
-    let now : went.to.site.clock.now ≡ by.old.site.clock.now = ap (λ (c : ClockView). c.now) by.offers.file.rest.clock in (
-      record { old = by.old; before = by.before; step = by.step; moment = why.moment; no_earlier = why.no_earlier; why = why.why },
-      record {
-        between = (omega (arith, at, by.later, first), omega (arith, at, by.up_to, last));
-        none_later = none_later went.start.site.clock.now went.to.site.clock.now (moment_of r) (at ∙ sym now) went.sums.adds.added went.sums.adds.moments;
-      },
-    )
+    offered_came given run most answers went.start went.to old new (went_on given run most answers old new went) went.sums.adds.added r went.sums.adds.is unsure

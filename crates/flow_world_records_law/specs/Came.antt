@@ -1,5 +1,5 @@
 -- Promise: How each record that a session appended came: by one call, at the clock's moment, and why.
-use Rattle.std.specs.Prelude.{◌≡◌, ◌⊎◌, ℕ, ◌<◌, ◌≤◌, true, false, List, [], ◌∷◌, ◌++◌, Some, None, All}
+use Rattle.std.specs.Prelude.{◌≡◌, ◌⊎◌, ℕ, ◌<◌, ◌≤◌, true, false, List, [], ◌∷◌, ◌++◌, Some, None, All, ⊤}
 use Rattle.base_dues.specs.Pairs.{is_by}
 use Rattle.cacao_site.specs.View.{SiteView}
 use Rattle.cacao_site.specs.declared.parcel.Parcel.{Parcel}
@@ -16,7 +16,7 @@ use Rattle.flow_engine_answers.specs.declared.answers.OperatorAnswer.{OperatorAn
 use Rattle.flow_world_steps.specs.Ready.{FoundNone}
 use Rattle.flow_world_steps.specs.Steps.{Step, Steps}
 use Rattle.flow_world_steps.specs.Sums.{IsBetween}
-use Rattle.flow_world_steps.specs.Turns.{HasLooked, IsToBeTold}
+use Rattle.flow_world_steps.specs.Turns.{HasAnswer, HasLooked, IsToBeTold}
 use Rattle.flow_world_steps.specs.Worlds.{World, holds, rests}
 use Rattle.flow_world.specs.Sessions.{Went}
 
@@ -35,7 +35,8 @@ pub record WasEnabled (r : Record) (w : World) : Type 0 where
   pub found : FoundNone w.site w.site.clock.now
   pub move : IsMove w.engine.history w.site.clock.now r
 
--- An operator told of an issue that waits, the least of these; no move was enabled, and the take of this turn had found no parcel.
+-- An operator told of an issue that waits, the least of these; no move was enabled, and the take of this turn had found no
+-- parcel.
 pub record WasTold (issue : ℕ) (told : OperatorAnswer) (w : World) : Type 0 where
   pub found : FoundNone w.site w.site.clock.now
   pub to_be_told : IsToBeTold w issue told
@@ -63,11 +64,13 @@ pub record WasReplied (r : Record) (w : World) : Type 0 where
   pub in_hand : w.phase ≡ holds beat parcel
   pub is : IsReply w.engine.history parcel w.site.clock.now r
 
--- The issue waited for its filter, had been put since the files were opened, and was at or past its deadline, and no lower one that was put was. The take of this turn had
--- found no parcel, and no move was enabled.
+-- The issue waited for its filter, had been put since the files were opened, and was at or past its deadline, and no lower one
+-- that was put was. The take of this turn had found no parcel, no move was enabled, and no issue that waits had an answer of an
+-- operator.
 pub record WasOverdue (issue : ℕ) (w : World) : Type 0 where
   pub found : FoundNone w.site w.site.clock.now
   pub no_move : enabled_move w.engine.history.seen w.site.clock.now ≡ None
+  pub untold : (other : ℕ) (told : OperatorAnswer) → HasAnswer w other told → ⊥
   pub it : Issue
   pub waiting : IsWaiting w.engine.history.seen issue it
   pub put : 1 ≤ count_of w.engine.puts issue
@@ -84,9 +87,25 @@ ShowsWhy given run (entry.Upgrade version moment) w =
     WasEnabled (entry.Upgrade version moment) w ⊎ WasToUpgrade (entry.Upgrade version moment) w
 ShowsWhy given run r w = WasEnabled r w
 
+-- ---- to which journal
+
+-- no record, or first the Begin of this run, with the texts that were given
+abbrev pub BeginsAs : Given → ℕ → List Record → Type 0
+BeginsAs given run [] = ⊤
+BeginsAs given run (first ∷ others) = (moment : ℕ) × (first ≡ begin_of given run moment)
+
+-- The journal was that of the session's own run: of its number, and of what was given. So no record comes to a journal whose
+-- Begin holds another number or other texts. The operators' answers were those of the start.
+pub record IsOwnRun (given : Given) (run : ℕ) (a w : World) : Type 0 where
+  pub of_run : w.engine.history.seen.run ≡ run
+  pub given_is : w.engine.history.seen.given ≡ given
+  pub begins : BeginsAs given run w.engine.history.records
+  pub answers : w.notes.answers ≡ a.notes.answers
+
 -- ---- by which call
 
--- One call appended the record behind those that stood there, at the clock's moment, which is not before that of the last one.
+-- One call appended the record to the journal of the run, behind those that stood there, at the clock's moment, which is not
+-- before that of the last one.
 pub record AppendedBehind (given : Given) (run : ℕ) (a b : World) (front : List Record) (r : Record) : Type 0 where
   pub old : World
   pub new : World
@@ -95,6 +114,7 @@ pub record AppendedBehind (given : Given) (run : ℕ) (a b : World) (front : Lis
   pub after : Steps new b
   pub was : old.engine.history.records ≡ a.engine.history.records ++ front
   pub has : new.engine.history.records ≡ old.engine.history.records ++ r ∷ []
+  pub own : IsOwnRun given run a old
   pub moment : moment_of r ≡ old.site.clock.now
   pub no_earlier : old.engine.history.seen.moment ≤ moment_of r
   pub why : ShowsWhy given run r old
@@ -102,7 +122,8 @@ pub record AppendedBehind (given : Given) (run : ℕ) (a b : World) (front : Lis
 -- So came each record that a session appended, whether it closed or refused.
 abbrev pub EachRecordCame : Type 0
 EachRecordCame =
-    (given : Given) (run most : ℕ) (answers : List OperatorAnswer) (old new : SiteView) (went : Went given run most answers old new)
+    (given : Given) (run most : ℕ) (answers : List OperatorAnswer) (old new : SiteView)
+    (went : Went given run most answers old new)
     → (front back : List Record) (r : Record)
     → went.to.engine.history.records ≡ (went.start.engine.history.records ++ front) ++ r ∷ back
     → AppendedBehind given run went.start went.to front r
@@ -112,6 +133,7 @@ pub record OfferedLast (given : Given) (run : ℕ) (a b : World) (r : Record) : 
   pub old : World
   pub before : Steps a old
   pub step : Step old b
+  pub own : IsOwnRun given run a old
   pub moment : moment_of r ≡ old.site.clock.now
   pub no_earlier : old.engine.history.seen.moment ≤ moment_of r
   pub why : ShowsWhy given run r old
@@ -126,13 +148,15 @@ pub record IsInTime (old new : SiteView) (front : List Record) (r : Record) : Ty
 
 abbrev pub EachRecordInTime : Type 0
 EachRecordInTime =
-    (given : Given) (run most : ℕ) (answers : List OperatorAnswer) (old new : SiteView) (went : Went given run most answers old new)
+    (given : Given) (run most : ℕ) (answers : List OperatorAnswer) (old new : SiteView)
+    (went : Went given run most answers old new)
     → (front back : List Record) (r : Record)
     → went.to.engine.history.records ≡ (went.start.engine.history.records ++ front) ++ r ∷ back → IsInTime old new front r
 
 -- the same of one that may stand behind the others
 abbrev pub EachOfferedCame : Type 0
 EachOfferedCame =
-    (given : Given) (run most : ℕ) (answers : List OperatorAnswer) (old new : SiteView) (went : Went given run most answers old new)
+    (given : Given) (run most : ℕ) (answers : List OperatorAnswer) (old new : SiteView)
+    (went : Went given run most answers old new)
     → (r : Record) → went.to.notes.unsure ≡ Some r
     → OfferedLast given run went.start went.to r × IsInTime old new went.sums.adds.added r

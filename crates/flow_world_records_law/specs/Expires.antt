@@ -35,5 +35,6 @@ pub record ExpiresArePut (run : ℕ) (a b : World) (old new : SiteView) : Type 0
 -- so it is of each session, whether it closed or refused
 abbrev pub EachExpiryWasPut : Type 0
 EachExpiryWasPut =
-    (given : Given) (run most : ℕ) (answers : List OperatorAnswer) (old new : SiteView) (went : Went given run most answers old new)
+    (given : Given) (run most : ℕ) (answers : List OperatorAnswer) (old new : SiteView)
+    (went : Went given run most answers old new)
     → ExpiresArePut run went.start went.to old new
