@@ -1,7 +1,7 @@
 #!/usr/bin/env python3
 """Pictures of playbooks: those in docs/pictures, and a trial of many.
 
-    bench/pictures.py make        # draws three examples into docs/pictures, by `cacao-view graph` and `dot -Tsvg`
+    bench/pictures.py make        # draws three examples, and one run, into docs/pictures, by `cacao-view graph` and `dot -Tsvg`
     bench/pictures.py try [N]     # compares the pictures of all examples and of N made playbooks (1,000) with those of picture_parts/dot.py, line
                                   # by line, and lets `dot` read each: it must warn of nothing, and find each step, link and cluster
 
@@ -24,26 +24,38 @@ import made  # noqa: E402
 TOP = HERE.parent
 EXAMPLES = [["block-a-host"], ["lift-after-an-hour"], ["ask-an-operator"], ["two-filters"], ["with-a-library", "block-library"]]
 DRAWN = [["block-a-host"], ["two-filters"], ["with-a-library", "block-library"]]
+RUN = ["block-a-host"]
 
 
 def files_of(names):
     return [TOP / "examples" / f"{name}.json" for name in names]
 
 
-def graph(files):
-    """What `cacao-view graph` says of these files."""
-    ran = subprocess.run([TOP / "cacao-view", "graph", *files], stdout=subprocess.PIPE)
+def graph(files, folder=None):
+    """What `cacao-view graph` says of these files; without files, of the run in the folder."""
+    ran = subprocess.run([TOP / "cacao-view", "graph", *files], stdout=subprocess.PIPE, cwd=folder)
     if ran.returncode != 0:
         sys.exit(f"cacao-view graph {' '.join(map(str, files))}: status {ran.returncode}: {ran.stdout[:300]!r}")
     return ran.stdout
 
 
-def draw(names):
-    to = TOP / "docs" / "pictures" / f"{names[0]}.svg"
+def write_picture(name, said):
+    to = TOP / "docs" / "pictures" / f"{name}.svg"
     to.parent.mkdir(exist_ok=True)
-    made_by = subprocess.run(["dot", "-Tsvg"], input=graph(files_of(names)), stdout=subprocess.PIPE, check=True)
+    made_by = subprocess.run(["dot", "-Tsvg"], input=said, stdout=subprocess.PIPE, check=True)
     to.write_bytes(made_by.stdout)
     print(to.relative_to(TOP))
+
+
+def draw(names):
+    write_picture(names[0], graph(files_of(names)))
+
+
+def draw_run(names):
+    """The run of these playbooks, to its end."""
+    with tempfile.TemporaryDirectory() as folder:
+        subprocess.run([TOP / "cacao", "run", "--run", "7", *files_of(names)], stdout=subprocess.DEVNULL, cwd=folder, check=True)
+        write_picture("run-of-" + names[0], graph([], folder))
 
 
 def differs(files, books):
@@ -100,6 +112,7 @@ def main():
         return trial(asked.count)
     for names in DRAWN:
         draw(names)
+    draw_run(RUN)
     return 0
 
 

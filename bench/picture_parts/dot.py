@@ -1,6 +1,7 @@
 """The picture of playbooks in DOT, by another hand than the program's: what `docs/VIEW.md` says of it, written once more."""
 import base64
 import binascii
+import decimal
 import json
 
 SHAPES = {
@@ -75,6 +76,33 @@ def homes(book):
     return {key: controls[0] for key, controls in around.items() if len(controls) == 1 and key not in main}
 
 
+def number_text(number):
+    """A number as RFC 8785 writes it: the shortest digits, with an exponent below 10^-6 and from 10^21 on."""
+    negative, digits, exponent = decimal.Decimal(repr(number)).normalize().as_tuple()
+    digits, sign = "".join(map(str, digits)), "-" if negative and number else ""
+    point = len(digits) + exponent
+    if number == 0:
+        return "0"
+    if point > 21 or point <= -6:
+        return f"{sign}{digits[0]}{'.' if digits[1:] else ''}{digits[1:]}e{point - 1:+d}"
+    if point <= 0:
+        return sign + "0." + "0" * -point + digits
+    digits = digits.ljust(point, "0")
+    return sign + digits[:point] + ("." if digits[point:] else "") + digits[point:]
+
+
+def canonical(value):
+    """The canonical text of a value of JSON (RFC 8785)."""
+    if isinstance(value, dict):
+        members = sorted(value.items(), key=lambda member: member[0].encode("utf-16-be"))
+        return "{" + ",".join(canonical(name) + ":" + canonical(inner) for name, inner in members) + "}"
+    if isinstance(value, list):
+        return "[" + ",".join(map(canonical, value)) + "]"
+    if isinstance(value, (int, float)) and not isinstance(value, bool):
+        return number_text(value)
+    return json.dumps(value, ensure_ascii=False)
+
+
 def command_words(command):
     """What a command says, behind its type."""
     if command["type"] == "manual":
@@ -94,8 +122,7 @@ def command_words(command):
     if not isinstance(content, dict):
         return ": "
     action = content.get("action") if isinstance(content.get("action"), str) else ""
-    target = content.get("target") if isinstance(content.get("target"), dict) else {}
-    return ": " + action + "".join(" " + name for name, _ in in_order(target))
+    return ": " + action + (" " + canonical(content["target"]) if "target" in content else "")
 
 
 def words(step):
@@ -111,18 +138,27 @@ def words(step):
     return f"{kind}\n{step['switch']}" if kind == "switch-condition" else kind
 
 
-def lines(books):
-    """The lines of the picture of these playbooks, which are accepted."""
+def lines(books, marks=None):
+    """The lines of the picture of these playbooks, which are accepted. `marks` gives what a run marks at a step, by the number of its playbook
+    and its key: how often it walked there, and the lines that are noted."""
     numbers = {}
     for number, book in enumerate(books):
         numbers.setdefault(book["id"], number)
     said = ["digraph {", "compound=true"]
     for number, book in enumerate(books):
-        said += book_lines(books, numbers, number, book)
+        said += book_lines(books, numbers, number, book, marks)
     return [line + "\n" for line in said + ["}"]]
 
 
-def book_lines(books, numbers, number, book):
+def marked(number, key, marks):
+    """The words that a run marks at a step, and whether it is pale."""
+    if marks is None:
+        return "", False
+    walks, notes = marks(number, key)
+    return f"\nwalked {walks}\n" + "".join(note + "\n" for note in notes), walks == 0
+
+
+def book_lines(books, numbers, number, book, marks):
     cluster, home = quoted(f"cluster {number}"), homes(book)
 
     def name(key):
@@ -143,8 +179,10 @@ def book_lines(books, numbers, number, book):
         called = title(key, step)
         if step["type"] in ("parallel", "if-condition", "while-condition", "switch-condition"):
             said.append(inside(key, f"label={quoted('region of ' + called)}"))
-        label = quoted(called + "\n" + words(step))
-        said.append(inside(home.get(key), f"{name(key)} [label={label}, shape={SHAPES[step['type']]}]"))
+        noted, pale = marked(number, key, marks)
+        label = quoted(called + "\n" + words(step) + noted)
+        faint = ", color=gray, fontcolor=gray" if pale else ""
+        said.append(inside(home.get(key), f"{name(key)} [label={label}, shape={SHAPES[step['type']]}{faint}]"))
         said += [link(key, what, to) for what, to in onward(step) + heads(step)]
         if step["type"] == "playbook-action" and step["playbook_id"] in numbers:
             there = numbers[step["playbook_id"]]

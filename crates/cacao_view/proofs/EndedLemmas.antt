@@ -8,9 +8,9 @@ use Rattle.cacao_cli_ends.specs.Files.{ShelfCall}
 use Rattle.cacao_cli_ends.proofs.EndLemmas.{end-failed}
 use Rattle.cacao_cli_ends.proofs.LineLemmas.{IsCutOff}
 use Rattle.cacao_cli_ends.proofs.StatusLists.{are_among, not-among, widen}
+use Rattle.cacao_view_graph_run.specs.RunPictures.{DrawsEntries}
 use Rattle.cacao_view_log.specs.Logs.{Logs}
-use Rattle.cacao_view_log.specs.declared.form.Form.{Form}
-use Rattle.cacao_view_words.specs.Requests.{Request, helps, helps_with, tells_version, logs, graphs, explains, explains_books, preflights, lacks}
+use Rattle.cacao_view_words.specs.Requests.{Request, helps, helps_with, tells_version, logs, graphs, graphs_run, explains, explains_books, preflights, lacks}
 use Rattle.cacao_view_words.specs.Rules.{rule_lines}
 use Rattle.cacao_view_words.specs.Texts.{Text}
 use Rattle.cacao_view_words.specs.Topics.{all_words, topic_lines, version_lines}
@@ -24,13 +24,13 @@ use Rattle.cacao_view.specs.Logging.{LogsFile, form_of}
 use Rattle.cacao_view.specs.Looks.{Ended, Looks, OnlyLooks}
 use Rattle.cacao_view.specs.OpeningRuns.{OpensTo}
 use Rattle.cacao_view.specs.Reports.{Reports, ReportsOpened}
-use Rattle.cacao_view.specs.Work.{Work, files_of, draws, logs_disk, logs_file, says, tells_break, tells_flight, work}
+use Rattle.cacao_view.specs.Work.{Work, files_of, draws, draws_run, logs_disk, logs_file, says, tells_break, tells_flight, work}
 use Rattle.cacao_view.proofs.BreakLemmas.{breaks-failed, breaks-listed, breaks-status, breaks-steady}
 use Rattle.cacao_view.proofs.FlightLemmas.{flies-failed, flies-listed, flies-status, flies-steady}
 use Rattle.cacao_view.proofs.DrawLemmas.{draws-failed, draws-listed, draws-status, draws-steady}
 use Rattle.cacao_view.proofs.BookLemmas.{books_list}
 use Rattle.cacao_view.proofs.FileLemmas.{file-failed, file-listed, file-statuses, file-steady, logged}
-use Rattle.cacao_view.proofs.OpenedLemmas.{disk-statuses, disk_list, logs-reports, opens-failed, opens-has, opens-listed, opens-of, opens-steady}
+use Rattle.cacao_view.proofs.OpenedLemmas.{disk-statuses, disk_list, draws-reports, logs-reports, opens-failed, opens-has, opens-listed, opens-of, opens-steady}
 use Rattle.cacao_view.proofs.ReportLemmas.{disk-failure, opened-looks, report-disk, report-said, report-some, report-status, report-unsaid, shelf-failure, some-looks}
 use Rattle.cacao_view.proofs.SayLemmas.{Answers, IsPlain, work-answers, work-looks, work-steady}
 
@@ -42,6 +42,7 @@ IsPlainWork (says lines end) = IsPlain end × ((status_of end ≡ 0) ⊎ (status
 IsPlainWork (logs_disk form) = Unit {0}
 IsPlainWork (logs_file form name) = Unit {0}
 IsPlainWork (draws books) = Unit {0}
+IsPlainWork draws_run = Unit {0}
 IsPlainWork (tells_break books) = Unit {0}
 IsPlainWork (tells_flight bind books) = Unit {0}
 
@@ -52,6 +53,7 @@ work-plain tells_version = (tt, inl refl)
 work-plain (logs as_json None) = tt
 work-plain (logs as_json (Some name)) = tt
 work-plain (graphs books) = tt
+work-plain graphs_run = tt
 work-plain (explains rule) = (tt, inl refl)
 work-plain (explains_books books) = tt
 work-plain (preflights bind books) = tt
@@ -77,13 +79,21 @@ module _ (shelf : ShelfCall) (old mid new : SiteView) (last : End) (answer : ℕ
       (report-some (OpensTo (Logs form) old h.between) h.between mid new last answer h.reports tells)
   work-only (logs_file form name) plain h = some-looks old new (report-some (LogsFile form name shelf) old mid new last answer h tells)
   work-only (draws books) plain h = some-looks old new (report-some (Draws books shelf) old mid new last answer h tells)
+  work-only draws_run plain h = opened-looks old h.between new (opens-of DrawsEntries old h.between h.reports.lines h.reports.end h.reports.told)
+      (report-some (OpensTo DrawsEntries old h.between) h.between mid new last answer h.reports tells)
   work-only (tells_break books) plain h = some-looks old new (report-some (ExplainsBooks books shelf) old mid new last answer h tells)
   work-only (tells_flight bind books) plain h = some-looks old new (report-some (FliesBooks bind books shelf) old mid new last answer h tells)
 
   -- ---- lines that could not be said
 
-  opened-unsaid : (form : Form) (h : ReportsOpened (OpensTo (Logs form)) old mid last) → h.between.counts.unsaid ≡ old.counts.unsaid
-  opened-unsaid form h = ap (λ c. c.unsaid) (opens-of (Logs form) old h.between h.reports.lines h.reports.end h.reports.told).only.rest.counts
+  opened-unsaid : (Of : List Text → List Text → Type 0) (h : ReportsOpened (OpensTo Of) old mid last) → h.between.counts.unsaid ≡ old.counts.unsaid
+  opened-unsaid Of h = ap (λ c. c.unsaid) (opens-of Of old h.between h.reports.lines h.reports.end h.reports.told).only.rest.counts
+
+  opened-nine : (Of : List Text → List Text → Type 0) (h : ReportsOpened (OpensTo Of) old mid last) → answer ≡ 9 → unsaid_count new ≡ next_count (unsaid_count old)
+  opened-nine Of h e =
+      report-unsaid (OpensTo Of old h.between) h.between mid new last answer h.reports tells
+      (no-nine (OpensTo Of old h.between) h.between mid last disk_list (not-among 9 disk_list refl) h.reports (opens-listed Of old h.between h.reports.lines h.reports.end h.reports.told)) e
+      ∙ ap next_count (opened-unsaid Of h)
 
   plain-said : (status : ℕ) → Answers status old new answer → (answer ≡ 9 → ⊥) → unsaid_count new ≡ unsaid_count old
   plain-said status (inl h) unlike = h.1
@@ -95,18 +105,17 @@ module _ (shelf : ShelfCall) (old mid new : SiteView) (last : End) (answer : ℕ
 
   work-said : (w : Work) → IsPlainWork w → Looks w shelf old mid last → (answer ≡ 9 → ⊥) → unsaid_count new ≡ unsaid_count old
   work-said (says lines end) plain h unlike = plain-said (status_of end) (work-answers lines end old mid new last answer plain.0 h tells) unlike
-  work-said (logs_disk form) plain h unlike = report-said (OpensTo (Logs form) old h.between) h.between mid new last answer h.reports tells unlike ∙ opened-unsaid form h
+  work-said (logs_disk form) plain h unlike = report-said (OpensTo (Logs form) old h.between) h.between mid new last answer h.reports tells unlike ∙ opened-unsaid (Logs form) h
   work-said (logs_file form name) plain h unlike = report-said (LogsFile form name shelf) old mid new last answer h tells unlike
   work-said (draws books) plain h unlike = report-said (Draws books shelf) old mid new last answer h tells unlike
+  work-said draws_run plain h unlike = report-said (OpensTo DrawsEntries old h.between) h.between mid new last answer h.reports tells unlike ∙ opened-unsaid DrawsEntries h
   work-said (tells_break books) plain h unlike = report-said (ExplainsBooks books shelf) old mid new last answer h tells unlike
   work-said (tells_flight bind books) plain h unlike = report-said (FliesBooks bind books shelf) old mid new last answer h tells unlike
 
   work-unsaid : (w : Work) → IsPlainWork w → Looks w shelf old mid last → answer ≡ 9 → unsaid_count new ≡ next_count (unsaid_count old)
   work-unsaid (says lines end) plain h e = plain-unsaid (status_of end) (zero-or-two (status_of end) plain.1) (work-answers lines end old mid new last answer plain.0 h tells) e
-  work-unsaid (logs_disk form) plain h e =
-      report-unsaid (OpensTo (Logs form) old h.between) h.between mid new last answer h.reports tells
-      (no-nine (OpensTo (Logs form) old h.between) h.between mid last disk_list (not-among 9 disk_list refl) h.reports (opens-listed (Logs form) old h.between h.reports.lines h.reports.end h.reports.told)) e
-      ∙ ap next_count (opened-unsaid form h)
+  work-unsaid (logs_disk form) plain h e = opened-nine (Logs form) h e
+  work-unsaid draws_run plain h e = opened-nine DrawsEntries h e
   work-unsaid (logs_file form name) plain h e =
       report-unsaid (LogsFile form name shelf) old mid new last answer h tells
       (no-nine (LogsFile form name shelf) old mid last logged (not-among 9 logged refl) h (file-listed form name shelf h.lines h.end h.told)) e
@@ -137,6 +146,9 @@ module _ (shelf : ShelfCall) (old mid new : SiteView) (last : End) (answer : ℕ
   answers-one (logs as_json None) h =
       listed disk_list (statuses_of (logs as_json None)) (cacao.status_of h.reports.end) refl refl (opens-listed (Logs (form_of as_json)) old h.between h.reports.lines h.reports.end h.reports.told)
       (report-status (OpensTo (Logs (form_of as_json)) old h.between) h.between mid new last answer h.reports tells)
+  answers-one graphs_run h =
+      listed disk_list (statuses_of graphs_run) (cacao.status_of h.reports.end) refl refl (opens-listed DrawsEntries old h.between h.reports.lines h.reports.end h.reports.told)
+      (report-status (OpensTo DrawsEntries old h.between) h.between mid new last answer h.reports tells)
   answers-one (logs as_json (Some name)) h =
       listed logged (statuses_of (logs as_json (Some name))) (cacao.status_of h.end) refl refl (file-listed (form_of as_json) name shelf h.lines h.end h.told)
       (report-status (LogsFile (form_of as_json) name shelf) old mid new last answer h tells)
@@ -161,6 +173,10 @@ module _ (shelf : ShelfCall) (old mid new : SiteView) (last : End) (answer : ℕ
       opens-has (Logs (form_of as_json)) old h.between h.reports.lines h.reports.end (λ entries k. logs-reports (form_of as_json) entries h.reports.lines k) new answer
       ((report-some (OpensTo (Logs (form_of as_json)) old h.between) h.between mid new last answer h.reports tells).disk.stays 0).reads told h.reports.told
       (report-status (OpensTo (Logs (form_of as_json)) old h.between) h.between mid new last answer h.reports tells))
+  statuses-told graphs_run h = disk-statuses old new answer (λ told.
+      opens-has DrawsEntries old h.between h.reports.lines h.reports.end (λ entries k. draws-reports entries h.reports.lines k) new answer
+      ((report-some (OpensTo DrawsEntries old h.between) h.between mid new last answer h.reports tells).disk.stays 0).reads told h.reports.told
+      (report-status (OpensTo DrawsEntries old h.between) h.between mid new last answer h.reports tells))
   statuses-told (logs as_json (Some name)) h =
       file-statuses (form_of as_json) name shelf h.lines h.end answer h.told (report-status (LogsFile (form_of as_json) name shelf) old mid new last answer h tells)
   statuses-told (graphs books) h = draws-status books shelf h.lines h.end h.told answer (report-status (Draws books shelf) old mid new last answer h tells)
@@ -178,6 +194,7 @@ module _ (shelf : ShelfCall) (old mid new : SiteView) (last : End) (answer : ℕ
   lacking tells_version one = never-two (0 ∷ 9 ∷ []) (not-among 2 (0 ∷ 9 ∷ []) refl) one
   lacking (logs as_json None) one = never-two (statuses_of (logs as_json None)) (not-among 2 (statuses_of (logs as_json None)) refl) one
   lacking (logs as_json (Some name)) one = never-two (statuses_of (logs as_json (Some name))) (not-among 2 (statuses_of (logs as_json (Some name))) refl) one
+  lacking graphs_run one = never-two (statuses_of graphs_run) (not-among 2 (statuses_of graphs_run) refl) one
   lacking (graphs books) one = never-two (statuses_of (graphs books)) (not-among 2 (statuses_of (graphs books)) refl) one
   lacking (explains rule) one = never-two (0 ∷ 9 ∷ []) (not-among 2 (0 ∷ 9 ∷ []) refl) one
   lacking (explains_books books) one = never-two (statuses_of (explains_books books)) (not-among 2 (statuses_of (explains_books books)) refl) one
@@ -196,15 +213,15 @@ module _ (shelf : ShelfCall) (old mid new : SiteView) (last : End) (answer : ℕ
   eight-or-not n (inr (inr (inl e))) f = absurd (omega (arith, e, f))
   eight-or-not n (inr (inr (inr none))) f = absurd none
 
-  opened-disk : (form : Form) → (h : ReportsOpened (OpensTo (Logs form)) old mid last) → OpensDisk old new answer
-  opened-disk form h = record {
-    failed = λ e. subst (λ (n : ℕ). Rose old.disk.faults n) (sym same) (opens-failed (Logs form) old h.between h.reports.lines h.reports.end h.reports.told
+  opened-disk : (Of : List Text → List Text → Type 0) (h : ReportsOpened (OpensTo Of) old mid last) → OpensDisk old new answer
+  opened-disk Of h = record {
+    failed = λ e. subst (λ (n : ℕ). Rose old.disk.faults n) (sym same) (opens-failed Of old h.between h.reports.lines h.reports.end h.reports.told
         (eight-or-not (cacao.status_of h.reports.end) (report-status Told h.between mid new last answer h.reports tells) e));
-    steady = λ a b. same ∙ opens-steady (Logs form) old h.between h.reports.lines h.reports.end h.reports.told (λ e. neither 8 (disk-failure Told h.between mid new last answer h.reports tells e) a b);
+    steady = λ a b. same ∙ opens-steady Of old h.between h.reports.lines h.reports.end h.reports.told (λ e. neither 8 (disk-failure Told h.between mid new last answer h.reports tells e) a b);
   }
     where
       Told : List Text → cacao.End → Type 0
-      Told = OpensTo (Logs form) old h.between
+      Told = OpensTo Of old h.between
 
       same : new.disk.faults ≡ h.between.disk.faults
       same = report-disk Told h.between mid new last answer h.reports tells
@@ -216,7 +233,8 @@ module _ (shelf : ShelfCall) (old mid new : SiteView) (last : End) (answer : ℕ
   disk-told helps h = plain-disk all_words done tt h
   disk-told (helps_with topic) h = plain-disk (topic_lines topic) done tt h
   disk-told tells_version h = plain-disk version_lines done tt h
-  disk-told (logs as_json None) h = opened-disk (form_of as_json) h
+  disk-told (logs as_json None) h = opened-disk (Logs (form_of as_json)) h
+  disk-told graphs_run h = opened-disk DrawsEntries h
   disk-told (logs as_json (Some name)) h = report-disk (LogsFile (form_of as_json) name shelf) old mid new last answer h tells
   disk-told (graphs books) h = report-disk (Draws books shelf) old mid new last answer h tells
   disk-told (explains rule) h = plain-disk (rule_lines rule) done tt h
@@ -242,6 +260,7 @@ module _ (shelf : ShelfCall) (old mid new : SiteView) (last : End) (answer : ℕ
   shelf-failed (logs as_json None) h e = absurd (never-three (statuses_of (logs as_json None)) (not-among 3 (statuses_of (logs as_json None)) refl) (answers-one (logs as_json None) h) e)
   shelf-failed (logs as_json (Some name)) h e =
       file-failed (form_of as_json) name shelf h.lines h.end h.told (three-or-not (cacao.status_of h.end) (report-status (LogsFile (form_of as_json) name shelf) old mid new last answer h tells) e)
+  shelf-failed graphs_run h e = absurd (never-three (statuses_of graphs_run) (not-among 3 (statuses_of graphs_run) refl) (answers-one graphs_run h) e)
   shelf-failed (graphs books) h e =
       draws-failed books shelf h.lines h.end h.told (three-or-not (cacao.status_of h.end) (report-status (Draws books shelf) old mid new last answer h tells) e)
   shelf-failed (explains rule) h e = absurd (never-three (0 ∷ 9 ∷ []) (not-among 3 (0 ∷ 9 ∷ []) refl) (answers-one (explains rule) h) e)
@@ -261,6 +280,7 @@ module _ (shelf : ShelfCall) (old mid new : SiteView) (last : End) (answer : ℕ
   shelf-steady tells_version h none a b = none refl
   shelf-steady (logs as_json None) h none a b = none refl
   shelf-steady (logs as_json (Some name)) h none a b = file-steady (form_of as_json) name shelf h.lines h.end h.told (not-three (LogsFile (form_of as_json) name shelf) h a b)
+  shelf-steady graphs_run h none a b = none refl
   shelf-steady (graphs books) h none a b = draws-steady books shelf h.lines h.end h.told (not-three (Draws books shelf) h a b)
   shelf-steady (explains rule) h none a b = none refl
   shelf-steady (explains_books books) h none a b = breaks-steady books shelf h.lines h.end h.told (not-three (ExplainsBooks books shelf) h a b)

@@ -1,5 +1,5 @@
 -- What becomes of a call that tells of a run of playbooks before its first record.
-use Rattle.std.proofs.Common.{◌≡◌, ◌⊎◌, ◌∙◌, inl, inr, refl, ap, arith, ℕ, ◌+◌, Bool, Bor, List, [], ◌∷◌, length, length-append, append-nil, Option, Some, None, Result, Ok, Err}
+use Rattle.std.proofs.Common.{◌≡◌, ◌⊎◌, ◌∙◌, inl, inr, refl, ap, arith, ℕ, ◌+◌, ◌<◌, ◌≤◌, Bool, Bor, List, [], ◌∷◌, length, length-append, append-nil, Option, Some, None, Result, Ok, Err}
 use Rattle.std.specs.Prelude.{is_some, if◌then◌else◌}
 use Rattle.serde_json.specs.Data.{Data}
 use Rattle.cacao_site.specs.Counts.{next_count}
@@ -11,9 +11,11 @@ use Rattle.cacao_cli_ends.proofs.LineLemmas.{IsCutOff}
 use Rattle.cacao_view_preflight.specs.Preflights.{Preflights, Reads}
 use Rattle.cacao_view_words.specs.Asked.{maybe_text}
 use Rattle.cacao_view_words.specs.Texts.{Text}
+use Rattle.cacao_view.specs.BookReading.{ReadsBooks, book_files}
 use Rattle.cacao_view.specs.BookStatuses.{BookStatus}
 use Rattle.cacao_view.specs.Flying.{FliesBooks, Foresees, bound_names}
 use Rattle.cacao_view.proofs.BookLemmas.{books-failed, books-listed, books-status, books-steady, books_list, texts_list}
+use Rattle.cacao_view.proofs.BookReadLemmas.{books-there, books-wanted}
 use Rattle.cacao_view.proofs.DrawLemmas.{treeless-five}
 
 -- the statuses of what the texts come to
@@ -59,3 +61,14 @@ bound-is (Some name) = refl
 pub names-length : (bind : Option (Bor Text)) (books : List Text) → length (bound_names (maybe_text bind) books) ≡ length books + (if is_some bind then 1 else 0)
 names-length None books = ap length (append-nil books) ∙ omega arith
 names-length (Some name) books = length-append books (name.now ∷ [])
+
+-- ---- one name at least
+
+pub flight-wanted : (Tells : List NamedText → List Text → End → Type 0) (books names : List Text) (shelf : ShelfCall) (lines : List Text) (end : End) → 0 < length names → length books ≤ 16
+    → shelf.reads_after ≡ shelf.reads_before → shelf.after ≡ shelf.before → lines ≡ [] → end ≡ no_memory → ReadsBooks Tells books names shelf lines end
+flight-wanted Tells books [] shelf lines end lt = absurd (omega (arith, lt))
+flight-wanted Tells books (name ∷ names) shelf lines end lt = books-wanted Tells books name names shelf lines end
+
+pub flight-there : (books names : List Text) → 0 < length names → length books ≤ 16 → book_files books names ≡ [] → ⊥
+flight-there books [] lt = absurd (omega (arith, lt))
+flight-there books (name ∷ names) lt = books-there books name names

@@ -19,6 +19,7 @@ use Rattle.cacao_cli_ends.proofs.StatusLists.{not-among}
 use Rattle.cacao_cli_looks.specs.Command.{journal_end, report_end}
 use Rattle.cacao_cli_looks.specs.Openings.{HoldsRun, IsDamagedRun, IsTooLargeRun, Opens}
 use Rattle.cacao_cli_looks.proofs.RunLemmas.{ShownStatus, damaged-run, done-run, large-run, run-damaged, run-done, run-large}
+use Rattle.cacao_view_graph_run.specs.RunPictures.{DrawsEntries}
 use Rattle.cacao_view_log.specs.Logs.{Logs}
 use Rattle.cacao_view_log.specs.declared.form.Form.{Form}
 use Rattle.cacao_view_words.specs.Texts.{Text}
@@ -59,11 +60,15 @@ not-told Of old new lines entries report_error.TooManyTasks none opens durable s
     inr (none, inr (inl (record { opens = opens; durable = durable; steady = steady; is_large = λ told. (entries, stands told, grows refl); ends = refl })))
 not-told Of old new lines entries report_error.Memory none opens durable steady stands breaks grows = inr (none, inr (inr (inr (record { opens = opens; steady = steady; ends = refl }))))
 
--- ---- a log is of a run
+-- ---- a log is of a run, and so is a picture
 
 pub logs-reports : (form : Form) (entries texts : Entries) → Logs form entries texts → (text : Text) × Reports entries text
 logs-reports form entries texts (inl h) = (no_run, inl (h.0, refl))
 logs-reports form entries texts (inr h) = (report h.seen (length h.records), inr (record { records = h.records; seen = h.seen; tells = h.tells; is = refl }))
+
+pub draws-reports : (entries lines : Entries) → DrawsEntries entries lines → (text : Text) × Reports entries text
+draws-reports entries lines (inl h) = (no_run, inl (h.0, refl))
+draws-reports entries lines (inr h) = (report h.seen (length h.records), inr (record { records = h.records; seen = h.seen; tells = h.tells; is = refl }))
 
 -- ---- what was opened, and what was told
 

@@ -4,7 +4,7 @@ use Rattle.cacao_site.specs.Counts.{Rose}
 use Rattle.cacao_site.specs.View.{SiteView}
 use Rattle.cacao_cli_ends.specs.Comes.{ComesExactly}
 use Rattle.cacao_cli_ends.specs.Files.{Files}
-use Rattle.cacao_view_words.specs.Requests.{Request, helps, helps_with, tells_version, logs, graphs, explains, explains_books, preflights, lacks}
+use Rattle.cacao_view_words.specs.Requests.{Request, helps, helps_with, tells_version, logs, graphs, graphs_run, explains, explains_books, preflights, lacks}
 use Rattle.cacao_view.specs.BookStatuses.{BookStatus}
 use Rattle.cacao_view.specs.Drawing.{Pictures}
 use Rattle.cacao_view.specs.Explaining.{ChecksTo}
@@ -19,6 +19,7 @@ StatusesTell tells_version told old new answer = ComesExactly 0 (9 ∷ []) (Unit
 StatusesTell (logs as_json None) told old new answer = LogDiskStatuses old new answer
 StatusesTell (logs as_json (Some name)) told old new answer = LogFileStatuses name told answer
 StatusesTell (graphs books) told old new answer = BookStatus Pictures books books told answer
+StatusesTell graphs_run told old new answer = LogDiskStatuses old new answer
 StatusesTell (explains rule) told old new answer = ComesExactly 0 (9 ∷ []) (Unit {0}) answer
 StatusesTell (explains_books books) told old new answer = BookStatus ChecksTo books books told answer
 StatusesTell (preflights bind books) told old new answer = BookStatus (Foresees bind) books (bound_names bind books) told answer
@@ -31,6 +32,7 @@ IsNotUnderstood (helps_with topic) = ⊥
 IsNotUnderstood tells_version = ⊥
 IsNotUnderstood (logs as_json engine) = ⊥
 IsNotUnderstood (graphs books) = ⊥
+IsNotUnderstood graphs_run = ⊥
 IsNotUnderstood (explains rule) = ⊥
 IsNotUnderstood (explains_books books) = ⊥
 IsNotUnderstood (preflights bind books) = ⊥
@@ -49,6 +51,7 @@ DiskTells tells_version old new answer = new.disk.faults ≡ old.disk.faults
 DiskTells (logs as_json None) old new answer = OpensDisk old new answer
 DiskTells (logs as_json (Some name)) old new answer = new.disk.faults ≡ old.disk.faults
 DiskTells (graphs books) old new answer = new.disk.faults ≡ old.disk.faults
+DiskTells graphs_run old new answer = OpensDisk old new answer
 DiskTells (explains rule) old new answer = new.disk.faults ≡ old.disk.faults
 DiskTells (explains_books books) old new answer = new.disk.faults ≡ old.disk.faults
 DiskTells (preflights bind books) old new answer = new.disk.faults ≡ old.disk.faults
@@ -62,6 +65,7 @@ statuses_of tells_version = 0 ∷ 9 ∷ []
 statuses_of (logs as_json None) = 0 ∷ 8 ∷ 9 ∷ 10 ∷ 11 ∷ 13 ∷ []
 statuses_of (logs as_json (Some name)) = 0 ∷ 3 ∷ 4 ∷ 9 ∷ 10 ∷ 11 ∷ 13 ∷ []
 statuses_of (graphs books) = 0 ∷ 1 ∷ 3 ∷ 4 ∷ 5 ∷ 9 ∷ 10 ∷ 11 ∷ []
+statuses_of graphs_run = 0 ∷ 8 ∷ 9 ∷ 10 ∷ 11 ∷ 13 ∷ []
 statuses_of (explains rule) = 0 ∷ 9 ∷ []
 statuses_of (explains_books books) = 0 ∷ 1 ∷ 3 ∷ 4 ∷ 5 ∷ 9 ∷ 10 ∷ 11 ∷ []
 statuses_of (preflights bind books) = 0 ∷ 1 ∷ 3 ∷ 4 ∷ 5 ∷ 9 ∷ 10 ∷ 11 ∷ []

@@ -1,4 +1,4 @@
--- Promise: Which status comes of `log`, and why.
+-- Promise: Which status comes of `log`, and of `graph` alone, and why.
 use Rattle.std.specs.Prelude.{◌≡◌, ◌⊎◌, ℕ, ◌<◌, ◌≤◌, List, [], ◌∷◌, length, Option, None, IfSome, IsSomeAnd, IsTrue}
 use Rattle.cacao_site.specs.View.{SiteView}
 use Rattle.flow_engine_reports.specs.RunFiles.{IsDamaged, IsTooLarge}

@@ -4,6 +4,7 @@ use Rattle.cacao_site.specs.DiskCalls.{EachBeat, IsLeft}
 use Rattle.cacao_site.specs.SayCalls.{KeepsTime}
 use Rattle.cacao_site.specs.View.{SiteView}
 use Rattle.cacao_cli_ends.specs.Files.{ShelfCall}
+use Rattle.cacao_view_graph_run.specs.RunPictures.{DrawsEntries}
 use Rattle.cacao_view_log.specs.Logs.{Logs}
 use Rattle.cacao_view_words.specs.Requests.{Request}
 use Rattle.cacao_view.specs.Drawing.{Draws}
@@ -14,7 +15,7 @@ use Rattle.cacao_view.specs.Lines.{SaysWork, Tells}
 use Rattle.cacao_view.specs.Logging.{LogsFile}
 use Rattle.cacao_view.specs.OpeningRuns.{OpensTo}
 use Rattle.cacao_view.specs.Reports.{Reports, ReportsOpened}
-use Rattle.cacao_view.specs.Work.{Work, draws, logs_disk, logs_file, says, tells_break, tells_flight, work}
+use Rattle.cacao_view.specs.Work.{Work, draws, draws_run, logs_disk, logs_file, says, tells_break, tells_flight, work}
 
 -- No file was written, nothing was put or taken, and no time went by: each image that a crash may leave of a file at each beat of
 -- the call is one that it could leave before.
@@ -34,6 +35,7 @@ Looks (says lines end) shelf old new last = SaysWork lines end old new last
 Looks (logs_disk form) shelf old new last = ReportsOpened (OpensTo (Logs form)) old new last
 Looks (logs_file form name) shelf old new last = Reports (LogsFile form name shelf) old new last
 Looks (draws books) shelf old new last = Reports (Draws books shelf) old new last
+Looks draws_run shelf old new last = ReportsOpened (OpensTo DrawsEntries) old new last
 Looks (tells_break books) shelf old new last = Reports (ExplainsBooks books shelf) old new last
 Looks (tells_flight bind books) shelf old new last = Reports (FliesBooks bind books shelf) old new last
 

@@ -7,6 +7,7 @@ mod graph_word;
 mod log_word;
 mod preflight_word;
 mod program;
+mod run_word;
 mod say;
 
 pub use program::view;

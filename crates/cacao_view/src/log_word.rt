@@ -42,7 +42,7 @@ pub(crate) fn log_disk<'w, D: Disk>(alloc: Global, form: Form, disk: &mut D) -> 
 }
 
 /// How a call ends where the engine's file was not opened.
-fn journal_end<'w>(error: JournalError) -> End<'w>
+pub(crate) fn journal_end<'w>(error: JournalError) -> End<'w>
     ensures { end_of result ≡ journal_end error }
 {
     match error {
@@ -53,7 +53,7 @@ fn journal_end<'w>(error: JournalError) -> End<'w>
 }
 
 /// How a call ends where its entries are no run.
-fn report_end<'w>(error: ReportError) -> End<'w>
+pub(crate) fn report_end<'w>(error: ReportError) -> End<'w>
     ensures { end_of result ≡ report_end error }
 {
     match error {

@@ -3,8 +3,9 @@ ghost use Rattle.std.specs.Prelude.{◌≡◌, ◌≢◌, ◌∷◌, [], map, st
 ghost use Rattle.cacao_site.specs.Counts.{next_count};
 ghost use Rattle.cacao_cli_ends.specs.Comes.{ComesExactly, IsOneOf};
 ghost use Rattle.cacao_cli_ends.specs.Files.{shelf_call};
+ghost use Rattle.cacao_view_graph_run.specs.RunPictures.{DrawsEntries};
 ghost use Rattle.cacao_view_log.specs.Logs.{Logs};
-ghost use Rattle.cacao_view_words.specs.Asked.{maybe_text, request_by};
+ghost use Rattle.cacao_view_words.specs.Asked.{book_names, maybe_text, request_by};
 ghost use Rattle.cacao_view_words.specs.Requests.{explains_books, graphs, logs, preflights, request};
 ghost use Rattle.cacao_view.specs.Comes.{DiskTells, IsNotUnderstood, StatusesTell, statuses_of};
 ghost use Rattle.cacao_view.specs.Lines.{unsaid_count};
@@ -20,10 +21,11 @@ use crate::explain_word::explain_books;
 use crate::graph_word::graph;
 use crate::log_word::{form_of, log_disk, log_file};
 use crate::preflight_word::preflight_books;
+use crate::run_word::graph_disk;
 use crate::say::{finish, say_all};
 use cacao_site::{Shelf, Site};
 use cacao_view_log::Form;
-use cacao_view_words::{Request, all_words, read_words, version_lines};
+use cacao_view_words::{BookWords, Request, all_words, read_words, version_lines};
 use std::alloc::Global;
 
 /// Does what was asked for, all but the last line.
@@ -45,15 +47,12 @@ fn look<'w, L: Shelf, S: Site>(
         Request::Version => say_all(version_lines(), End::Done, site),
         Request::Log { json, engine } => say_log(alloc, json, engine, shelf, site),
         Request::Graph { book, libraries } => say_graph(alloc, book, libraries, shelf, site),
+        Request::GraphRun => say_run(alloc, site),
         Request::Explain(rule) => say_all(rule.lines(), End::Done, site),
         Request::ExplainBooks { book, libraries } => {
             say_break(alloc, book, libraries, shelf, site)
         }
-        Request::Preflight {
-            bind,
-            book,
-            libraries,
-        } => say_flight(alloc, bind, book, libraries, shelf, site),
+        Request::Preflight { bind, books } => say_flight(alloc, bind, books, shelf, site),
         Request::Lacks(wanted) => say_all(&[], End::NotUnderstood { wanted }, site),
     }
 }
@@ -124,6 +123,15 @@ fn say_graph<'w, L: Shelf, S: Site>(
     End::As { end }
 }
 
+/// `graph` alone: says the picture of the run in the engine's file of the disk.
+fn say_run<'w, S: Site>(alloc: Global, site: &mut S) -> End<'w>
+    ensures { ReportsOpened (OpensTo DrawsEntries) (S.view site.old) (S.view site.new) (end_of result) }
+{
+    let report = graph_disk(alloc, site);
+    let end = report.say(site);
+    End::As { end }
+}
+
 /// `explain`: says what the first break of the playbooks in the files of these names is.
 fn say_break<'w, L: Shelf, S: Site>(
     alloc: Global,
@@ -147,18 +155,17 @@ fn say_break<'w, L: Shelf, S: Site>(
 fn say_flight<'w, L: Shelf, S: Site>(
     alloc: Global,
     bind: Option<&'w str>,
-    book: &'w str,
-    libraries: &'w [String],
+    books: BookWords<'w>,
     shelf: &mut L,
     site: &mut S,
 ) -> End<'w>
-    ensures looks { Looks (work (preflights (maybe_text bind.entry) (book.entry.now ∷ map string_bytes libraries.entry.now)))
+    ensures looks { Looks (work (preflights (maybe_text bind.entry) (book_names books.entry)))
         (shelf_call (L.told shelf.old) (L.faults shelf.old) (L.faults shelf.new) (L.reads shelf.old) (L.reads shelf.new))
         (S.view site.old) (S.view site.new) (end_of result) }
-    ensures untouched { files_of (preflights (maybe_text bind.entry) (book.entry.now ∷ map string_bytes libraries.entry.now)) ≡ [] → shelf.new ≡ shelf.old }
+    ensures untouched { files_of (preflights (maybe_text bind.entry) (book_names books.entry)) ≡ [] → shelf.new ≡ shelf.old }
     ensures files { L.told shelf.new ≡ L.told shelf.old }
 {
-    let report = preflight_books(alloc, bind, book, libraries, shelf);
+    let report = preflight_books(alloc, bind, books, shelf);
     let end = report.say(site);
     End::As { end }
 }

@@ -13,7 +13,7 @@ use Rattle.cacao_view_graph.specs.Labels.{shape}
 use Rattle.cacao_view_graph.specs.Laws.{IsLine, PictureLaw}
 use Rattle.cacao_view_graph.specs.Pictures.{picture_of}
 use Rattle.cacao_view_graph.specs.Quoting.{quoted}
-use Rattle.cacao_view_graph.specs.Statements.{Place, Statement, cluster, cluster_text, edge, edge_text, frame, head_text, inside_text, line_of, node, node_text, place_text, within}
+use Rattle.cacao_view_graph.specs.Statements.{Place, Statement, cluster, cluster_text, edge, edge_text, frame, head_text, inside_text, line_of, node, node_text, pale_text, place_text, within}
 use Rattle.cacao_view_graph.proofs.ApartLemmas.{names_apart, nodes_apart}
 use Rattle.cacao_view_graph.proofs.DrawLemmas.{clusters_are, edges_are, nodes_are}
 use Rattle.cacao_view_graph.proofs.JoinLemmas.{edges_join}
@@ -36,10 +36,14 @@ within_line number control text h =
     line_after (codes "subgraph ") _ (clean_test (codes "subgraph ") refl)
     (line_after (quoted (cluster_text number None)) (inside_text number control text) (clean_quoted (cluster_text number None)) (inside_line number control text h))
 
-clean_node : (place : Place) (label shape : List ℕ) → IsClean shape → IsClean (node_text place label shape)
-clean_node place label shape h =
-    let tail : List ℕ = codes ", shape=" ++ (shape ++ codes "]") in
-    let clean_tail : IsClean tail = clean_append (codes ", shape=") (shape ++ codes "]") (clean_test (codes ", shape=") refl) (clean_append shape (codes "]") h (clean_test (codes "]") refl)) in
+clean_pale : (pale : Bool) → IsClean (pale_text pale)
+clean_pale true = clean_test (codes ", color=gray, fontcolor=gray]") refl
+clean_pale false = clean_test (codes "]") refl
+
+clean_node : (place : Place) (label shape : List ℕ) (pale : Bool) → IsClean shape → IsClean (node_text place label shape pale)
+clean_node place label shape pale h =
+    let tail : List ℕ = codes ", shape=" ++ (shape ++ pale_text pale) in
+    let clean_tail : IsClean tail = clean_append (codes ", shape=") (shape ++ pale_text pale) (clean_test (codes ", shape=") refl) (clean_append shape (pale_text pale) h (clean_pale pale)) in
     let rest : List ℕ = codes " [label=" ++ (quoted label ++ tail) in
     let clean_rest : IsClean rest = clean_append (codes " [label=") (quoted label ++ tail) (clean_test (codes " [label=") refl) (clean_append (quoted label) tail (clean_quoted label) clean_tail) in
     clean_append (quoted (place_text place)) rest (clean_quoted (place_text place)) clean_rest
@@ -59,13 +63,13 @@ edge_line from to name called =
 abbrev IsTidy : Statement → Type 0
 IsTidy (frame text) = IsClean text
 IsTidy (cluster number control label) = Unit {0}
-IsTidy (node place control label shape) = IsClean shape
+IsTidy (node place control label shape pale) = IsClean shape
 IsTidy (edge from to name called) = Unit {0}
 
 line_is : (s : Statement) → IsTidy s → IsLine (line_of s)
 line_is (frame text) h = (text, refl, h)
 line_is (cluster number control label) h = within_line number control (codes "label=" ++ quoted label) (clean_append (codes "label=") (quoted label) (clean_test (codes "label=") refl) (clean_quoted label))
-line_is (node place control label shape) h = within_line place.0 control (node_text place label shape) (clean_node place label shape h)
+line_is (node place control label shape pale) h = within_line place.0 control (node_text place label shape pale) (clean_node place label shape pale h)
 line_is (edge from to name called) h = edge_line from to name called
 
 -- ---- all that is drawn is tidy

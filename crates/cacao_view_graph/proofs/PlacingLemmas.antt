@@ -74,6 +74,20 @@ books_more trees drawn tree new is one before = record {
 
 -- ---- one more, as the code goes on
 
+each_by : {Y : Type 0} (P : ℕ → Y → Type 0) (ys : List Y) (new : Y) (n k : ℕ) (y : Y) → length ys ≡ n → P n new → (slice_get ys k ≡ Some y → P k y) → (slice_get ys k ≡ Some y) ⊎ ((k ≡ length ys) × (new ≡ y)) → P k y
+each_by P ys new n k y len last before (inl old) = before old
+each_by P ys new n k y len last before (inr end) = subst (λ z. P k z) end.1 (subst (λ j. P j new) (sym len ∙ sym end.0) last)
+
+pub grown : {X : Type 0} (old new : List X) (x : X) (n : ℕ) → length old ≡ n → new ≡ old ++ x ∷ [] → length new ≡ n + 1
+grown old new x n len is = ap length is ∙ length-append old (x ∷ []) ∙ ap (λ k. k + 1) len
+
+-- what holds at each place of a list that grows
+pub each_next : {X Y : Type 0} (P : ℕ → Y → Type 0) (f : X → Y) (n : ℕ) (old new : List X) (x : X) → length old ≡ n → new ≡ old ++ x ∷ [] → P n (f x)
+    → ((k : ℕ) (y : Y) → slice_get (map f old) k ≡ Some y → P k y) → (k : ℕ) (y : Y) → slice_get (map f new) k ≡ Some y → P k y
+each_next P f n old new x len is last before k y e =
+    let grown : map f new ≡ map f old ++ f x ∷ [] = ap (map f) is ∙ map-append f old (x ∷ []) in
+    each_by P (map f old) (f x) n k y (length-map old f ∙ len) last (before k y) (get_pushed (map f old) (f x) k y (ap (λ l. slice_get l k) (sym grown) ∙ e))
+
 pub drawn_next : {X : Type 0} (f : X → Drawn) (book : Book) (pairs : List Pair) (place : ℕ) (pair : Pair) (old new : List X) (x : X) → place < length pairs → pair ≡ get_or pairs place pair → new ≡ old ++ x ∷ []
     → (f x).member ≡ pair_data pair → IsHome book place (f x).home → AreDrawnOf book (map pair_data (take place pairs)) (map f old) → AreDrawnOf book (map pair_data (take (place + 1) pairs)) (map f new)
 drawn_next f book pairs place pair old new x lt at is member home before =

@@ -12,10 +12,12 @@ use Rattle.cacao_check_steps.specs.Calls.{called}
 use Rattle.cacao_view_graph.specs.Labels.{label_text, shape, title}
 use Rattle.cacao_view_graph.specs.Statements.{Place, Statement, cluster, edge, frame, node}
 
--- a step with its key, and the key of the control step in whose cluster it is drawn
+-- A step with its key, the key of the control step in whose cluster it is drawn, what is noted there, and whether it is pale.
 pub record Drawn : Type 0 where
   pub member : List ℕ × Data
   pub home : Option (List ℕ)
+  pub notes : List ℕ
+  pub pale : Bool
 
 -- a playbook and its steps in order
 pub record DrawnBook : Type 0 where
@@ -76,8 +78,8 @@ region_clusters number m =
 
 abbrev pub step_node : ℕ → Drawn → Statement
 step_node number drawn =
-    node (number, drawn.member.0) drawn.home (label_text (title drawn.member) (step_of drawn.member).kind)
-    (shape (step_of drawn.member).kind)
+    node (number, drawn.member.0) drawn.home (label_text (title drawn.member) (step_of drawn.member).kind ++ drawn.notes)
+    (shape (step_of drawn.member).kind) drawn.pale
 
 abbrev pub step_statements : List Book → ℕ → Drawn → List Statement
 step_statements books number drawn =

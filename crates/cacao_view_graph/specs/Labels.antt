@@ -2,11 +2,13 @@
 use Rattle.std.specs.Prelude.{ℕ, List, [], ◌∷◌, ◌++◌, codes, flat_map, Option, Some, None, option_and_then, unwrap_or, if◌then◌else◌}
 use Rattle.std.specs.Option.{option_map_or}
 use Rattle.serde_json.specs.Data.{Data}
+use Rattle.serde_json.specs.Find.{get}
 use Rattle.cacao_json.specs.Reading.{tree}
+use Rattle.cacao_text.specs.Canon.{canon}
 use Rattle.cacao_book.specs.declared.commands.StepCommand.{StepCommand}
 use Rattle.cacao_book.specs.declared.step_kinds.StepKind.{StepKind}
 use Rattle.cacao_book.specs.declared.step_kinds.StepKind.TheVariants.{Start, End, Action, PlaybookAction, Parallel, If, While, Switch}
-use Rattle.cacao_book_shape.specs.Members.{maybe_text, some_text, members_at}
+use Rattle.cacao_book_shape.specs.Members.{maybe_text, some_text}
 use Rattle.cacao_check_steps.specs.Uses.{is_manual}
 
 -- the name of a step or of a playbook; where it has none, its key
@@ -15,17 +17,17 @@ title m = unwrap_or (maybe_text (codes "name") m.1) m.0
 
 -- ---- commands
 
--- a name behind a space
-abbrev pub spaced : List ℕ × Data → List ℕ
-spaced m = 32 ∷ m.0
+-- canonical text behind a space
+abbrev pub spaced : Data → List ℕ
+spaced d = 32 ∷ canon d
 
 -- what is told to an operator
 abbrev pub told_text : List ℕ → List ℕ
 told_text text = codes ": " ++ text
 
--- the action of what is sent to a filter, and the type of its target
+-- the action of what is sent to a filter, and its target as it is sent
 abbrev pub sent_text : Data → List ℕ
-sent_text d = codes ": " ++ (some_text (codes "action") d ++ flat_map spaced (members_at (codes "target") d))
+sent_text d = codes ": " ++ (some_text (codes "action") d ++ option_map_or spaced (get (codes "target") d) [])
 
 abbrev pub content_text : StepCommand → List ℕ
 content_text command =

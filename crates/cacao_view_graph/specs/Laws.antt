@@ -56,7 +56,7 @@ areas_from number (t ∷ ts) =
 -- ---- what a statement draws
 
 abbrev pub place_drawn : Statement → Option Place
-place_drawn (node place control label shape) = Some place
+place_drawn (node place control label shape pale) = Some place
 place_drawn _ = None
 
 abbrev pub ends_drawn : Statement → Option (Place × Place)

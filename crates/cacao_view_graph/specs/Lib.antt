@@ -2,6 +2,7 @@ pub mod Quoting
 pub mod Labels
 pub mod Statements
 pub mod Homes
+pub mod Marks
 pub mod Drawings
 pub mod Pictures
 pub mod Finding

@@ -10,7 +10,12 @@ use Rattle.cacao_view_graph.specs.declared.placed.Placed.{Placed}
 use Rattle.cacao_view_graph.specs.declared.placed_book.PlacedBook.{PlacedBook}
 
 abbrev pub drawn_of : Placed → Drawn
-drawn_of step = record { member = pair_data step.pair.now; home = option_copied step.home }
+drawn_of step = record {
+  member = pair_data step.pair.now;
+  home = option_copied step.home;
+  notes = step.mark.text.items;
+  pale = step.mark.pale;
+}
 
 abbrev pub drawn_book : PlacedBook → DrawnBook
 drawn_book placed = record { tree = data_of placed.tree.now; steps = map drawn_of placed.steps.items }

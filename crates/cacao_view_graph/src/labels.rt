@@ -1,15 +1,17 @@
 // The words of steps.
-ghost use Rattle.std.specs.Prelude.{◌≡◌, ◌++◌, [], IfOk, OnOk, codes, flat_map, map, option_and_then};
+ghost use Rattle.std.specs.Prelude.{◌≡◌, ◌++◌, [], IfOk, OnOk, codes, flat_map, option_and_then};
 ghost use Rattle.std.specs.Option.{option_map_or};
+ghost use Rattle.serde_json.specs.Find.{get};
 ghost use Rattle.cacao_json.specs.Reading.{tree as tree_of_text};
-ghost use Rattle.cacao_json.specs.Tree.{data_of, pair_data};
+ghost use Rattle.cacao_json.specs.Tree.{data_of};
 ghost use Rattle.cacao_view_graph.specs.Labels.{command_text, content_text, kind_text, label_text, sent_text, shape, spaced, target_text, title, told_text, version_text};
 
 use crate::quoting::add;
 use cacao_book::{StepCommand, StepKind};
-use cacao_book_shape::{members_at, some_text, text_at};
+use cacao_book_shape::{some_text, text_at};
 use cacao_check_steps::is_manual;
-use cacao_json::{Pair, Text, Tree, find_tree};
+use cacao_json::{Text, Tree, find_tree, member};
+use cacao_text::canonical;
 use std::alloc::{AllocError, Global};
 
 /// The name of a step or of a playbook; where it has none, its key.
@@ -24,24 +26,25 @@ pub(crate) fn title<'a>(key: &'a str, tree: &'a Tree) -> &'a str
 
 // ---- commands
 
-/// Adds names, each behind a space.
-fn add_names(out: &mut Vec<u8>, members: &[Pair]) -> Result<(), AllocError>
-    ensures { OnOk result (out.new.items ≡ out.old.items ++ flat_map spaced (map pair_data members.now)) }
+/// Adds the target of what is sent to a filter, as it is sent, if it has one.
+fn add_sent_target(alloc: Global, out: &mut Vec<u8>, sent: &Tree) -> Result<(), AllocError>
+    ensures { OnOk result (out.new.items ≡ out.old.items ++ option_map_or spaced (get (codes "target") (data_of sent.now)) []) }
 {
-    for pair in members {
-        add(out, b" ")?;
-        add(out, pair.name.text().as_bytes())?;
-    }
-    Ok(())
+    let Some(target) = member(sent, "target") else {
+        return Ok(());
+    };
+    let text = canonical(alloc, target)?;
+    add(out, b" ")?;
+    add(out, text.as_slice())
 }
 
 /// Adds what is sent to a filter.
-fn add_sent(out: &mut Vec<u8>, sent: &Tree) -> Result<(), AllocError>
+fn add_sent(alloc: Global, out: &mut Vec<u8>, sent: &Tree) -> Result<(), AllocError>
     ensures { OnOk result (out.new.items ≡ out.old.items ++ sent_text (data_of sent.now)) }
 {
     add(out, b": ")?;
     add(out, some_text(sent, "action").as_bytes())?;
-    add_names(out, members_at(sent, "target"))
+    add_sent_target(alloc, out, sent)
 }
 
 /// Adds what a text sends to a filter, if it has a tree.
@@ -52,7 +55,7 @@ fn add_sent_text(alloc: Global, out: &mut Vec<u8>, text: &Option<Text>) -> Resul
         return Ok(());
     };
     match find_tree(alloc, text.text().as_bytes())? {
-        Some(sent) => add_sent(out, &sent),
+        Some(sent) => add_sent(alloc, out, &sent),
         None => Ok(()),
     }
 }

@@ -3,7 +3,7 @@ ghost use Rattle.std.specs.Prelude.{◌≡◌, ◌++◌, IfOk, OnOk, codes, None
 ghost use Rattle.std.specs.Option.{option_copied};
 ghost use Rattle.cacao_view_graph.specs.Places.{place_of};
 ghost use Rattle.cacao_view_graph.specs.Quoting.{quoted};
-ghost use Rattle.cacao_view_graph.specs.Statements.{cluster, cluster_text, edge, frame, head_text, inside_text, line_of, node, node_text, place_text, within};
+ghost use Rattle.cacao_view_graph.specs.Statements.{cluster, cluster_text, edge, frame, head_text, inside_text, line_of, node, node_text, pale_text, place_text, within};
 
 use crate::quoting::{add, add_number, add_quoted};
 use cacao_site::Bytes;
@@ -20,7 +20,7 @@ pub(crate) struct Place<'a> {
 fn add_place(out: &mut Vec<u8>, place: &Place) -> Result<(), AllocError>
     ensures { OnOk result (out.new.items ≡ out.old.items ++ place_text (place_of place.now)) }
 {
-    add_number(out, place.number)?;
+    add_number(out, place.number as u64)?;
     add(out, b" ")?;
     add(out, place.key.as_bytes())
 }
@@ -40,7 +40,7 @@ fn add_cluster_name(alloc: Global, out: &mut Vec<u8>, number: u32) -> Result<(),
 {
     let mut name = Vec::new(alloc);
     add(&mut name, b"cluster ")?;
-    add_number(&mut name, number)?;
+    add_number(&mut name, number as u64)?;
     add_quoted(out, name.as_slice())
 }
 
@@ -133,6 +133,16 @@ pub(crate) fn cluster_line(
     within(alloc, number, control, text.as_slice())
 }
 
+/// Adds the end of the words of a step, which may be pale.
+fn add_pale(out: &mut Vec<u8>, pale: bool) -> Result<(), AllocError>
+    ensures { OnOk result (out.new.items ≡ out.old.items ++ pale_text pale) }
+{
+    if pale {
+        return add(out, b", color=gray, fontcolor=gray]");
+    }
+    add(out, b"]")
+}
+
 /// Adds the name of a step, with its words and its shape.
 fn add_node(
     alloc: Global,
@@ -140,15 +150,16 @@ fn add_node(
     place: &Place,
     label: &[u8],
     shape: &[u8],
+    pale: bool,
 ) -> Result<(), AllocError>
-    ensures { OnOk result (out.new.items ≡ out.old.items ++ node_text (place_of place.now) label.now shape.now) }
+    ensures { OnOk result (out.new.items ≡ out.old.items ++ node_text (place_of place.now) label.now shape.now pale) }
 {
     add_node_name(alloc, out, place)?;
     add(out, b" [label=")?;
     add_quoted(out, label)?;
     add(out, b", shape=")?;
     add(out, shape)?;
-    add(out, b"]")
+    add_pale(out, pale)
 }
 
 /// The line of a step.
@@ -158,11 +169,12 @@ pub(crate) fn node_line(
     control: Option<&str>,
     label: &[u8],
     shape: &[u8],
+    pale: bool,
 ) -> Result<Bytes, AllocError>
-    ensures { IfOk result (λ line. line ≡ line_of (node (place_of place.now) (option_copied control.entry) label.now shape.now)) }
+    ensures { IfOk result (λ line. line ≡ line_of (node (place_of place.now) (option_copied control.entry) label.now shape.now pale)) }
 {
     let mut text = Vec::new(alloc);
-    add_node(alloc, &mut text, place, label, shape)?;
+    add_node(alloc, &mut text, place, label, shape, pale)?;
     within(alloc, place.number, control, text.as_slice())
 }
 

@@ -6,13 +6,14 @@ ghost use Rattle.cacao_check.specs.FirstBreak.{AreWellShaped};
 ghost use Rattle.cacao_json.specs.Tree.{data_of};
 ghost use Rattle.cacao_view_graph.specs.Drawings.{book_statements, books_statements, exception_edges, head_statements};
 ghost use Rattle.cacao_view_graph.specs.Labels.{title};
-ghost use Rattle.cacao_view_graph.specs.Pictures.{AreDrawn, IsPicture, picture_of};
+ghost use Rattle.cacao_view_graph.specs.Pictures.{AreDrawn, AreMarked, IsMarkedPicture, IsPicture, picture_of};
 ghost use Rattle.cacao_view_graph.specs.Placing.{drawn_book};
 ghost use Rattle.cacao_view_graph.specs.Statements.{cluster, line_of};
 
 use crate::edges::add_links;
 use crate::labels::title;
 use crate::lines::{Place, cluster_line, frame_line};
+use crate::marks::Marks;
 use crate::placed_book::PlacedBook;
 use crate::placing::placed_books;
 use crate::steps::add_steps;
@@ -146,35 +147,52 @@ fn drawn_lines(
     Ok(lines)
 }
 
-/// The lines of the picture of these trees, whose playbooks were placed.
+/// The lines of the picture of these trees, whose playbooks were placed with what is marked there.
 fn pictured(
     alloc: Global,
     trees: &[Tree],
     books: &[Book],
     placed: &[PlacedBook],
+    marks: &Option<Marks>,
 ) -> Result<Vec<Bytes>, AllocError>
     requires few { length books.now ≤ 16 }
     requires few_placed { length placed.now ≤ 16 }
     requires read { books.now ≡ map book_of (map data_of trees.now) }
     requires drawn { AreDrawn (map data_of trees.now) (map drawn_book placed.now) }
-    ensures { IfOk result (λ lines. IsPicture (map data_of trees.now) lines.items) }
+    requires marked { AreMarked marks.now (map drawn_book placed.now) }
+    ensures { IfOk result (λ lines. IsMarkedPicture marks.now (map data_of trees.now) lines.items) }
 {
     let _ = trees;
+    let _ = marks;
     let lines = drawn_lines(alloc, books, placed)?;
     Ok(lines)
 }
 
 /// The picture of at most 16 playbooks that break no rule of shape, as lines of DOT, each with its line feed. A step has its name, or its key
-/// where it has none, its type, and what it says: its condition, its switch, the action and the target of each command (OpenC2 Language 1.0,
-/// section 3.3.1), the playbook that it calls. It stands in the cluster of its playbook, and within that, if it stands in one region alone,
+/// where it has none, its type, and what it says: its condition, its switch, the action and the target (as canonical text) of each command
+/// (OpenC2 Language 1.0, section 3.3.1), the playbook that it calls. It stands in the cluster of its playbook, and within that, if it stands in one region alone,
 /// in the cluster of that. A link leads from step to step, and is named by its member; a call leads to the cluster of the called playbook.
 pub fn picture(alloc: Global, trees: &[Tree]) -> Result<Vec<Bytes>, AllocError>
     requires few { length trees.now ≤ 16 }
     requires shaped { AreWellShaped (map data_of trees.now) }
     ensures { IfOk result (λ lines. IsPicture (map data_of trees.now) lines.items) }
 {
+    marked_picture(alloc, trees, &None)
+}
+
+/// The same picture with what a run marks at the steps, if there is one: behind the other words of each step stands how often the run walked
+/// there, and what is noted; a step where it never walked is pale.
+pub fn marked_picture(
+    alloc: Global,
+    trees: &[Tree],
+    marks: &Option<Marks>,
+) -> Result<Vec<Bytes>, AllocError>
+    requires few { length trees.now ≤ 16 }
+    requires shaped { AreWellShaped (map data_of trees.now) }
+    ensures { IfOk result (λ lines. IsMarkedPicture marks.now (map data_of trees.now) lines.items) }
+{
     let books = shaped_books(alloc, trees)?;
     let surveys = survey_all(alloc, books.as_slice())?;
-    let placed = placed_books(alloc, trees, books.as_slice(), surveys.as_slice())?;
-    pictured(alloc, trees, books.as_slice(), placed.as_slice())
+    let placed = placed_books(alloc, trees, books.as_slice(), surveys.as_slice(), marks)?;
+    pictured(alloc, trees, books.as_slice(), placed.as_slice(), marks)
 }

@@ -14,7 +14,7 @@ pub(crate) fn add(out: &mut Vec<u8>, text: &[u8]) -> Result<(), AllocError>
 }
 
 /// Adds a number in decimal.
-pub(crate) fn add_number(out: &mut Vec<u8>, number: u32) -> Result<(), AllocError>
+pub(crate) fn add_number(out: &mut Vec<u8>, number: u64) -> Result<(), AllocError>
     ensures { OnOk result (out.new.items ≡ out.old.items ++ decimal number) }
 {
     let mut buffer = Buffer::new();

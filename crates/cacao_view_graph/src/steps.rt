@@ -59,8 +59,16 @@ fn add_node(
     ensures { OnOk result (lines.new.items ≡ lines.old.items ++ line_of (step_node place.now.number (drawn_of placed.now)) ∷ []) }
 {
     let kind = &placed.step.kind;
-    let words = label(alloc, title(place.key, &placed.pair.tree), kind)?;
-    let line = node_line(alloc, place, placed.home, words.as_slice(), shape(kind))?;
+    let mut words = label(alloc, title(place.key, &placed.pair.tree), kind)?;
+    add(&mut words, placed.mark.text.as_slice())?;
+    let line = node_line(
+        alloc,
+        place,
+        placed.home,
+        words.as_slice(),
+        shape(kind),
+        placed.mark.pale,
+    )?;
     lines.push(line)?;
     Ok(())
 }

@@ -1,6 +1,6 @@
 pub mod FrontLemmas
 mod LawLemmas
-mod LogLemmas
-mod TellLemmas
+pub mod LogLemmas
+pub mod TellLemmas
 mod TextLemmas
 mod TreeLemmas

@@ -14,7 +14,7 @@ use run_records::{BytesList, Record};
 use std::alloc::{AllocError, Global};
 
 /// The run that the record of an entry begins, behind its Begin; None where it is no Begin of what is accepted.
-pub(crate) fn begun(alloc: Global, item: &Record) -> Result<Option<Flow>, AllocError>
+pub fn begun(alloc: Global, item: &Record) -> Result<Option<Flow>, AllocError>
     requires in_range { InRange item.now }
     ensures { (entry : List ℕ) → IsEntryOf item.now entry
         → IfOk result (λ o. MatchOption o (IsNotBegun entry) (HasBegun entry)) }

@@ -13,7 +13,9 @@ pub mod source;
 mod telling;
 mod told_run;
 
+pub use beginning::begun;
 pub use form::Form;
 pub use laws::log_law;
 pub use logging::log;
 pub use source::Source;
+pub use telling::take;

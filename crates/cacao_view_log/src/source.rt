@@ -16,7 +16,7 @@ pub enum Source<'a> {
 
 impl<'a> Source<'a> {
     /// How many entries there are.
-    pub(crate) fn count(&self) -> u32
+    pub fn count(&self) -> u32
         requires { IsWhole self.now }
         ensures value { result ≡ length (items_of self.now) }
         ensures fits { length (front (items_of self.now)) < 67_108_864 }
@@ -28,7 +28,7 @@ impl<'a> Source<'a> {
     }
 
     /// The bytes of an entry, by its number from 0.
-    pub(crate) fn entry(&self, n: u32) -> &[u8]
+    pub fn entry(&self, n: u32) -> &[u8]
         requires { n < length (items_of self.now) }
         ensures { result.now ≡ slice_index_or (items_of self.now) n [] }
     {
@@ -39,7 +39,7 @@ impl<'a> Source<'a> {
     }
 
     /// The place of the gate of an entry, in bytes from the start of the file.
-    pub(crate) fn place(&self, n: u32) -> u64
+    pub fn place(&self, n: u32) -> u64
         requires whole { IsWhole self.now }
         requires there { n < length (items_of self.now) }
         ensures { result ≡ length (front (take n (items_of self.now))) }

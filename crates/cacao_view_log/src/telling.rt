@@ -76,7 +76,7 @@ pub(crate) fn next_text(
 }
 
 /// Takes a record; false where it may not come next.
-fn take(flow: &mut Flow, item: &Record) -> Result<bool, ReportError>
+pub fn take(flow: &mut Flow, item: &Record) -> Result<bool, ReportError>
     requires few { flow.old.count < 100_000_000 }
     requires in_range { InRange item.now }
     ensures took { result ≡ Ok true → Took flow.old item.now flow.new }

@@ -43,3 +43,16 @@ pub added_mapped : {A B : Type 0} (f : A → B) (make : B → List Text) (xs : L
 added_mapped f make xs i x old new total lt at is so =
     ap (λ l. l ++ flat_map make (map f (drop (i + 1) xs))) is ∙ append_assoc old (make (f x)) (flat_map make (map f (drop (i + 1) xs)))
     ∙ ap (λ l. old ++ flat_map make (map f l)) (sym (drop_more xs i x lt at)) ∙ so
+
+-- the same of the names of members
+pub added_named : {A D : Type 0} (f : A → Text × D) (make : Text → List Text) (xs : List A) (i : ℕ) (x : A) (old new total : List Text) → i < length xs → x ≡ get_or xs i x
+    → new ≡ old ++ make (f x).0 → old ++ flat_map make (map (λ (m : Text × D). m.0) (map f (drop i xs))) ≡ total → new ++ flat_map make (map (λ (m : Text × D). m.0) (map f (drop (i + 1) xs))) ≡ total
+added_named {A} {D} f make xs i x old new total lt at is so =
+    ap (λ l. l ++ flat_map make (map (λ (m : Text × D). m.0) (map f (drop (i + 1) xs)))) is ∙ append_assoc old (make (f x).0) (flat_map make (map (λ (m : Text × D). m.0) (map f (drop (i + 1) xs))))
+    ∙ ap (λ l. old ++ flat_map make (map (λ (m : Text × D). m.0) (map f l))) (sym (drop_more xs i x lt at)) ∙ so
+
+pub added_all : {A : Type 0} (make : A → List Text) (xs : List A) (i : ℕ) (old total : List Text) → length xs ≤ i → old ++ flat_map make (drop i xs) ≡ total → old ≡ total
+added_all make xs i old total over so = sym (append-nil old) ∙ ap (λ l. old ++ flat_map make l) (sym (drop_all i xs over)) ∙ so
+
+pub named_all : {A D : Type 0} (f : A → Text × D) (make : Text → List Text) (xs : List A) (i : ℕ) (old total : List Text) → length xs ≤ i → old ++ flat_map make (map (λ (m : Text × D). m.0) (map f (drop i xs))) ≡ total → old ≡ total
+named_all {A} {D} f make xs i old total over so = sym (append-nil old) ∙ ap (λ l. old ++ flat_map make (map (λ (m : Text × D). m.0) (map f l))) (sym (drop_all i xs over)) ∙ so

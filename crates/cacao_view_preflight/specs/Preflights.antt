@@ -54,7 +54,7 @@ pub record Warns (bound : Bool) (roots : List Data) (given : Given) (lines : Lis
   pub warns : AreWarnings given.books trees bindings warned
   pub lines_are : lines ≡ warned ++ ready_line (length warned) ∷ []
 
--- playbooks and bindings are accepted, so that `run` would begin
+-- playbooks and bindings are accepted, so that by these files alone `run` would begin
 pub record IsReady (bound : Bool) (texts : List NamedText) (roots : List Data) (lines : List Text) (end : End) : Type 0 where
   pub books : List Text
   pub bind : Text

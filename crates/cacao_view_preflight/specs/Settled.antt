@@ -1,21 +1,32 @@
--- Promise: Which commands filters refuse whatever the values are of the variables that they refer to. A text with a reference is open: it may become any
--- text, or a number. Each open text that stands for a part of a command is set to one that fits; a command that is refused even so is refused always.
-use Rattle.std.specs.Prelude.{ℕ, nat_le, Bool, false, List, [], length, codes, Option, Some, None, option_and_then, is_some, Result, Ok, Err, if◌then◌else◌}
+-- Promise: Which commands filters refuse whatever the values are of the variables that they refer to, and what is sure of the answer.
+-- A text with a reference is open: it may become any text, or a number. Each open text that stands for a part of a command is set to
+-- one that fits; a command that is refused even so is refused always. The reason is then sure, unless an open text stands where an
+-- earlier row of the table of refusals may find fault with it.
+use Rattle.std.specs.Prelude.{ℕ, nat_le, Bool, false, ◌||◌, List, [], ◌∷◌, length, codes, Option, Some, None, option_map, option_and_then, is_some, Result, Ok, Err, if◌then◌else◌}
 use Rattle.std.specs.List.{list_any}
 use Rattle.std.specs.Option.{option_map_or}
-use Rattle.serde_json.specs.Data.{Data, string, array, object, no_items, Members, put}
-use Rattle.serde_json.specs.Find.{as_str, as_object, get, get_member}
+use Rattle.serde_json.specs.Data.{Data, string, array, object, Items, no_items, item, Members, put}
+use Rattle.serde_json.specs.Find.{as_str, as_array, as_object, get, get_member}
 use Rattle.cacao_json.specs.Reading.{tree}
 use Rattle.cacao_json.specs.Tree.{without}
 use Rattle.cacao_text.specs.Canon.{canon}
 use Rattle.cacao_vars.specs.References.{first_reference}
 use Rattle.cacao_book.specs.declared.commands.StepCommand.{StepCommand}
-use Rattle.cacao_book_shape.specs.Members.{items_at}
 use Rattle.cacao_check_steps.specs.Uses.{is_manual}
-use Rattle.oc2_msg_targets.specs.Parts.{whole_data}
-use Rattle.oc2_msg.specs.Commands.{answer_of}
+use Rattle.oc2_msg_targets.specs.declared.actions.Action.{Action}
+use Rattle.oc2_msg_targets.specs.declared.actions.Action.TheVariants as action
+use Rattle.oc2_msg_targets.specs.declared.kinds.TargetKind.{TargetKind}
+use Rattle.oc2_msg_targets.specs.declared.kinds.TargetKind.TheVariants as kind
+use Rattle.oc2_msg_targets.specs.Parts.{whole_data, one_member, single}
+use Rattle.oc2_msg_targets.specs.Words.{action_word, kind_named}
+use Rattle.oc2_msg_targets.specs.Targets.{connection_parts}
+use Rattle.oc2_msg.specs.Commands.{answer_of, target_part}
 use Rattle.oc2_msg.specs.declared.commands.Command.{Command}
 use Rattle.oc2_msg.specs.declared.refusals.Refusal.{Refusal}
+use Rattle.oc2_msg.specs.declared.reasons.Reason.{Reason}
+use Rattle.oc2_msg.specs.declared.reasons.Reason.TheVariants as reason
+use Rattle.cacao_view_preflight.specs.declared.sure.Sure.{Sure}
+use Rattle.cacao_view_preflight.specs.declared.sure.Sure.TheVariants as sure
 
 -- ---- what is open
 
@@ -28,9 +39,18 @@ is_open d = option_map_or has_reference (as_str d) false
 abbrev pub is_open_at : List ℕ → Data → Bool
 is_open_at name d = option_map_or is_open (get name d) false
 
--- an item of the list under a name is open
-abbrev pub has_open_item : List ℕ → Data → Bool
-has_open_item name d = list_any is_open (items_at name d)
+-- one of the members with these names is open
+abbrev pub are_open_at : List (List ℕ) → Data → Bool
+are_open_at names d = list_any (λ name. is_open_at name d) names
+
+abbrev pub has_open : Items → Bool
+has_open no_items = false
+has_open (item d ds) = is_open d || has_open ds
+
+-- the items that are not open
+abbrev pub closed_items : Items → Items
+closed_items no_items = no_items
+closed_items (item d ds) = if is_open d then closed_items ds else item d (closed_items ds)
 
 -- ---- members that are changed
 
@@ -49,6 +69,10 @@ settled name fitting = changed name (set_if_open fitting)
 abbrev pub in_object : (Members → Members) → Data → Data
 in_object change d = option_map_or (λ ms. object (change ms)) (as_object d) d
 
+-- so are the items of a list
+abbrev pub in_array : (Items → Items) → Data → Data
+in_array change d = option_map_or (λ ds. array (change ds)) (as_array d) d
+
 -- ---- the target
 
 abbrev pub connection_members : List ℕ → Members → Members
@@ -57,19 +81,37 @@ connection_members net ms =
     (settled (codes "dst_addr") (string net) (settled (codes "src_addr") (string net)
     (settled (codes "protocol") (string (codes "tcp")) ms))))
 
-abbrev pub features_settled : Bool → Members → Members
-features_settled has_open ms = if has_open then put (codes "features") (array no_items) ms else ms
+-- the value of a target of each kind; a file's name may be any text
+abbrev pub value_settled : TargetKind → Data → Data
+value_settled kind.Ipv4Net d = set_if_open (string (codes "0.0.0.0")) d
+value_settled kind.Ipv6Net d = set_if_open (string (codes "::")) d
+value_settled kind.Ipv4Connection d = in_object (connection_members (codes "0.0.0.0")) d
+value_settled kind.Ipv6Connection d = in_object (connection_members (codes "::")) d
+value_settled kind.RuleNumber d = set_if_open (whole_data 1) d
+value_settled kind.File d = d
+value_settled kind.Features d = in_array closed_items d
 
-abbrev pub target_members : Bool → Members → Members
-target_members has_open ms =
-    features_settled has_open
-    (changed (codes "ipv6_connection") (in_object (connection_members (codes "::")))
-    (changed (codes "ipv4_connection") (in_object (connection_members (codes "0.0.0.0")))
-    (settled (codes "slpf:rule_number") (whole_data 1)
-    (settled (codes "ipv6_net") (string (codes "::")) (settled (codes "ipv4_net") (string (codes "0.0.0.0")) ms)))))
+-- an open text stands where the value is looked at
+abbrev pub opens_value : TargetKind → Data → Bool
+opens_value kind.Ipv4Net d = is_open d
+opens_value kind.Ipv6Net d = is_open d
+opens_value kind.Ipv4Connection d = are_open_at connection_parts d
+opens_value kind.Ipv6Connection d = are_open_at connection_parts d
+opens_value kind.RuleNumber d = is_open d
+opens_value kind.File d = is_open_at (codes "name") d
+opens_value kind.Features d = option_map_or has_open (as_array d) false
+
+abbrev pub named_settled : List ℕ → Data → Data
+named_settled name d = option_map_or (λ k. value_settled k d) (kind_named name) d
 
 abbrev pub target_settled : Data → Data
-target_settled d = in_object (target_members (has_open_item (codes "features") d)) d
+target_settled d = option_map_or (λ m. one_member m.0 (named_settled m.0 m.1)) (single d) d
+
+abbrev pub opens_named : List ℕ → Data → Bool
+opens_named name d = option_map_or (λ k. opens_value k d) (kind_named name) false
+
+abbrev pub opens_target : Data → Bool
+opens_target d = option_map_or (λ m. opens_named m.0 m.1) (target_part d) false
 
 -- ---- the arguments; the engine itself asks for a complete response
 
@@ -84,14 +126,37 @@ args_members ms =
     (settled (codes "stop_time") (whole_data 9_007_199_254_740_991) (settled (codes "duration") (whole_data 0)
     (settled (codes "start_time") (whole_data 0) (without (codes "response_requested") ms))))
 
+abbrev pub opens_slpf : Data → Bool
+opens_slpf d = are_open_at (codes "drop_process" ∷ codes "direction" ∷ codes "insert_rule" ∷ []) d
+
+abbrev pub opens_times : Data → Bool
+opens_times d = are_open_at (codes "start_time" ∷ codes "stop_time" ∷ codes "duration" ∷ []) d
+
+abbrev pub opens_values : Data → Bool
+opens_values d = opens_times d || option_map_or opens_slpf (get (codes "slpf") d) false
+
+abbrev pub opens_args : Data → Bool
+opens_args d = option_map_or opens_values (get (codes "args") d) false
+
 -- ---- the command; the engine itself gives it its identifier
 
-abbrev pub command_members : Members → Members
-command_members ms =
-    changed (codes "args") (in_object args_members) (changed (codes "target") target_settled (without (codes "command_id") ms))
+-- an action that takes targets of a kind: of those that do, the one that takes the most arguments
+abbrev pub action_for : TargetKind → Action
+action_for kind.RuleNumber = action.Delete
+action_for kind.File = action.Update
+action_for kind.Features = action.Query
+action_for other = action.Deny
+
+abbrev pub fitting_action : Data → Action
+fitting_action d = option_map_or action_for (option_and_then (λ m. kind_named m.0) (target_part d)) action.Deny
+
+abbrev pub command_members : Action → Members → Members
+command_members fitting ms =
+    changed (codes "args") (in_object args_members) (changed (codes "target") target_settled
+    (settled (codes "action") (string (action_word fitting)) (without (codes "command_id") ms)))
 
 abbrev pub command_settled : Data → Data
-command_settled d = in_object command_members d
+command_settled d = in_object (command_members (fitting_action d)) d
 
 -- ---- what is refused
 
@@ -103,10 +168,22 @@ error_of (Err refusal) = Some refusal
 abbrev pub refusal_of : List ℕ → Option Refusal
 refusal_of bytes = if nat_le (length bytes) 1048576 then error_of (answer_of bytes) else None
 
--- the refusal that is sure to come; where the action is open, none is sure
-abbrev pub refused_always : Data → Option Refusal
-refused_always d = if is_open_at (codes "action") d then None else refusal_of (canon (command_settled d))
+-- What is sure where the command is refused for this reason at best: where its action is open, it may be no command or of another
+-- action; where its target is open, that may be malformed; and so may its arguments.
+abbrev pub sure_for : Bool → Bool → Bool → Reason → Refusal → Sure
+sure_for command target args reason.MalformedCommand refusal = sure.Answer refusal
+sure_for command target args reason.MalformedArgs refusal =
+    if command then sure.Refused else (if target then sure.Malformed else sure.Answer refusal)
+sure_for command target args reason.UnsupportedArgs refusal =
+    if command then sure.Refused else (if target || args then sure.Refused else sure.Answer refusal)
+sure_for command target args other refusal = if command then sure.Refused else sure.Answer refusal
+
+abbrev pub sure_by : Data → Refusal → Sure
+sure_by d refusal = sure_for (is_open_at (codes "action") d) (opens_target d) (opens_args d) refusal.text refusal
+
+abbrev pub refused_always : Data → Option Sure
+refused_always d = option_map (sure_by d) (refusal_of (canon (command_settled d)))
 
 -- the same of a command of a step; one for an operator goes to no filter
-abbrev pub sure_refusal : StepCommand → Option Refusal
-sure_refusal command = if is_manual command then None else option_and_then refused_always (option_and_then tree command.content)
+abbrev pub sure_of : StepCommand → Option Sure
+sure_of command = if is_manual command then None else option_and_then refused_always (option_and_then tree command.content)

@@ -1,5 +1,5 @@
 -- Promise: What is warned of playbooks that are accepted to be run: each warning is a line, in this order.
-use Rattle.std.specs.Prelude.{◌≡◌, ℕ, ◌+◌, Bool, false, not, ◌&&◌, ◌||◌, List, [], ◌∷◌, ◌++◌, codes, decimal, map, Option, Some, None, is_none, Contains, slice_get, slice_index_or, if◌then◌else◌}
+use Rattle.std.specs.Prelude.{◌≡◌, ℕ, ◌+◌, ◌==◌, Bool, false, not, ◌&&◌, ◌||◌, List, [], ◌∷◌, ◌++◌, codes, decimal, map, Option, Some, None, is_none, take, Contains, slice_get, slice_index_or, if◌then◌else◌}
 use Rattle.std.specs.List.{flat_map, list_any}
 use Rattle.std.specs.Option.{option_map_or}
 use Rattle.std.specs.Str.{bytes_eq}
@@ -10,14 +10,17 @@ use Rattle.cacao_vars.specs.declared.declarations.Var.{Var}
 use Rattle.cacao_book.specs.declared.books.Book.{Book}
 use Rattle.cacao_book.specs.declared.commands.StepCommand.{StepCommand}
 use Rattle.cacao_book.specs.declared.steps.Step.{Step}
+use Rattle.cacao_book.specs.declared.step_kinds.StepKind.{StepKind}
+use Rattle.cacao_book.specs.declared.step_kinds.StepKind.TheVariants as does
 use Rattle.cacao_book_shape.specs.Members.{members_at, members_in, some_text}
 use Rattle.cacao_check_steps.specs.Uses.{commands_of}
 use Rattle.cacao_check_steps.specs.Links.{start_places}
 use Rattle.cacao_check_regions.specs.Charts.{AreMarksOf, LinksDown}
 use Rattle.base_graphs.specs.Closure.{Closure}
 use Rattle.oc2_msg.specs.Reasons.{reason_text}
-use Rattle.oc2_msg.specs.declared.refusals.Refusal.{Refusal}
-use Rattle.cacao_view_preflight.specs.Settled.{sure_refusal}
+use Rattle.cacao_view_preflight.specs.declared.sure.Sure.{Sure}
+use Rattle.cacao_view_preflight.specs.declared.sure.Sure.TheVariants as sure
+use Rattle.cacao_view_preflight.specs.Settled.{sure_of}
 use Rattle.cacao_view_preflight.specs.declared.step_members.TheConstants.{STEP, ACTION, PLAYBOOK_ACTION, PARALLEL, IF_CONDITION, WHILE_CONDITION, SWITCH_CONDITION}
 
 abbrev pub Text : Type 0
@@ -35,59 +38,104 @@ warn_if holds line = if holds then line ∷ [] else []
 abbrev pub step_front : ℕ → Text → Text
 step_front n key = codes "warning: book " ++ (decimal n ++ (codes " step " ++ key))
 
-abbrev pub has_name : List (Text × Data) → Text → Bool
-has_name members name = list_any (λ m. bytes_eq m.0 name) members
+abbrev pub is_named : List Text → Text → Bool
+is_named names name = list_any (λ other. bytes_eq other name) names
 
--- ---- agents and targets: what goes to one that is not bound goes to filter 1
+abbrev pub names_of : List (Text × Data) → List Text
+names_of = map (λ m. m.0)
+
+-- ---- agents and targets: what goes to one that is not bound goes to filter 1. Each name is told once, where it stands first
 
 abbrev pub agent_line : ℕ → Text → Text
 agent_line n name =
-    codes "warning: book " ++ (decimal n ++ (codes " agent " ++ (name ++ codes " is not bound: it is filter 1\n")))
+    codes "warning: book " ++ (decimal n ++ (codes " agent " ++ (name ++ codes " is not bound: what goes to it goes to filter 1\n")))
 
-abbrev pub of_agents : List (Text × Data) → ℕ → Book → List Text
-of_agents bound n book = flat_map (λ name. warn_if (not (has_name bound name)) (agent_line n name)) book.agents
+abbrev pub is_first_unbound : List Text → List Text → Text → Bool
+is_first_unbound bound before name = not (is_named bound name) && not (is_named before name)
+
+-- those of one playbook, behind these
+abbrev pub of_names : List Text → List Text → ℕ → List Text → List Text
+of_names bound before n names =
+    each (λ place name. warn_if (is_first_unbound bound (before ++ take place names) name) (agent_line n name)) 0 names
+
+-- the agents and targets of playbooks
+abbrev pub all_agents : List Book → List Text
+all_agents = flat_map (λ book. book.agents)
+
+abbrev pub of_agents : List Text → List Book → ℕ → Book → List Text
+of_agents bound books n book = of_names bound (all_agents (take n books)) n book.agents
 
 -- ---- bindings of what no playbook defines
-
-abbrev pub defines : Text → Book → Bool
-defines name book = list_any (λ agent. bytes_eq agent name) book.agents
 
 abbrev pub binding_line : Text → Text
 binding_line name = codes "warning: binding of " ++ (name ++ codes ": no playbook defines this agent\n")
 
-abbrev pub of_bindings : List Book → List (Text × Data) → List Text
-of_bindings books bound = flat_map (λ m. warn_if (not (list_any (defines m.0) books)) (binding_line m.0)) bound
+abbrev pub of_bindings : List Text → List Text → List Text
+of_bindings defined bound = flat_map (λ name. warn_if (not (is_named defined name)) (binding_line name)) bound
 
--- ---- external variables of the first playbook, with no value there and none in the bindings
+-- ---- external variables without a value: bindings may give one to those of the first playbook, a call to those of another, and
+-- nothing to those of a step
+
+abbrev pub is_unset : Var → Bool
+is_unset var = var.external && is_none var.worth
 
 abbrev pub variable_line : Text → Text
 variable_line name = codes "warning: variable " ++ (name ++ codes " is external and has no value\n")
 
-abbrev pub lacks_value : List (Text × Data) → Var → Bool
-lacks_value bound var = var.external && (is_none var.worth && not (has_name bound var.name))
+-- the variable is external and has no value, and is not among those that are given one
+abbrev pub lacks_value : List Text → Var → Bool
+lacks_value given var = is_unset var && not (is_named given var.name)
 
-abbrev pub of_variables : List (Text × Data) → List Var → List Text
+abbrev pub of_variables : List Text → List Var → List Text
 of_variables bound vars = flat_map (λ var. warn_if (lacks_value bound var) (variable_line var.name)) vars
 
-abbrev pub first_variables : List Book → List Var
-first_variables [] = []
-first_variables (book ∷ books) = book.variables
+-- the names that a step hands over to the playbook with this identifier
+abbrev pub handed : Text → StepKind → List Text
+handed id (does.PlaybookAction playbook version in_args out_args) = if bytes_eq playbook id then in_args else []
+handed id other = []
 
--- ---- commands that filters refuse whatever the values are
+abbrev pub handed_in : Text → Book → List Text
+handed_in id book = flat_map (λ step. handed id step.kind) book.steps
 
-abbrev pub refusal_words : ℕ → ℕ → Text → Text
-refusal_words c status text =
-    codes " command " ++ (decimal c ++ (codes ": filters answer " ++ (decimal status ++ (codes " " ++ (text ++ codes " whatever the values\n")))))
+abbrev pub called_line : ℕ → Text → Text
+called_line n name =
+    codes "warning: book " ++ (decimal n ++ (codes " variable " ++ (name ++ codes " is external and has no value: no call names it in in_args\n")))
 
-abbrev pub command_line : ℕ → Text → ℕ → Refusal → Text
-command_line n key c refusal = step_front n key ++ refusal_words c refusal.status (reason_text refusal.text)
+abbrev pub of_called : List Text → ℕ → List Var → List Text
+of_called names n vars = flat_map (λ var. warn_if (lacks_value names var) (called_line n var.name)) vars
 
-abbrev pub refusal_lines : ℕ → Text → ℕ → Option Refusal → List Text
+abbrev pub of_book_variables : List Text → List Book → ℕ → Book → List Text
+of_book_variables bound books n book =
+    if n == 0 then of_variables bound book.variables else of_called (flat_map (handed_in book.id) books) n book.variables
+
+abbrev pub step_variable_words : Text → Text
+step_variable_words name = codes " variable " ++ (name ++ codes " is external and has no value\n")
+
+abbrev pub of_step_variables : ℕ → Step → List Text
+of_step_variables n step = flat_map (λ var. warn_if (is_unset var) (step_front n step.key ++ step_variable_words var.name)) step.variables
+
+abbrev pub of_inner_variables : ℕ → Book → List Text
+of_inner_variables n book = flat_map (of_step_variables n) book.steps
+
+-- ---- commands that filters refuse whatever the values are: the status and its text are told where they are sure
+
+abbrev pub sure_words : Sure → Text
+sure_words (sure.Answer refusal) = decimal refusal.status ++ (codes " " ++ reason_text refusal.text)
+sure_words sure.Malformed = codes "400"
+sure_words sure.Refused = codes "400 or 501"
+
+abbrev pub refusal_words : ℕ → Text → Text
+refusal_words c words = codes " command " ++ (decimal c ++ (codes ": filters answer " ++ (words ++ codes " whatever the values\n")))
+
+abbrev pub command_line : ℕ → Text → ℕ → Sure → Text
+command_line n key c sure = step_front n key ++ refusal_words c (sure_words sure)
+
+abbrev pub refusal_lines : ℕ → Text → ℕ → Option Sure → List Text
 refusal_lines n key c None = []
-refusal_lines n key c (Some refusal) = command_line n key c refusal ∷ []
+refusal_lines n key c (Some sure) = command_line n key c sure ∷ []
 
 abbrev pub of_command : ℕ → Text → ℕ → StepCommand → List Text
-of_command n key c command = refusal_lines n key c (sure_refusal command)
+of_command n key c command = refusal_lines n key c (sure_of command)
 
 abbrev pub of_commands : ℕ → Step → List Text
 of_commands n step = each (of_command n step.key) 0 (commands_of step.kind)
@@ -149,12 +197,17 @@ AreReached books reached =
 
 -- ---- all of them
 
+abbrev pub warnings_by : List Book → List Data → List Text → List Text → List (List Bool) → List Text
+warnings_by books trees agents variables reached =
+    each (of_agents agents books) 0 books
+    ++ (of_bindings (all_agents books) agents
+    ++ (each (of_book_variables variables books) 0 books
+    ++ (each of_inner_variables 0 books ++ (each of_book_commands 0 books ++ (each of_members 0 trees ++ of_reach reached books)))))
+
+-- by the names of the agents and of the variables that are bound
 abbrev pub warnings : List Book → List Data → Data → List (List Bool) → List Text
-warnings books trees bindings reached =
-    each (of_agents (members_at (codes "agents") bindings)) 0 books
-    ++ (of_bindings books (members_at (codes "agents") bindings)
-    ++ (of_variables (members_at (codes "variables") bindings) (first_variables books)
-    ++ (each of_book_commands 0 books ++ (each of_members 0 trees ++ of_reach reached books))))
+warnings books trees bindings =
+    warnings_by books trees (names_of (members_at (codes "agents") bindings)) (names_of (members_at (codes "variables") bindings))
 
 -- The lines warn of the playbooks, whose trees are these, with these bindings, of all that is above and of nothing else.
 pub record AreWarnings (books : List Book) (trees : List Data) (bindings : Data) (lines : List Text) : Type 0 where

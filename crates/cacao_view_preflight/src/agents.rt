@@ -1,47 +1,37 @@
 // Warnings of agents that are not bound, and of bindings that bind none.
-ghost use Rattle.std.specs.Prelude.{◌≡◌, ◌++◌, not, IfOk, OnOk, map, string_bytes};
-ghost use Rattle.std.specs.List.{flat_map, list_any};
+ghost use Rattle.std.specs.Prelude.{◌≡◌, ◌++◌, ◌&&◌, ◌||◌, [], not, List, IfOk, OnOk, map, string_bytes};
 ghost use Rattle.std.specs.Str.{bytes_eq};
 ghost use Rattle.cacao_json.specs.Tree.{pair_data};
-ghost use Rattle.cacao_view_preflight.specs.Warnings.{agent_line, binding_line, defines, each, has_name, of_agents, of_bindings, warn_if};
+ghost use Rattle.cacao_view_preflight.specs.NameSets.{HasJust, holds};
+ghost use Rattle.cacao_view_preflight.specs.Warnings.{Text as AText, agent_line, all_agents, binding_line, each, names_of, of_agents, of_bindings, of_names, warn_if};
 
+use crate::name_set::NameSet;
 use cacao_book::Book;
 use cacao_json::{Pair, Text};
 use cacao_view_report::Lines;
 use std::alloc::{AllocError, Global};
-
-fn is_among(members: &[Pair], name: &str) -> bool
-    ensures { result ≡ list_any (λ pair. bytes_eq (pair_data pair).0 name.now) members.now }
-{
-    members.iter().any(|pair| pair.name.text() == name)
-}
-
-/// Whether a member has this name.
-pub(crate) fn has_name(members: &[Pair], name: &str) -> bool
-    ensures { result ≡ has_name (map pair_data members.now) name.now }
-{
-    is_among(members, name)
-}
 
 // ---- agents that are not bound
 
 fn agent_line(alloc: Global, n: usize, name: &str) -> Result<String, AllocError>
     ensures { IfOk result (λ line. string_bytes line ≡ agent_line n name.now) }
 {
-    format!(in alloc; "warning: book {n} agent {name} is not bound: it is filter 1\n")
+    format!(in alloc;
+        "warning: book {n} agent {name} is not bound: what goes to it goes to filter 1\n"
+    )
 }
 
-/// Warns of an agent of the playbook with this number, if it is not bound.
-fn add_agent(
+/// Warns of an agent of the playbook with this number, if it is to be warned of.
+fn add_if(
     alloc: Global,
-    bound: &[Pair],
+    is_warned_of: bool,
     n: usize,
     name: &str,
     lines: &mut Lines,
 ) -> Result<(), AllocError>
-    ensures { OnOk result (lines.new ≡ lines.old ++ warn_if (not (has_name (map pair_data bound.now) name.now)) (agent_line n name.now)) }
+    ensures { OnOk result (lines.new ≡ lines.old ++ warn_if is_warned_of (agent_line n name.now)) }
 {
-    if has_name(bound, name) {
+    if !is_warned_of {
         return Ok(());
     }
     let line = agent_line(alloc, n, name)?;
@@ -49,64 +39,75 @@ fn add_agent(
     Ok(())
 }
 
-fn add_agents(
+/// Warns of an agent of the playbook with this number, if it is neither bound nor among those that were met, and adds it to those.
+fn add_agent(
     alloc: Global,
-    bound: &[Pair],
+    bound: &NameSet,
     n: usize,
-    agents: &[Text],
+    name: &str,
+    met: &mut NameSet,
     lines: &mut Lines,
 ) -> Result<(), AllocError>
-    ensures { OnOk result (lines.new ≡ lines.old ++ flat_map (λ name. warn_if (not (has_name (map pair_data bound.now) name)) (agent_line n name)) agents.now) }
+    ensures lines { OnOk result (lines.new ≡ lines.old ++ warn_if (not (holds bound.now name.now) && not (holds met.old name.now)) (agent_line n name.now)) }
+    ensures met { OnOk result ((other : AText) → holds met.new other ≡ (bytes_eq name.now other || holds met.old other)) }
 {
-    for agent in agents {
-        add_agent(alloc, bound, n, agent.text(), lines)?;
+    let is_warned_of = !bound.has(name) && !met.has(name);
+    add_if(alloc, is_warned_of, n, name, lines)?;
+    met.add(alloc, name)?;
+    Ok(())
+}
+
+fn add_agents(
+    alloc: Global,
+    bound: &NameSet,
+    n: usize,
+    names: &[Text],
+    met: &mut NameSet,
+    lines: &mut Lines,
+) -> Result<(), AllocError>
+    ensures lines { OnOk result ((all before : List AText) → HasJust bound.now all → HasJust met.old before → lines.new ≡ lines.old ++ of_names all before n names.now) }
+    ensures met { OnOk result ((before : List AText) → HasJust met.old before → HasJust met.new (before ++ names.now)) }
+{
+    for place in 0..names.len() {
+        add_agent(alloc, bound, n, names[place].text(), met, lines)?;
     }
     Ok(())
 }
 
 fn add_book(
     alloc: Global,
-    bound: &[Pair],
+    bound: &NameSet,
     n: usize,
     book: &Book,
+    met: &mut NameSet,
     lines: &mut Lines,
 ) -> Result<(), AllocError>
-    ensures { OnOk result (lines.new ≡ lines.old ++ of_agents (map pair_data bound.now) n book.now) }
+    ensures lines { OnOk result ((all before : List AText) → HasJust bound.now all → HasJust met.old before → lines.new ≡ lines.old ++ of_names all before n book.now.agents) }
+    ensures met { OnOk result ((before : List AText) → HasJust met.old before → HasJust met.new (before ++ book.now.agents)) }
 {
-    add_agents(alloc, bound, n, book.agents.as_slice(), lines)?;
+    add_agents(alloc, bound, n, book.agents.as_slice(), met, lines)?;
     Ok(())
 }
 
-/// Warns of the agents and targets of playbooks that are not bound.
+/// Warns of the agents and targets of playbooks that are not bound, of each name once. The names of all are those that were met.
 pub(crate) fn warn_of_agents(
     alloc: Global,
-    bound: &[Pair],
+    bound: &NameSet,
     books: &[Book],
+    met: &mut NameSet,
     lines: &mut Lines,
 ) -> Result<(), AllocError>
-    ensures { OnOk result (lines.new ≡ lines.old ++ each (of_agents (map pair_data bound.now)) 0 books.now) }
+    requires { HasJust met.old [] }
+    ensures lines { OnOk result ((all : List AText) → HasJust bound.now all → lines.new ≡ lines.old ++ each (of_agents all books.now) 0 books.now) }
+    ensures met { OnOk result (HasJust met.new (all_agents books.now)) }
 {
     for n in 0..books.len() {
-        add_book(alloc, bound, n, &books[n], lines)?;
+        add_book(alloc, bound, n, &books[n], met, lines)?;
     }
     Ok(())
 }
 
 // ---- bindings that bind none
-
-/// Whether the playbook defines an agent or a target of this name.
-fn defines(name: &str, book: &Book) -> bool
-    ensures { result ≡ defines name.now book.now }
-{
-    let agents = book.agents.as_slice();
-    agents.iter().any(|agent| agent.text() == name)
-}
-
-fn is_defined(name: &str, books: &[Book]) -> bool
-    ensures { result ≡ list_any (defines name.now) books.now }
-{
-    books.iter().any(|book| defines(name, book))
-}
 
 fn binding_line(alloc: Global, name: &str) -> Result<String, AllocError>
     ensures { IfOk result (λ line. string_bytes line ≡ binding_line name.now) }
@@ -117,13 +118,13 @@ fn binding_line(alloc: Global, name: &str) -> Result<String, AllocError>
 /// Warns of a binding, if no playbook defines what it binds.
 fn add_binding(
     alloc: Global,
-    books: &[Book],
+    defined: &NameSet,
     name: &str,
     lines: &mut Lines,
 ) -> Result<(), AllocError>
-    ensures { OnOk result (lines.new ≡ lines.old ++ warn_if (not (list_any (defines name.now) books.now)) (binding_line name.now)) }
+    ensures { OnOk result (lines.new ≡ lines.old ++ warn_if (not (holds defined.now name.now)) (binding_line name.now)) }
 {
-    if is_defined(name, books) {
+    if defined.has(name) {
         return Ok(());
     }
     let line = binding_line(alloc, name)?;
@@ -131,17 +132,17 @@ fn add_binding(
     Ok(())
 }
 
-/// Warns of the bindings of what no playbook defines.
+/// Warns of the bindings of what no playbook defines, by the names of all that they define.
 pub(crate) fn warn_of_bindings(
     alloc: Global,
-    books: &[Book],
+    defined: &NameSet,
     bound: &[Pair],
     lines: &mut Lines,
 ) -> Result<(), AllocError>
-    ensures { OnOk result (lines.new ≡ lines.old ++ of_bindings books.now (map pair_data bound.now)) }
+    ensures { OnOk result ((all : List AText) → HasJust defined.now all → lines.new ≡ lines.old ++ of_bindings all (names_of (map pair_data bound.now))) }
 {
     for pair in bound {
-        add_binding(alloc, books, pair.name.text(), lines)?;
+        add_binding(alloc, defined, pair.name.text(), lines)?;
     }
     Ok(())
 }

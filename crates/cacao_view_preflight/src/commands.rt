@@ -1,20 +1,37 @@
 // Warnings of commands that filters refuse whatever the values are.
-ghost use Rattle.std.specs.Prelude.{◌≡◌, ◌++◌, IfOk, OnOk, string_bytes};
+ghost use Rattle.std.specs.Prelude.{◌≡◌, ◌++◌, codes, decimal, IfOk, OnOk, string_bytes};
 ghost use Rattle.std.specs.List.{flat_map};
-ghost use Rattle.cacao_view_preflight.specs.Warnings.{command_line, each, of_book_commands, of_command, of_commands, refusal_lines, refusal_words};
+ghost use Rattle.cacao_view_preflight.specs.Warnings.{command_line, each, of_book_commands, of_command, of_commands, refusal_lines, refusal_words, sure_words};
 
 use crate::members::step_front;
-use crate::refusals::sure_refusal;
+use crate::refusals::sure_of;
+use crate::sure::Sure;
 use cacao_book::{Book, Step, StepCommand};
 use cacao_check_steps::commands_of;
 use cacao_view_report::Lines;
-use oc2_msg::Refusal;
 use std::alloc::{AllocError, Global};
 
-fn refusal_words(alloc: Global, c: usize, status: u16, text: &str) -> Result<String, AllocError>
-    ensures { IfOk result (λ words. string_bytes words ≡ refusal_words c status text.now) }
+/// What is sure of the answer: the status and its text, where they are.
+fn sure_words(alloc: Global, sure: Sure) -> Result<String, AllocError>
+    ensures { IfOk result (λ words. string_bytes words ≡ sure_words sure) }
 {
-    format!(in alloc; " command {c}: filters answer {status} {text} whatever the values\n")
+    match sure {
+        Sure::Answer(refusal) => answer_words(alloc, refusal.status, refusal.text.text()),
+        Sure::Malformed => String::from_str(alloc, "400"),
+        Sure::Refused => String::from_str(alloc, "400 or 501"),
+    }
+}
+
+fn answer_words(alloc: Global, status: u16, text: &str) -> Result<String, AllocError>
+    ensures { IfOk result (λ words. string_bytes words ≡ decimal status ++ (codes " " ++ text.now)) }
+{
+    format!(in alloc; "{status} {text}")
+}
+
+fn refusal_words(alloc: Global, c: usize, words: &str) -> Result<String, AllocError>
+    ensures { IfOk result (λ line. string_bytes line ≡ refusal_words c words.now) }
+{
+    format!(in alloc; " command {c}: filters answer {words} whatever the values\n")
 }
 
 fn command_line(
@@ -22,11 +39,12 @@ fn command_line(
     n: usize,
     key: &str,
     c: usize,
-    refusal: Refusal,
+    sure: Sure,
 ) -> Result<Vec<u8>, AllocError>
-    ensures { IfOk result (λ line. line.items ≡ command_line n key.now c refusal) }
+    ensures { IfOk result (λ line. line.items ≡ command_line n key.now c sure) }
 {
-    let words = refusal_words(alloc, c, refusal.status, refusal.text.text())?;
+    let answer = sure_words(alloc, sure)?;
+    let words = refusal_words(alloc, c, answer.as_str())?;
     let mut line = step_front(alloc, n, key)?;
     line.extend_from_slice(words.as_bytes())?;
     Ok(line)
@@ -37,15 +55,15 @@ fn add_refusal(
     n: usize,
     key: &str,
     c: usize,
-    refusal: Option<Refusal>,
+    sure: Option<Sure>,
     lines: &mut Lines,
 ) -> Result<(), AllocError>
-    ensures { OnOk result (lines.new ≡ lines.old ++ refusal_lines n key.now c refusal) }
+    ensures { OnOk result (lines.new ≡ lines.old ++ refusal_lines n key.now c sure) }
 {
-    let Some(refusal) = refusal else {
+    let Some(sure) = sure else {
         return Ok(());
     };
-    let line = command_line(alloc, n, key, c, refusal)?;
+    let line = command_line(alloc, n, key, c, sure)?;
     lines.push(line)?;
     Ok(())
 }
@@ -60,8 +78,8 @@ fn add_command(
 ) -> Result<(), AllocError>
     ensures { OnOk result (lines.new ≡ lines.old ++ of_command n key.now c command.now) }
 {
-    let refusal = sure_refusal(alloc, command)?;
-    add_refusal(alloc, n, key, c, refusal, lines)?;
+    let sure = sure_of(alloc, command)?;
+    add_refusal(alloc, n, key, c, sure, lines)?;
     Ok(())
 }
 

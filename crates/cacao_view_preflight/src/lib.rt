@@ -4,12 +4,18 @@
 mod agents;
 mod commands;
 mod flight;
+mod inner_variables;
+mod laws;
 mod members;
+mod name_set;
+mod opens;
 mod refusals;
 mod settled;
 mod step_members;
 mod steps;
+mod sure;
 mod variables;
 mod warning_lines;
 
 pub use flight::preflight;
+pub use laws::sure_answers_law;

@@ -1,16 +1,18 @@
 // Commands that filters refuse whatever the values are.
-ghost use Rattle.std.specs.Prelude.{◌≡◌, ◌≤◌, IfOk, length};
+ghost use Rattle.std.specs.Prelude.{◌≡◌, ◌≤◌, IfOk, length, option_map};
 ghost use Rattle.cacao_json.specs.Tree.{data_of};
 ghost use Rattle.oc2_msg.specs.Commands.{answer_of};
 ghost use Rattle.cacao_view_preflight.specs.Refused.{IsRefusedBy, IsRefusedIn};
-ghost use Rattle.cacao_view_preflight.specs.Settled.{error_of, refusal_of, refused_always, sure_refusal};
+ghost use Rattle.cacao_view_preflight.specs.Settled.{error_of, refusal_of, refused_always, sure_by, sure_for, sure_of};
 
-use crate::settled::{command_settled, is_open_at};
+use crate::opens::{is_open_at, opens_args, opens_target};
+use crate::settled::command_settled;
+use crate::sure::Sure;
 use cacao_book::StepCommand;
 use cacao_check_steps::is_manual;
 use cacao_json::{Tree, find_tree};
 use cacao_text::canonical;
-use oc2_msg::{Command, CommandError, Refusal, read_command};
+use oc2_msg::{Command, CommandError, Reason, Refusal, read_command};
 use std::alloc::{AllocError, Global};
 
 fn refused_by(error: &CommandError) -> Result<Option<Refusal>, AllocError>
@@ -52,25 +54,72 @@ fn refusal_of(alloc: Global, bytes: &[u8]) -> Result<Option<Refusal>, AllocError
     }
 }
 
-/// The refusal that is sure to come, whatever the values are.
-fn refused_always(alloc: Global, tree: &Tree) -> Result<Option<Refusal>, AllocError>
-    ensures { IfOk result (λ refusal. refusal ≡ refused_always (data_of tree.now)) }
+/// What is sure where the command is refused for this reason at best, by whether its action, its target and its arguments are open.
+fn sure_for(action: bool, target: bool, args: bool, refusal: Refusal) -> Sure
+    ensures { result ≡ sure_for action target args refusal.text refusal }
 {
-    if is_open_at(tree, "action") {
-        return Ok(None);
+    match refusal.text {
+        Reason::MalformedCommand => Sure::Answer(refusal),
+        Reason::MalformedArgs => {
+            if action {
+                Sure::Refused
+            } else if target {
+                Sure::Malformed
+            } else {
+                Sure::Answer(refusal)
+            }
+        }
+        Reason::UnsupportedArgs => {
+            if action || target || args {
+                Sure::Refused
+            } else {
+                Sure::Answer(refusal)
+            }
+        }
+        _ => {
+            if action {
+                Sure::Refused
+            } else {
+                Sure::Answer(refusal)
+            }
+        }
     }
+}
+
+/// The same of the command with this tree.
+fn sure_by(tree: &Tree, refusal: Refusal) -> Sure
+    ensures { result ≡ sure_by (data_of tree.now) refusal }
+{
+    sure_for(
+        is_open_at(tree, "action"),
+        opens_target(tree),
+        opens_args(tree),
+        refusal,
+    )
+}
+
+fn sure_if(tree: &Tree, refusal: Option<Refusal>) -> Option<Sure>
+    ensures { result ≡ option_map (sure_by (data_of tree.now)) refusal }
+{
+    match refusal {
+        Some(refusal) => Some(sure_by(tree, refusal)),
+        None => None,
+    }
+}
+
+/// What is sure whatever the values are, if the command is refused always.
+fn refused_always(alloc: Global, tree: &Tree) -> Result<Option<Sure>, AllocError>
+    ensures { IfOk result (λ sure. sure ≡ refused_always (data_of tree.now)) }
+{
     let settled = command_settled(alloc, tree)?;
     let bytes = canonical(alloc, &settled)?;
     let refusal = refusal_of(alloc, bytes.as_slice())?;
-    Ok(refusal)
+    Ok(sure_if(tree, refusal))
 }
 
 /// The same of a command of a step.
-pub(crate) fn sure_refusal(
-    alloc: Global,
-    command: &StepCommand,
-) -> Result<Option<Refusal>, AllocError>
-    ensures { IfOk result (λ refusal. refusal ≡ sure_refusal command.now) }
+pub(crate) fn sure_of(alloc: Global, command: &StepCommand) -> Result<Option<Sure>, AllocError>
+    ensures { IfOk result (λ sure. sure ≡ sure_of command.now) }
 {
     if is_manual(command) {
         return Ok(None);
@@ -81,6 +130,6 @@ pub(crate) fn sure_refusal(
     let Some(tree) = find_tree(alloc, text.text().as_bytes())? else {
         return Ok(None);
     };
-    let refusal = refused_always(alloc, &tree)?;
-    Ok(refusal)
+    let sure = refused_always(alloc, &tree)?;
+    Ok(sure)
 }

@@ -1,61 +1,19 @@
-// Commands whose open texts are set to what fits, and those that are refused even so.
-ghost use Rattle.std.specs.Prelude.{◌≡◌, ◌<◌, ◌^◌, codes, IfOk, OnOk};
-ghost use Rattle.std.specs.List.{list_any};
+// Commands whose open texts are set to what fits.
+ghost use Rattle.std.specs.Prelude.{◌≡◌, ◌<◌, ◌^◌, codes, IfOk, OnOk, option_and_then};
 ghost use Rattle.serde_json.specs.Data.{string};
 ghost use Rattle.oc2_msg_targets.specs.Parts.{whole_data};
+ghost use Rattle.oc2_msg_targets.specs.Words.{kind_named};
+ghost use Rattle.oc2_msg.specs.Commands.{target_part};
 ghost use Rattle.cacao_json.specs.Tree.{data_of};
-ghost use Rattle.cacao_view_preflight.specs.Settled.{args_members, changed, command_members, command_settled, connection_members, features_settled, has_open_item, has_reference, in_object, is_open, is_open_at, set_if_open, settled, slpf_members, target_members, target_settled};
+ghost use Rattle.cacao_view_preflight.specs.Settled.{action_for, args_members, changed, closed_items, command_members, command_settled, connection_members, fitting_action, in_array, in_object, named_settled, set_if_open, settled, slpf_members, target_settled, value_settled};
 
-use cacao_book_shape::items_at;
-use cacao_json::{Items, Pairs, Tree, copy_tree, member, text_of};
-use cacao_vars::find_reference;
-use oc2_msg_targets::{put, text_tree, whole_tree};
+use crate::opens::{is_open, target_part};
+use cacao_json::{Items, Pairs, Tree, copy_tree};
+use oc2_msg_targets::{Action, TargetKind, one_member, put, single, text_tree, whole_tree};
 use std::alloc::{AllocError, Global};
 
 /// The last moment that a command may name.
 const LAST_TIME: u64 = 9_007_199_254_740_991;
-
-fn has_reference(text: &str) -> bool
-    ensures { result ≡ has_reference text.now }
-{
-    match find_reference(text) {
-        Some(_) => true,
-        None => false,
-    }
-}
-
-/// Whether a value is a text with a reference.
-fn is_open(tree: &Tree) -> bool
-    ensures { result ≡ is_open (data_of tree.now) }
-{
-    match text_of(tree) {
-        Some(text) => has_reference(text.text()),
-        None => false,
-    }
-}
-
-/// Whether the value under a name is.
-pub(crate) fn is_open_at(tree: &Tree, name: &str) -> bool
-    ensures { result ≡ is_open_at name.now (data_of tree.now) }
-{
-    match member(tree, name) {
-        Some(value) => is_open(value),
-        None => false,
-    }
-}
-
-fn are_open(items: &[Tree]) -> bool
-    ensures { result ≡ list_any (λ item. is_open (data_of item)) items.now }
-{
-    items.iter().any(|item| is_open(item))
-}
-
-/// Whether an item of the list under a name is.
-fn has_open_item(tree: &Tree, name: &str) -> bool
-    ensures { result ≡ has_open_item name.now (data_of tree.now) }
-{
-    are_open(items_at(tree, name))
-}
 
 fn set_if_open(tree: Tree, fitting: Tree) -> Tree
     ensures { data_of result ≡ set_if_open (data_of fitting) (data_of tree) }
@@ -130,69 +88,66 @@ fn connection(alloc: Global, tree: Tree, net: &str) -> Result<Tree, AllocError>
     }
 }
 
-fn settle_connection(
-    alloc: Global,
-    pairs: &mut Pairs,
-    name: &str,
-    net: &str,
-) -> Result<(), AllocError>
-    ensures { OnOk result (pairs.new ≡ changed name.now (in_object (connection_members net.now)) pairs.old) }
+/// The items that are not open.
+fn closed_items(items: Items) -> Items
+    ensures { result ≡ closed_items items }
 {
-    let Some(found) = pairs.remove(name) else {
-        return Ok(());
-    };
-    let made = connection(alloc, found, net)?;
-    put(alloc, pairs, name, Some(made))?;
-    Ok(())
+    let mut trees = items.into_vec();
+    trees.retain(|tree| !is_open(tree));
+    Items::from_vec(trees)
 }
 
-fn settle_features(alloc: Global, pairs: &mut Pairs, has_open: bool) -> Result<(), AllocError>
-    ensures { OnOk result (pairs.new ≡ features_settled has_open pairs.old) }
-{
-    if !has_open {
-        return Ok(());
-    }
-    put(
-        alloc,
-        pairs,
-        "features",
-        Some(Tree::List(Items::new(alloc))),
-    )?;
-    Ok(())
-}
-
-fn target_members(alloc: Global, pairs: &mut Pairs, has_open: bool) -> Result<(), AllocError>
-    ensures { OnOk result (pairs.new ≡ target_members has_open pairs.old) }
-{
-    settle_text(alloc, pairs, "ipv4_net", "0.0.0.0")?;
-    settle_text(alloc, pairs, "ipv6_net", "::")?;
-    settle_number(alloc, pairs, "slpf:rule_number", 1)?;
-    settle_connection(alloc, pairs, "ipv4_connection", "0.0.0.0")?;
-    settle_connection(alloc, pairs, "ipv6_connection", "::")?;
-    settle_features(alloc, pairs, has_open)?;
-    Ok(())
-}
-
-#[tactic(auto, using(crate::proofs::ChangeLemmas::other_stays))]
-fn target_with(alloc: Global, tree: Tree, has_open: bool) -> Result<Tree, AllocError>
-    ensures { IfOk result (λ t. data_of t ≡ in_object (target_members has_open) (data_of tree)) }
+#[tactic(auto, using(crate::proofs::ChangeLemmas::other_items_stay))]
+fn features(tree: Tree) -> Tree
+    ensures { data_of result ≡ in_array closed_items (data_of tree) }
 {
     match tree {
-        Tree::Members(pairs) => {
-            let mut pairs = pairs;
-            target_members(alloc, &mut pairs, has_open)?;
-            Ok(Tree::Members(pairs))
-        }
-        other => Ok(other),
+        Tree::List(items) => Tree::List(closed_items(items)),
+        other => other,
     }
 }
 
-fn target(alloc: Global, tree: Tree) -> Result<Tree, AllocError>
-    ensures { IfOk result (λ t. data_of t ≡ target_settled (data_of tree)) }
+fn net(alloc: Global, tree: Tree, fitting: &str) -> Result<Tree, AllocError>
+    ensures { IfOk result (λ t. data_of t ≡ set_if_open (string fitting.now) (data_of tree)) }
 {
-    let has_open = has_open_item(&tree, "features");
-    let settled = target_with(alloc, tree, has_open)?;
-    Ok(settled)
+    let fitting = text_tree(alloc, fitting)?;
+    Ok(set_if_open(tree, fitting))
+}
+
+/// The value of a target of this kind, its open texts set to what fits.
+fn value_settled(alloc: Global, kind: TargetKind, tree: Tree) -> Result<Tree, AllocError>
+    ensures { IfOk result (λ t. data_of t ≡ value_settled kind (data_of tree)) }
+{
+    match kind {
+        TargetKind::Ipv4Net => net(alloc, tree, "0.0.0.0"),
+        TargetKind::Ipv6Net => net(alloc, tree, "::"),
+        TargetKind::Ipv4Connection => connection(alloc, tree, "0.0.0.0"),
+        TargetKind::Ipv6Connection => connection(alloc, tree, "::"),
+        TargetKind::RuleNumber => Ok(set_if_open(tree, whole_tree(1))),
+        TargetKind::File => Ok(tree),
+        TargetKind::Features => Ok(features(tree)),
+    }
+}
+
+fn named_settled(alloc: Global, name: &str, tree: Tree) -> Result<Tree, AllocError>
+    ensures { IfOk result (λ t. data_of t ≡ named_settled name.now (data_of tree)) }
+{
+    match TargetKind::read(name) {
+        Some(kind) => value_settled(alloc, kind, tree),
+        None => Ok(tree),
+    }
+}
+
+fn target(alloc: Global, tree: &Tree) -> Result<Tree, AllocError>
+    ensures { IfOk result (λ t. data_of t ≡ target_settled (data_of tree.now)) }
+{
+    let Some((name, value)) = single(tree) else {
+        return copy_tree(alloc, tree);
+    };
+    let copy = copy_tree(alloc, value)?;
+    let settled = named_settled(alloc, name, copy)?;
+    let made = one_member(alloc, name, settled)?;
+    Ok(made)
 }
 
 fn settle_target(alloc: Global, pairs: &mut Pairs) -> Result<(), AllocError>
@@ -201,7 +156,7 @@ fn settle_target(alloc: Global, pairs: &mut Pairs) -> Result<(), AllocError>
     let Some(found) = pairs.remove("target") else {
         return Ok(());
     };
-    let made = target(alloc, found)?;
+    let made = target(alloc, &found)?;
     put(alloc, pairs, "target", Some(made))?;
     Ok(())
 }
@@ -280,23 +235,53 @@ fn settle_args(alloc: Global, pairs: &mut Pairs) -> Result<(), AllocError>
 
 // ---- the command
 
-fn command_members(alloc: Global, pairs: &mut Pairs) -> Result<(), AllocError>
-    ensures { OnOk result (pairs.new ≡ command_members pairs.old) }
+/// The action that fits a target of this kind.
+fn action_for(kind: TargetKind) -> Action
+    ensures { result ≡ action_for kind }
+{
+    match kind {
+        TargetKind::RuleNumber => Action::Delete,
+        TargetKind::File => Action::Update,
+        TargetKind::Features => Action::Query,
+        _ => Action::Deny,
+    }
+}
+
+fn kind_of(tree: &Tree) -> Option<TargetKind>
+    ensures { result ≡ option_and_then (λ m. kind_named m.0) (target_part (data_of tree.now)) }
+{
+    let (name, _) = target_part(tree)?;
+    TargetKind::read(name)
+}
+
+/// The action that fits the target of a command.
+fn fitting_action(tree: &Tree) -> Action
+    ensures { result ≡ fitting_action (data_of tree.now) }
+{
+    match kind_of(tree) {
+        Some(kind) => action_for(kind),
+        None => Action::Deny,
+    }
+}
+
+fn command_members(alloc: Global, pairs: &mut Pairs, fitting: Action) -> Result<(), AllocError>
+    ensures { OnOk result (pairs.new ≡ command_members fitting pairs.old) }
 {
     let _ = pairs.remove("command_id");
+    settle_text(alloc, pairs, "action", fitting.word())?;
     settle_target(alloc, pairs)?;
     settle_args(alloc, pairs)?;
     Ok(())
 }
 
 #[tactic(auto, using(crate::proofs::ChangeLemmas::other_stays))]
-fn command(alloc: Global, tree: Tree) -> Result<Tree, AllocError>
-    ensures { IfOk result (λ t. data_of t ≡ in_object command_members (data_of tree)) }
+fn command(alloc: Global, tree: Tree, fitting: Action) -> Result<Tree, AllocError>
+    ensures { IfOk result (λ t. data_of t ≡ in_object (command_members fitting) (data_of tree)) }
 {
     match tree {
         Tree::Members(pairs) => {
             let mut pairs = pairs;
-            command_members(alloc, &mut pairs)?;
+            command_members(alloc, &mut pairs, fitting)?;
             Ok(Tree::Members(pairs))
         }
         other => Ok(other),
@@ -308,6 +293,6 @@ pub(crate) fn command_settled(alloc: Global, tree: &Tree) -> Result<Tree, AllocE
     ensures { IfOk result (λ t. data_of t ≡ command_settled (data_of tree.now)) }
 {
     let copy = copy_tree(alloc, tree)?;
-    let settled = command(alloc, copy)?;
+    let settled = command(alloc, copy, fitting_action(tree))?;
     Ok(settled)
 }

@@ -1,4 +1,5 @@
 pub mod Asked
+pub mod Options
 pub mod Requests
 pub mod Rules
 pub mod Texts

@@ -2,7 +2,8 @@
 use Rattle.std.specs.Prelude.{Bool, true, false, not, ◌&&◌, ◌==◌, nat_lt, nat_le, List, [], ◌∷◌, length, Option, Some, None, codes, if◌then◌else◌}
 use Rattle.std.specs.List.{list_all}
 use Rattle.std.specs.Str.{bytes_eq}
-use Rattle.cacao_view_words.specs.Rules.{NamedRule, rule_in}
+use Rattle.cacao_cli_words.specs.Words.{Reading, begins_hyphen, read, value_in}
+use Rattle.cacao_view_words.specs.Rules.{NamedRule, is_like_rule, rule_in}
 use Rattle.cacao_view_words.specs.Texts.{Text}
 use Rattle.cacao_view_words.specs.Topics.{Named, first_named, named, topic_in}
 use Rattle.cacao_view_words.specs.declared.topic.Topic.{Topic}
@@ -16,6 +17,7 @@ pub data Request : Type 0 where
   tells_version : Request
   logs : (as_json : Bool) (engine : Option Text) → Request  -- the file of the disk where none is named
   graphs : (books : List Text) → Request
+  graphs_run : Request  -- that of the disk's file
   explains : (rule : NamedRule) → Request
   explains_books : (books : List Text) → Request
   preflights : (bind : Option Text) (books : List Text) → Request  -- with the bindings in this file
@@ -37,10 +39,6 @@ abbrev pub version_asks : List Text → Request
 version_asks [] = tells_version
 version_asks (name ∷ names) = lacks want.NoMore
 
-abbrev pub begins_hyphen : Text → Bool
-begins_hyphen [] = false
-begins_hyphen (c ∷ cs) = c == 45
-
 -- the name of a file has 1 to 1,024 bytes and begins with no hyphen
 abbrev pub is_name : Text → Bool
 is_name word = nat_lt 0 (length word) && (nat_le (length word) 1024 && not (begins_hyphen word))
@@ -59,15 +57,19 @@ log_asks (first ∷ second ∷ []) =
     if is_json first then logs_file true second else (if is_json second then logs_file true first else lacks want.Log)
 log_asks (first ∷ second ∷ third ∷ names) = lacks want.Log
 
--- the names of the files of playbooks, at least one
+-- the names of the files of playbooks; where none is named, the run of the disk's file
 abbrev pub graph_asks : List Text → Request
-graph_asks [] = lacks want.Graph
+graph_asks [] = graphs_run
 graph_asks (book ∷ libraries) = if is_name book && list_all is_name libraries then graphs (book ∷ libraries) else lacks want.Graph
+
+-- the name of a file that is not like that of a rule; a file of such a name has `./` before it
+abbrev pub is_book : Text → Bool
+is_book word = is_name word && not (is_like_rule word)
 
 abbrev pub explain_books_asks : List Text → Request
 explain_books_asks [] = lacks want.Rule
 explain_books_asks (book ∷ libraries) =
-    if is_name book && list_all is_name libraries then explains_books (book ∷ libraries) else lacks want.Rule
+    if is_book book && list_all is_book libraries then explains_books (book ∷ libraries) else lacks want.Rule
 
 -- the rule, or the playbook where the name is no rule's
 abbrev pub rule_or_book : Text → Option NamedRule → Request
@@ -80,20 +82,17 @@ explain_asks [] = lacks want.Rule
 explain_asks (name ∷ []) = rule_or_book name (rule_in name)
 explain_asks (name ∷ other ∷ names) = explain_books_asks (name ∷ other ∷ names)
 
-abbrev pub preflight_books_asks : Option Text → List Text → Request
-preflight_books_asks bind [] = lacks want.Playbook
-preflight_books_asks bind (book ∷ libraries) =
-    if is_name book && list_all is_name libraries then preflights bind (book ∷ libraries) else lacks want.Playbook
+abbrev pub preflight_books : Option Text → List Text → Request
+preflight_books bind [] = lacks want.Playbook
+preflight_books bind (book ∷ libraries) = preflights bind (book ∷ libraries)
 
-abbrev pub bound_asks : List Text → Request
-bound_asks [] = lacks want.Playbook
-bound_asks (bind ∷ books) = if is_name bind then preflight_books_asks (Some bind) books else lacks want.Playbook
+abbrev pub preflight_of : Option Reading → Request
+preflight_of None = lacks want.Playbook
+preflight_of (Some r) = preflight_books (value_in (codes "bind") r.options) r.names
 
--- the names of the files of playbooks, at least one, and before them `--bind` and the name of a file, or not
+-- the option `--bind` and names of playbooks, at least one, as the words behind `run` are read
 abbrev pub preflight_asks : List Text → Request
-preflight_asks [] = lacks want.Playbook
-preflight_asks (word ∷ names) =
-    if bytes_eq word (codes "--bind") then bound_asks names else preflight_books_asks None (word ∷ names)
+preflight_asks words = preflight_of (read (codes "bind" ∷ []) words)
 
 -- what the names behind a first word ask for
 abbrev pub commands : List (Named (List Text → Request))

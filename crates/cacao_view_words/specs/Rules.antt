@@ -1,5 +1,6 @@
 -- Promise: The rules that are explained, and what is said of each.
-use Rattle.std.specs.Prelude.{ℕ, ◌+◌, nat_le, ◌==◌, List, [], ◌∷◌, Option, Some, None, map, option_map, option_and_then, if◌then◌else◌}
+use Rattle.std.specs.Prelude.{ℕ, ◌+◌, nat_le, ◌==◌, Bool, false, ◌&&◌, ◌||◌, List, [], ◌∷◌, Option, Some, None, map, option_map, option_and_then, if◌then◌else◌}
+use Rattle.std.specs.List.{list_all}
 use Rattle.base_decimals.specs.Numbers.{number}
 use Rattle.cacao_view_words.specs.Texts.{Text}
 use Rattle.cacao_view_words.specs.declared.rule_texts.TheConstants.{K1, K2, K3, K4, K5, K6, K7, K8, K9, K10, K11, K12, K13}
@@ -29,6 +30,22 @@ rule_in [] = None
 rule_in (letter ∷ digits) =
     if letter == 75 then option_map book_rule (numbered 25 digits)
     else (if letter == 66 then option_map bind_rule (numbered 3 digits) else None)
+
+abbrev pub is_rule_letter : ℕ → Bool
+is_rule_letter letter = (letter == 75 || letter == 107) || (letter == 66 || letter == 98)
+
+abbrev pub is_digit : ℕ → Bool
+is_digit c = nat_le 48 c && nat_le c 57
+
+-- digits, at least one
+abbrev pub are_digits : Text → Bool
+are_digits [] = false
+are_digits (c ∷ cs) = list_all is_digit (c ∷ cs)
+
+-- a letter of the names of rules, small or not, and digits
+abbrev pub is_like_rule : Text → Bool
+is_like_rule [] = false
+is_like_rule (letter ∷ digits) = is_rule_letter letter && are_digits digits
 
 -- the lines at this number, from this one on
 abbrev pub lines_at : ℕ → ℕ → List (List Text) → List Text

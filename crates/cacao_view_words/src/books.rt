@@ -1,81 +1,40 @@
-// What names of playbooks ask for behind `explain` and `preflight`.
+// What names of playbooks ask for behind `explain`.
 ghost use Rattle.std.specs.Prelude.{◌≡◌, ◌∷◌, map, string_bytes};
-ghost use Rattle.cacao_view_words.specs.Asked.{maybe_text, request_by};
-ghost use Rattle.cacao_view_words.specs.Requests.{bound_asks, explain_books_asks, preflight_asks, preflight_books_asks};
+ghost use Rattle.std.specs.List.{list_all};
+ghost use Rattle.cacao_view_words.specs.Asked.{request_by};
+ghost use Rattle.cacao_view_words.specs.Requests.{explain_books_asks, is_book};
 
+use crate::rule::is_like_rule;
 use crate::wanted::Wanted;
-use crate::words::{Request, are_names, is_name};
+use crate::words::{Request, is_name};
 
 /// The first break of the playbooks in the files of these names is asked for, if each is a name.
 pub(crate) fn explain_books_asks<'w>(book: &'w str, libraries: &'w [String]) -> Request<'w>
     ensures { request_by result ≡ explain_books_asks (book.entry.now ∷ map string_bytes libraries.entry.now) }
 {
-    if is_name(book.as_bytes()) && are_names(libraries) {
+    if is_book(book.as_bytes()) && are_books(libraries) {
         Request::ExplainBooks { book, libraries }
     } else {
         Request::Lacks(Wanted::Rule)
     }
 }
 
-/// What a run of the playbooks in the files of these names would come to is asked for, if each is a name.
-fn preflight_books_asks<'w>(
-    bind: Option<&'w str>,
-    book: &'w str,
-    libraries: &'w [String],
-) -> Request<'w>
-    ensures { request_by result ≡ preflight_books_asks (maybe_text bind.entry) (book.entry.now ∷ map string_bytes libraries.entry.now) }
+/// Whether this is the name of a file, and is not like that of a rule.
+fn is_book(word: &[u8]) -> bool
+    ensures { result ≡ is_book word.now }
 {
-    if is_name(book.as_bytes()) && are_names(libraries) {
-        Request::Preflight {
-            bind,
-            book,
-            libraries,
-        }
-    } else {
-        Request::Lacks(Wanted::Playbook)
-    }
+    is_name(word) && !is_like_rule(word)
 }
 
-/// What the name of bindings, and behind it names of playbooks ask for.
-fn bound_asks<'w>(bind: &'w str, names: &'w [String]) -> Request<'w>
-    ensures { request_by result ≡ bound_asks (bind.entry.now ∷ map string_bytes names.entry.now) }
+/// Whether each of these is.
+fn are_books(names: &[String]) -> bool
+    ensures { result ≡ list_all is_book (map string_bytes names.now) }
 {
-    if !is_name(bind.as_bytes()) {
-        return Request::Lacks(Wanted::Playbook);
-    }
-    match names {
-        [] => Request::Lacks(Wanted::Playbook),
-        [book, libraries @ ..] => preflight_books_asks(Some(bind), book.as_str(), libraries),
-    }
+    each_is_book(names)
 }
 
-/// What the words behind `--bind` ask for.
-fn behind_bind<'w>(names: &'w [String]) -> Request<'w>
-    ensures { request_by result ≡ bound_asks (map string_bytes names.entry.now) }
+fn each_is_book(names: &[String]) -> bool
+    ensures { result ≡ list_all (λ name. is_book (string_bytes name)) names.now }
 {
-    match names {
-        [] => Request::Lacks(Wanted::Playbook),
-        [bind, names @ ..] => bound_asks(bind.as_str(), names),
-    }
-}
-
-/// What a word behind `preflight` asks for, and the words behind it.
-fn word_asks<'w>(word: &'w str, names: &'w [String]) -> Request<'w>
-    ensures { request_by result ≡ preflight_asks (word.entry.now ∷ map string_bytes names.entry.now) }
-{
-    if word == "--bind" {
-        behind_bind(names)
-    } else {
-        preflight_books_asks(None, word, names)
-    }
-}
-
-/// What the words behind `preflight` ask for.
-pub(crate) fn preflight_asks<'w>(names: &'w [String]) -> Request<'w>
-    ensures { request_by result ≡ preflight_asks (map string_bytes names.entry.now) }
-{
-    match names {
-        [] => Request::Lacks(Wanted::Playbook),
-        [word, names @ ..] => word_asks(word.as_str(), names),
-    }
+    names.iter().all(|name| is_book(name.as_bytes()))
 }

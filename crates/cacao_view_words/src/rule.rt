@@ -1,8 +1,9 @@
 // The rules that are explained.
 ghost use Rattle.std.specs.Prelude.{◌≡◌, ◌≤◌, option_map};
+ghost use Rattle.std.specs.List.{list_all};
 ghost use Rattle.cacao_view_words.specs.Texts.{AreLines, lines_in};
 ghost use Rattle.base_decimals.specs.Numbers.{number};
-ghost use Rattle.cacao_view_words.specs.Rules.{bind_lines, book_lines, numbered, rule_in, rule_of, rule_lines};
+ghost use Rattle.cacao_view_words.specs.Rules.{are_digits, bind_lines, book_lines, is_digit, is_like_rule, is_rule_letter, numbered, rule_in, rule_of, rule_lines};
 
 use crate::rule_texts::{
     B1, B2, B3, K1, K2, K3, K4, K5, K6, K7, K8, K9, K10, K11, K12, K13, K14, K15, K16, K17, K18,
@@ -60,6 +61,41 @@ fn numbered(digits: &[u8], most: u64) -> Option<u8>
     } else {
         None
     }
+}
+
+/// Whether a word is a letter of the names of rules, small or not, and digits.
+pub(crate) fn is_like_rule(word: &[u8]) -> bool
+    ensures { result ≡ is_like_rule word.now }
+{
+    match word {
+        [letter, digits @ ..] => is_rule_letter(*letter) && are_digits(digits),
+        [] => false,
+    }
+}
+
+fn is_rule_letter(letter: u8) -> bool
+    ensures { result ≡ is_rule_letter letter }
+{
+    (letter == b'K' || letter == b'k') || (letter == b'B' || letter == b'b')
+}
+
+/// Whether these are digits, at least one.
+fn are_digits(text: &[u8]) -> bool
+    ensures { result ≡ are_digits text.now }
+{
+    !text.is_empty() && each_is_digit(text)
+}
+
+fn each_is_digit(text: &[u8]) -> bool
+    ensures { result ≡ list_all is_digit text.now }
+{
+    text.iter().all(|c| is_digit(*c))
+}
+
+fn is_digit(c: u8) -> bool
+    ensures { result ≡ is_digit c }
+{
+    b'0' <= c && c <= b'9'
 }
 
 /// What is said of a rule of playbooks; nothing where there is none of this number.

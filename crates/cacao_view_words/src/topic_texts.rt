@@ -18,6 +18,7 @@ pub(crate) const ALL_WORDS: &[&str] = &[
     "cacao-view version: says the version, and of which standards, as in: cacao-view version\n",
     "cacao-view log [--json] [ENGINE]: says the records of a run again, as in: cacao-view log --json\n",
     "cacao-view graph BOOK [LIBRARY..]: says playbooks as a picture in DOT, as in: cacao-view graph a.json\n",
+    "cacao-view graph: says the run that engine.journal keeps as such a picture, as in: cacao-view graph\n",
     "cacao-view explain RULE: says a rule and how a break of it is usually mended, as in: cacao-view explain K22\n",
     "cacao-view explain BOOK [LIBRARY..]: says where the first break of playbooks is, and what is at fault, as in: cacao-view explain a.json b.json\n",
     "cacao-view preflight [--bind FILE] BOOK [LIBRARY..]: says what cacao run would refuse, and warns of what it would take, as in: cacao-view preflight a.json\n",
@@ -136,6 +137,9 @@ pub(crate) const GRAPH: &[&str] = &[
     "cacao-view graph BOOK [LIBRARY..]\n",
     "Says the playbooks, where they together break none of the rules K1 to K25, as a picture in DOT, the language of Graphviz: cacao-view graph a.json | dot -Tsvg -o a.svg. Each playbook and each region of a control step is a cluster, each step a node, each link an edge. At most 16 playbooks. It reads their files and no other.\n",
     "Status 0: it was said. 1, 3, 4, 5 and 11: as for cacao check.\n",
+    "cacao-view graph\n",
+    "Says the run that engine.journal in this folder keeps as such a picture of its playbooks: each step with how often it was walked, the tasks that stand there or ended failed there, and the issues that were sent from it, as cacao show says them; a step that was never walked is pale.\n",
+    "Status 0: it was said. 8, 11 and 13: as for cacao show.\n",
     "Status 2: the words were not understood. 9: a line could not be written. 10: memory was wanted.\n",
 ];
 
@@ -144,15 +148,16 @@ pub(crate) const EXPLAIN: &[&str] = &[
     "Says the sentence of a rule, K1 to K25 of playbooks or B1 to B3 of bindings, and how a break of it is usually mended, a line each. cacao check and cacao run name the rule that is broken.\n",
     "Status 0: it was said. 9: a line could not be written. 10: memory was wanted.\n",
     "cacao-view explain BOOK [LIBRARY..]\n",
-    "Says what cacao check says of these playbooks, and before it what is at fault and where: the step and its name, the member or the link, its line and column, and the rule; of a text that is not JSON where, and what was expected. A playbook whose file has a rule's name is given as ./K22.\n",
+    "Says what cacao check says of these playbooks, and before it what is at fault and where: the step and its name, the member or the link, its line and column, and the rule; of a text that is not JSON where, and what was expected. A playbook whose file has the name of a rule, or a letter K, k, B or b and digits, is given as ./K22.\n",
+    "What breaks K13 or K18, which hold only where a playbook is to be run, or a rule of bindings, is told by cacao-view preflight, without a place.\n",
     "Status 0, 1, 3, 4, 5, 9, 10 and 11: as for cacao check. 2: the words were not understood.\n",
 ];
 
 pub(crate) const PREFLIGHT: &[&str] = &[
     "cacao-view preflight [--bind FILE] BOOK [LIBRARY..]\n",
-    "Says what cacao run would refuse before its first record, with these playbooks and these bindings, as run would say it. Else warns, a line each: an agent that is not bound, a binding of an agent that no playbook defines, an external variable without a value, a command that filters refuse whatever the values are, a member of a step that CACAO does not name, a step that no path reaches. It opens no file of a run.\n",
-    "--bind FILE: which agent is which filter, 1 to 16, and texts of external variables; it stands before the playbooks.\n",
-    "Status 0: cacao run would begin; the last line has the number of warnings. 1: a rule K1 to K25 or B1 to B3 is broken. 3, 4, 5 and 11: as for cacao check, of the first file at fault.\n",
+    "Says what cacao run would refuse of these playbooks and these bindings before its first record, as run would say it. Else warns, a line each: an agent that is not bound, a binding of an agent that no playbook defines, an external variable that nothing gives a value, a command that filters refuse whatever the values are, a member of a step that CACAO does not name, a step that no path reaches. It opens no file of a run.\n",
+    "--bind FILE: which agent is which filter, 1 to 16, and texts of external variables of BOOK. --bind FILE, --bind=FILE and -- may stand where cacao run takes them.\n",
+    "Status 0: by these files alone cacao run would begin, and only what its folder holds may still refuse it (another run, damaged files, a run number that is used); the last line has the number of warnings. 1: a rule K1 to K25 or B1 to B3 is broken. 3, 4, 5 and 11: as for cacao check, of the first file at fault.\n",
     "Status 2: the words were not understood. 9: a line could not be written. 10: memory was wanted.\n",
 ];
 

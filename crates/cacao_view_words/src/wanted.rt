@@ -20,7 +20,7 @@ pub(crate) const WANTED_LOG: &str =
 
 /// And where names of playbooks alone may stand.
 pub(crate) const WANTED_GRAPH: &str =
-    "words not understood: graph takes the name of a playbook, and then those of others\n";
+    "words not understood: graph takes no word more, or the name of a playbook and then those of others\n";
 
 /// And where a rule or playbooks are wanted.
 pub(crate) const WANTED_RULE: &str =
@@ -28,7 +28,7 @@ pub(crate) const WANTED_RULE: &str =
 
 /// And where playbooks are wanted behind `preflight`.
 pub(crate) const WANTED_PLAYBOOK: &str =
-    "words not understood: preflight takes names of playbooks, and before them --bind and the name of bindings, or not\n";
+    "words not understood: preflight takes names of playbooks, and --bind with the name of bindings at most once\n";
 
 /// What was wanted where the words have no reading.
 #[derive(Clone, Copy)]

@@ -5,14 +5,16 @@ ghost use Rattle.cacao_view_words.specs.Asked.{request_by};
 ghost use Rattle.cacao_view_words.specs.Requests.{explain_asks, first_asks, graph_asks, help_asks, is_name, request, rule_or_book, version_asks};
 ghost use Rattle.cacao_view_words.specs.Rules.{rule_in};
 
-use crate::books::{explain_books_asks, preflight_asks};
+use crate::book_words::BookWords;
+use crate::books::explain_books_asks;
 use crate::log::log_asks;
+use crate::options::preflight_asks;
 use crate::rule::{Rule, rule_in};
 use crate::topic::{Topic, topic_in};
 use crate::wanted::Wanted;
 
 /// The most bytes of the name of a file.
-const NAME_LIMIT: usize = 1024;
+pub(crate) const NAME_LIMIT: usize = 1024;
 
 /// What the words ask the program to do.
 #[derive(Clone, Copy)]
@@ -33,6 +35,8 @@ pub enum Request<'w> {
         book: &'w str,
         libraries: &'w [String],
     },
+    /// To say the picture of the run in the engine's file of the disk.
+    GraphRun,
     /// To say this rule, and how a break of it is usually mended.
     Explain(Rule),
     /// To tell of the first break of the playbook in the file of this name, and of those that it may call.
@@ -40,11 +44,10 @@ pub enum Request<'w> {
         book: &'w str,
         libraries: &'w [String],
     },
-    /// To tell what a run of such playbooks would come to, with the bindings in the file of this name.
+    /// To tell what a run of the playbooks in the files of these names would come to, with the bindings in the file of this name.
     Preflight {
         bind: Option<&'w str>,
-        book: &'w str,
-        libraries: &'w [String],
+        books: BookWords<'w>,
     },
     /// To say what was wanted, since the words have no reading.
     Lacks(Wanted),
@@ -122,7 +125,7 @@ fn graph_asks<'w>(names: &'w [String]) -> Request<'w>
     ensures { request_by result ≡ graph_asks (map string_bytes names.entry.now) }
 {
     match names {
-        [] => Request::Lacks(Wanted::Graph),
+        [] => Request::GraphRun,
         [book, libraries @ ..] => books_asked(book.as_str(), libraries),
     }
 }
@@ -139,7 +142,7 @@ fn books_asked<'w>(book: &'w str, libraries: &'w [String]) -> Request<'w>
 }
 
 /// Whether each of these is the name of a file.
-pub(crate) fn are_names(names: &[String]) -> bool
+fn are_names(names: &[String]) -> bool
     ensures { result ≡ list_all is_name (map string_bytes names.now) }
 {
     each_is_name(names)

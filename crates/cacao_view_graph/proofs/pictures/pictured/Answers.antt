@@ -8,4 +8,4 @@ pub drawn_lines-requires-clause-read : goal.drawn_lines-requires-clause-read
 drawn_lines-requires-clause-read c = c.requires.read ∙ sym (books_same (map drawn_book c.args.placed.now) (map data_of c.args.trees.now) c.requires.drawn.trees_are)
 
 pub returns : goal.returns
-returns c = (map drawn_book c.args.placed.now, c.requires.drawn, c.in_ok-lines.ensures)
+returns c = (map drawn_book c.args.placed.now, c.requires.drawn, c.requires.marked, c.in_ok-lines.ensures)

@@ -1,7 +1,12 @@
-use Rattle.std.proofs.Common.{map, take}
+use Rattle.std.proofs.Common.{◌≡◌, length, map, take}
 use Rattle.cacao_json.specs.Tree.{pair_data}
+use Rattle.cacao_view_graph.specs.Pictures.{AreStepsMarked}
 use Rattle.cacao_view_graph.specs.Placing.{AreDrawnOf, drawn_of}
 use Rattle.cacao_view_graph.proofs.placing.placed_steps.Given as goal
 
 abbrev pub invariant-loop-place : goal.invariant-loop-place
-invariant-loop-place l = AreDrawnOf l.book (map pair_data (take l.place l.pairs)) (map drawn_of l.steps.items)
+invariant-loop-place l = record {
+  count : length l.steps.items ≡ l.place;
+  drawn : AreDrawnOf l.book (map pair_data (take l.place l.pairs)) (map drawn_of l.steps.items);
+  marked : AreStepsMarked l.marks l.number (map drawn_of l.steps.items);
+}

@@ -1,11 +1,8 @@
-use Rattle.std.proofs.Common.{◌≡◌, ◌++◌, drop, map}
-use Rattle.std.specs.List.{flat_map}
-use Rattle.std.specs.Prelude.{not}
-use Rattle.cacao_json.specs.Tree.{pair_data}
-use Rattle.cacao_view_preflight.specs.Warnings.{agent_line, has_name, warn_if}
+use Rattle.std.proofs.Common.{◌≡◌, ◌++◌, List, drop, take}
+use Rattle.cacao_view_preflight.specs.NameSets.{HasJust}
+use Rattle.cacao_view_preflight.specs.Warnings.{Text, agent_line, each, is_first_unbound, of_names, warn_if}
+use Rattle.cacao_view_preflight.proofs.AgentLemmas.{Told}
 use Rattle.cacao_view_preflight.proofs.agents.add_agents.Given as goal
 
-abbrev pub invariant-loop-agent : goal.invariant-loop-agent
-invariant-loop-agent l =
-    l.lines ++ flat_map (λ name. warn_if (not (has_name (map pair_data l.bound) name)) (agent_line l.n name)) (drop l.agent-index l.agents)
-    ≡ l.fn.lines ++ flat_map (λ name. warn_if (not (has_name (map pair_data l.bound) name)) (agent_line l.n name)) l.agents
+abbrev pub invariant-loop-place : goal.invariant-loop-place
+invariant-loop-place l = Told l.bound l.fn.met l.met l.n l.names l.place l.fn.lines l.lines

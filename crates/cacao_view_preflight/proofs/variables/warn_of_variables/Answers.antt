@@ -1,13 +1,17 @@
-use Rattle.std.proofs.Common.{◌++◌, List, map}
-use Rattle.std.specs.List.{flat_map}
-use Rattle.cacao_json.specs.Tree.{pair_data}
-use Rattle.cacao_vars.specs.declared.declarations.Var.{Var}
-use Rattle.cacao_view_preflight.specs.Warnings.{Text, lacks_value, variable_line, warn_if}
-use Rattle.cacao_view_preflight.proofs.EachLemmas.{added_next}
+-- One playbook more was told.
+use Rattle.std.proofs.Common.{◌++◌, refl}
+use Rattle.cacao_view_preflight.specs.Warnings.{each, of_book_variables}
+use Rattle.cacao_view_preflight.proofs.EachLemmas.{each_all, each_next}
 use Rattle.cacao_view_preflight.proofs.variables.warn_of_variables.Goals as goal
 
-pub loop-var-preserved : goal.loop-var-preserved
-loop-var-preserved c =
-    let make : Var → List Text = λ var. warn_if (lacks_value (map pair_data c.args.bound.now) var) (variable_line var.name) in
-    added_next make c.args.vars.now c.loop-var.var-index c.var-item.result c.loop-var.lines c.add_variable.new.lines (c.args.lines.now ++ flat_map make c.args.vars.now) c.loop-var-test.true c.var-item.is
-    c.in_ok-add_variable.ensures c.loop-var.invariant
+pub loop-n-init : goal.loop-n-init
+loop-n-init c = λ all just. refl
+
+pub loop-n-preserved : goal.loop-n-preserved
+loop-n-preserved c = λ all just.
+    each_next (of_book_variables all c.args.books.now) c.args.books.now c.loop-n.n c.index-books-n.result c.loop-n.lines c.add_book.new.lines (c.args.lines.now ++ each (of_book_variables all c.args.books.now) 0 c.args.books.now)
+    c.loop-n-test.true c.index-books-n.is (c.in_ok-add_book.ensures all just) (c.loop-n.invariant all just)
+
+pub returns : goal.returns
+returns c = λ all just.
+    each_all (of_book_variables all c.args.books.now) c.args.books.now c.loop-n.n c.loop-n.lines (c.args.lines.now ++ each (of_book_variables all c.args.books.now) 0 c.args.books.now) c.loop-n-test.false (c.loop-n.invariant all just)

@@ -1,8 +1,8 @@
-use Rattle.std.proofs.Common.{◌≡◌, ◌++◌, drop, map}
-use Rattle.cacao_json.specs.Tree.{pair_data}
-use Rattle.cacao_view_preflight.specs.Warnings.{of_variables}
+use Rattle.std.proofs.Common.{◌≡◌, ◌++◌, List, drop}
+use Rattle.cacao_view_preflight.specs.NameSets.{HasJust}
+use Rattle.cacao_view_preflight.specs.Warnings.{Text, each, of_book_variables}
 use Rattle.cacao_view_preflight.proofs.variables.warn_of_variables.Given as goal
 
-abbrev pub invariant-loop-var : goal.invariant-loop-var
-invariant-loop-var l =
-    l.lines ++ of_variables (map pair_data l.bound) (drop l.var-index l.vars) ≡ l.fn.lines ++ of_variables (map pair_data l.bound) l.vars
+abbrev pub invariant-loop-n : goal.invariant-loop-n
+invariant-loop-n l =
+    (all : List Text) → HasJust l.bound all → l.lines ++ each (of_book_variables all l.books) l.n (drop l.n l.books) ≡ l.fn.lines ++ each (of_book_variables all l.books) 0 l.books

@@ -1,0 +1,7 @@
+mod CourseLemmas
+mod CutLemmas
+mod LineLemmas
+mod NoteLemmas
+mod RunLemmas
+mod SentLemmas
+mod TreeLemmas

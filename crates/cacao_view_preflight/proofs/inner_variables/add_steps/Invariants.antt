@@ -1,0 +1,8 @@
+use Rattle.std.proofs.Common.{◌≡◌, ◌++◌, drop}
+use Rattle.std.specs.List.{flat_map}
+use Rattle.cacao_view_preflight.specs.Warnings.{of_step_variables}
+use Rattle.cacao_view_preflight.proofs.inner_variables.add_steps.Given as goal
+
+abbrev pub invariant-loop-step : goal.invariant-loop-step
+invariant-loop-step l =
+    l.lines ++ flat_map (of_step_variables l.n) (drop l.step-index l.steps) ≡ l.fn.lines ++ flat_map (of_step_variables l.n) l.steps

@@ -1,0 +1,6 @@
+use Rattle.cacao_view_preflight.proofs.SureLemmas.{answers_are_sure}
+use Rattle.cacao_view_preflight.proofs.laws.sure_answers_law.Goals as goal
+
+pub returns : goal.returns
+returns c =
+    answers_are_sure c.canonical_law.ensures.trees c.canonical_law.ensures.reads_back c.profile_law.ensures.put c.profile_law.ensures.removal c.profile_law.ensures.members c.references_go_on.ensures

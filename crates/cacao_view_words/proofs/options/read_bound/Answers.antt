@@ -1,0 +1,39 @@
+-- All words are names, or those before the first that begins with a hyphen.
+use Rattle.std.proofs.Common.{rules, ◌≡◌, ◌∙◌, ◌++◌, ◌∷◌, ◌<◌, ◌&&◌, [], List, Option, Some, None, Bool, true, false, not, refl, sym, ap, subst, arith, ℕ, length, map, take, drop, append-nil, append_assoc, String, Global, string_bytes, length-append}
+use Rattle.std.proofs.lemmas.List.{length-map}
+use Rattle.std.specs.Prelude.{option_and_then}
+use Rattle.std.specs.List.{list_all, position_or_len}
+use Rattle.std.specs.Str.{bytes_eq}
+use Rattle.cacao_cli_words.specs.Words.{Reading, before_dashes, begins_hyphen, behind_dashes, dashes, fits, if_fits, option_in}
+use Rattle.cacao_view_words.specs.Asked.{book_names, maybe_text}
+use Rattle.cacao_view_words.specs.Options.{asks_from, option_asks, reading}
+use Rattle.cacao_view_words.specs.Requests.{Request, preflight_of, preflights}
+use Rattle.cacao_view_words.specs.Texts.{Text}
+use Rattle.cacao_view_words.proofs.OptionLemmas.{first-hyphen, walk-none, walk-some}
+use Rattle.cacao_view_words.proofs.options.read_bound.Goals as goal
+
+abbrev texts : List (String Global) → List Text
+texts = map string_bytes
+
+abbrev ask : Option Reading → Request
+ask o = preflight_of (option_and_then if_fits o)
+
+pub read_dashes-requires : goal.read_dashes-requires
+read_dashes-requires c =
+    ap begins_hyphen c.as_str.ensures.value
+    ∙ first-hyphen string_bytes (Some c.args.bind.now) (texts c.args.before.now) c.args.words.now c.in-Some.place c.index-words-place.result c.in-Some.ensures.value c.in-Some.ensures.within c.index-words-place.is
+
+pub returns-in-None : goal.returns-in-None
+returns-in-None c =
+    c.read_whole.ensures ∙ ap (λ (l : List Text). preflight_of (if_fits (reading (Some c.args.bind.now) (texts c.args.before.now ++ l)))) (append-nil (texts c.args.words.now))
+    ∙ sym (ap ask (walk-none string_bytes (Some c.args.bind.now) (texts c.args.before.now) c.args.words.now c.in-None.ensures.value))
+
+pub returns-in-Some : goal.returns-in-Some
+returns-in-Some c =
+    let before : List Text = texts c.args.before.now in
+    let front : List (String Global) = c.words_before-between.result.now in
+    let back : List (String Global) = c.words_behind-behind.result.now in
+    c.read_dashes.ensures ∙ ap (λ (t : Text). asks_from (reading (Some c.args.bind.now) (before ++ texts front)) before_dashes (t ∷ texts back)) c.as_str.ensures.value
+    ∙ ap (λ (l : List (String Global)). asks_from (reading (Some c.args.bind.now) (before ++ texts l)) before_dashes (string_bytes c.index-words-place.result ∷ texts back)) c.words_before-between.ensures
+    ∙ ap (λ (l : List (String Global)). asks_from (reading (Some c.args.bind.now) (before ++ texts (take c.in-Some.place c.args.words.now))) before_dashes (string_bytes c.index-words-place.result ∷ texts l)) c.words_behind-behind.ensures
+    ∙ sym (ap ask (walk-some string_bytes (Some c.args.bind.now) before c.args.words.now c.in-Some.place c.index-words-place.result c.in-Some.ensures.value c.in-Some.ensures.within c.index-words-place.is))

@@ -1,0 +1,33 @@
+-- Names alone stand behind `--`.
+use Rattle.std.proofs.Common.{rules, ◌≡◌, ◌∙◌, ◌++◌, ◌∷◌, ◌<◌, ◌&&◌, [], List, Option, Some, None, Bool, true, false, not, refl, sym, ap, subst, arith, ℕ, length, map, take, drop, append-nil, append_assoc, String, Global, string_bytes, length-append}
+use Rattle.std.proofs.lemmas.List.{length-map}
+use Rattle.std.specs.Prelude.{option_and_then}
+use Rattle.std.specs.List.{list_all, position_or_len}
+use Rattle.std.specs.Str.{bytes_eq}
+use Rattle.cacao_cli_words.specs.Words.{Reading, before_dashes, begins_hyphen, behind_dashes, dashes, fits, if_fits, option_in}
+use Rattle.cacao_view_words.specs.Asked.{book_names, maybe_text}
+use Rattle.cacao_view_words.specs.Options.{asks_from, option_asks, reading}
+use Rattle.cacao_view_words.specs.Requests.{Request, preflight_of, preflights}
+use Rattle.cacao_view_words.specs.Texts.{Text}
+use Rattle.cacao_view_words.proofs.OptionLemmas.{names-behind, options-behind}
+use Rattle.cacao_view_words.proofs.options.read_names.Goals as goal
+
+abbrev texts : List (String Global) → List Text
+texts = map string_bytes
+
+abbrev ask : Option Reading → Request
+ask o = preflight_of (option_and_then if_fits o)
+
+pub returns-then-count_names-words : goal.returns-then-count_names-words
+returns-then-count_names-words c =
+    sym (ap ask (options-behind string_bytes (maybe_text c.args.bind) (reading (maybe_text c.args.bind) (texts c.args.before.now ++ texts c.args.between.now)) c.args.words.now
+    (subst (λ n. n < length c.args.words.now) c.count_names.ensures.value c.if-count_names-words.true)))
+
+pub returns : goal.returns
+returns c =
+    let before : List Text = texts c.args.before.now in
+    let between : List Text = texts c.args.between.now in
+    let all : position_or_len (λ (word : String Global). begins_hyphen (string_bytes word)) c.args.words.now ≡ length c.args.words.now =
+    omega (arith, c.count_names.ensures.value, c.count_names.ensures.within, c.if-count_names-words.false) in
+    c.read_whole.ensures ∙ ap (λ (l : List Text). preflight_of (if_fits (reading (maybe_text c.args.bind) l))) (sym (append_assoc before between (texts c.args.words.now)))
+    ∙ sym (ap ask (names-behind string_bytes (maybe_text c.args.bind) (before ++ between) c.args.words.now all))
