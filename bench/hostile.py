@@ -1,7 +1,7 @@
 #!/usr/bin/env python3
 """Plays the built program as a hostile world would, on real files in temporary folders, and prints what was tried and what was found.
 
-usage: hostile.py [PROGRAM] [--rounds N] [--jobs N] [--seed N] [--only kill|stop|lies|memory|fault|disk|depth|rows|hands|loop|beside|pair|fleet|turns].. [--examples FOLDER]
+usage: hostile.py [PROGRAM] [--view PROGRAM] [--rounds N] [--jobs N] [--seed N] [--only PART].. [--examples FOLDER]
   kill    `run` is killed at random moments, and played again until it ends
   stop    `run` is stopped before each of its calls to the outside, also with torn writes
   lies    the same on a disk that syncs nothing: there something has to be found, or the comparison sees nothing
@@ -16,7 +16,8 @@ usage: hostile.py [PROGRAM] [--rounds N] [--jobs N] [--seed N] [--only kill|stop
   pair    two processes over a socket: killed, refused, failed on either side; hostile clients and servers; others beside them
   fleet   fleets of two to five runs, killed, stopped, refused, failed, and taken on; as many as there are rounds
   turns   fleets of random playbooks that nothing disturbs, each line against a model; as many as there are rounds
-PROGRAM is the one that `./prove` leaves, if none is named. It ends with status 1 where anything was found. docs/HOSTILE.md says what is compared.
+  looks   the second program over hostile texts and journals, beside a run, and with refused memory
+PROGRAM is the one that `./prove` leaves, if none is named; that of `--view` the one that `./prove cacao-view` leaves, for `looks`. It ends with status 1 where anything was found. docs/HOSTILE.md says what is compared.
 """
 import argparse
 import concurrent.futures
@@ -27,7 +28,7 @@ import subprocess
 import sys
 import tempfile
 
-from hostile_parts import books, depth, disk, fleets, hands, hands_fleets, hands_loop, peers, play, rows, stops, turns
+from hostile_parts import books, depth, disk, fleets, hands, hands_fleets, hands_loop, looks, peers, play, rows, stops, turns
 
 HERE = os.path.dirname(os.path.realpath(__file__))
 TOP = os.path.dirname(HERE)
@@ -46,12 +47,14 @@ PARTS = {
     "pair": peers.pair,
     "fleet": fleets.fleets,
     "turns": turns.turns,
+    "looks": looks.looks,
 }
 
 
 def words():
     parser = argparse.ArgumentParser(description=__doc__, formatter_class=argparse.RawDescriptionHelpFormatter)
     parser.add_argument("program", nargs="?")
+    parser.add_argument("--view")
     parser.add_argument("--rounds", type=int, default=100)
     parser.add_argument("--jobs", type=int, default=1)
     parser.add_argument("--seed", type=int, default=1)
@@ -60,10 +63,17 @@ def words():
     return parser.parse_args()
 
 
-def built():
-    """The proved program, which is proved first where it is missing or made of other sources."""
-    subprocess.run([f"{TOP}/prove"], check=True)
-    return f"{TOP}/.build/cacao"
+def built(*words):
+    """The proved program of these words of `./prove`, which is proved first where it is missing or made of other sources."""
+    subprocess.run([f"{TOP}/prove", *words], check=True)
+    return f"{TOP}/.build/{'cacao_view_main' if words else 'cacao'}"
+
+
+def second(asked, folder, library):
+    """The program that only looks, where it is to be played."""
+    if asked.view is None and asked.only and "looks" not in asked.only:
+        return None
+    return play.Program(shutil.copy(asked.view or built("cacao-view"), f"{folder}/cacao-view"), library)
 
 
 def shim(folder):
@@ -87,7 +97,8 @@ def main():
     with tempfile.TemporaryDirectory(prefix="hostile-program-") as folder:
         # A copy, so that any user may run it, and so that a build beside this does not change it.
         os.chmod(folder, 0o755)
-        program = play.Program(shutil.copy(asked.program or built(), f"{folder}/cacao"), shim(folder))
+        library = shim(folder)
+        program = play.Program(shutil.copy(asked.program or built(), f"{folder}/cacao"), library, second(asked, folder, library))
         cases = [*books.example_cases(asked.examples), *books.made_cases()]
         with concurrent.futures.ProcessPoolExecutor(asked.jobs) as pool:
             for played in [pool.submit(play_part, part, program, cases, asked.rounds, asked.seed) for part in asked.only or PARTS]:

@@ -227,9 +227,29 @@ def held(program, table):
         row.expect(not left, f"a run that ended left lock files: {left}")
 
 
+def modes(program, table):
+    """Who may read and write what a run makes, where the umask takes nothing away."""
+    row = table.row("hands", "the modes of journals and of lock files")
+    with Folder({"book.json": text_of(loop(2000))}) as folder:
+        umask = os.umask(0)
+        try:
+            run = Started(program, folder, ["run", "--run", "1", "book.json"])
+        finally:
+            os.umask(umask)
+        while run.goes_on() and not bytes_of(folder, agent_file(1)):
+            time.sleep(0.001)
+        for name in os.listdir(folder):
+            if name.endswith((".journal", ".lock")):
+                row.tries += 1
+                found, right = os.stat(f"{folder}/{name}").st_mode & 0o777, 0o666 if name.endswith(".journal") else 0o660
+                row.expect(found == right, f"{name} has the mode {found:o}, where {right:o} is right")
+        row.expect(run.end().status == 0, "the run did not end well")
+
+
 def hands(program, cases, table, rounds, draw):
     examples = os.path.join(os.path.dirname(os.path.dirname(os.path.dirname(os.path.realpath(__file__)))), "examples")
     held(program, table)
+    modes(program, table)
     killed(program, table, rounds, draw)
     pairs(program, table, rounds)
     answers(program, table, rounds, examples)

@@ -58,10 +58,11 @@ class Limits:
 
 
 class Program:
-    """The built program; `shim` is the library that stands between it and the C library, None where it can't be had."""
+    """The built program; `shim` is the library that stands between it and the C library, None where it can't be had; `view` is the program that
+    only looks, where it is played too."""
 
-    def __init__(self, path, shim):
-        self.path, self.shim = path, shim
+    def __init__(self, path, shim, view=None):
+        self.path, self.shim, self.view = path, shim, view
 
     @staticmethod
     def leave_no_cores():
