@@ -5,9 +5,9 @@ use Rattle.cacao_site.specs.Counts.{Rose, next_count}
 use Rattle.cacao_site.specs.View.{SiteView}
 use Rattle.flow_core_rules.specs.Givens.{Given}
 use Rattle.flow_engine_answers.specs.declared.answers.OperatorAnswer.{OperatorAnswer}
-use Rattle.oc2_wire.specs.Answering.{Served}
-use Rattle.oc2_wire.specs.declared.error.WireError.{WireError}
-use Rattle.oc2_wire.specs.declared.error.WireError.TheVariants as error
+use Rattle.cacao_cli_peers.specs.Answering.{Served}
+use Rattle.cacao_cli_peers.specs.WireError.{WireError}
+use Rattle.cacao_cli_peers.specs.WireError.TheVariants as error
 use Rattle.oc2_wire_link.specs.Peering.{PeersView}
 use Rattle.oc2_wire_site.specs.Wires.{WireView}
 use Rattle.cacao_cli_words.specs.Requests.{PeerRequest, pairs, serves}

@@ -3,11 +3,11 @@ use Rattle.std.proofs.Common.{◌≡◌, ◌⊎◌, inl, inr, refl, sym, subst, 
 use Rattle.std.specs.Prelude.{IfSome}
 use Rattle.cacao_site.specs.View.{SiteView, device_calls}
 use Rattle.flow_world_steps.specs.Sums.{total}
-use Rattle.flow_fleet.specs.Fleets.{FleetRefused}
-use Rattle.flow_fleet_returns.specs.Costs.{EachFleetCloseUsesFew, EachFleetRefusalUsesFew, FleetWentFew, RefusedFew, UsesFew, tried_files}
-use Rattle.flow_fleet_steps.specs.Laws.{FleetWent}
-use Rattle.flow_fleet_steps.specs.Openings.{Runs}
-use Rattle.flow_fleet_steps.specs.declared.error.FleetError.{FleetError}
+use Rattle.cacao_cli_fleets.specs.Fleets.{FleetRefused}
+use Rattle.cacao_cli_fleets.specs.Costs.{EachFleetCloseUsesFew, EachFleetRefusalUsesFew, FleetWentFew, RefusedFew, UsesFew, tried_files}
+use Rattle.cacao_cli_fleets.specs.Laws.{FleetWent}
+use Rattle.cacao_cli_fleets.specs.Openings.{Runs}
+use Rattle.cacao_cli_fleets.specs.FleetError.{FleetError}
 use Rattle.cacao_cli_words.specs.Requests.{FleetRequest}
 use Rattle.cacao_cli_words.specs.Words.{Text}
 use Rattle.cacao_cli_ends.specs.Files.{ShelfCall}

@@ -10,9 +10,9 @@ use Rattle.flow_laws.specs.Images.{IsRecords}
 use Rattle.flow_world.specs.Sessions.{HasRefused, IsStart}
 use Rattle.flow_world_parcels_law.specs.Parcels.{AreHandled, IsOfTaken, Took}
 use Rattle.flow_world_parcels_law.proofs.Parcels.{each_close_handles, each_refusal_handles}
-use Rattle.flow_world_parts.specs.declared.error.WorldError.{WorldError}
-use Rattle.flow_world_prefix_law.specs.Prefixes.{GoesOn, GoesOnDurably}
-use Rattle.flow_world_prefix_law.proofs.Prefixes.{each_close_goes_on, each_later_refusal_goes_on, each_refusal_goes_on, each_second_refusal_goes_on}
+use Rattle.flow_world.specs.WorldError.{WorldError}
+use Rattle.cacao_cli_peers.specs.Prefixes.{GoesOn, GoesOnDurably}
+use Rattle.cacao_cli_peers.proofs.Prefixes.{each_close_goes_on, each_later_refusal_goes_on, each_refusal_goes_on, each_second_refusal_goes_on}
 use Rattle.cacao_cli_ends.specs.Ends.{End}
 use Rattle.cacao_cli_ends.specs.Lines.{SaysAtMostALine}
 use Rattle.cacao_cli_session.specs.Holding.{ClosesSo, HoldsSo, RefusesSo}

@@ -8,8 +8,8 @@ use Rattle.flow_engine_answers.specs.declared.answers.OperatorAnswer.{OperatorAn
 use Rattle.flow_laws.specs.Good.{IsGood}
 use Rattle.flow_world.specs.Sessions.{HasRefused, IsStart}
 use Rattle.flow_world_parcels_law.specs.Parcels.{AreHandled, IsOfTaken, Took, but_the_last}
-use Rattle.flow_world_parts.specs.declared.error.WorldError.{WorldError}
-use Rattle.flow_world_prefix_law.specs.Prefixes.{GoesOn, GoesOnDurably}
+use Rattle.flow_world.specs.WorldError.{WorldError}
+use Rattle.cacao_cli_peers.specs.Prefixes.{GoesOn, GoesOnDurably}
 use Rattle.cacao_cli_words.specs.Requests.{FleetRequest, PeerRequest, RunRequest, fleet_request, peer_request}
 use Rattle.cacao_cli_words.specs.Words.{Text}
 use Rattle.cacao_site.specs.Counts.{Rose}

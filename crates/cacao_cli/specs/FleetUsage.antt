@@ -4,12 +4,12 @@ use Rattle.std.specs.Prelude.{◌≡◌, ◌⊎◌, ℕ, ◌++◌, [], length, O
 use Rattle.cacao_site.specs.View.{SiteView}
 use Rattle.run_records.specs.Layout.{act_layout, layout}
 use Rattle.run_records.specs.declared.act.Act.{Act}
-use Rattle.flow_fleet.specs.Fleets.{FleetRefused}
-use Rattle.flow_fleet_returns.specs.Costs.{acts_as_bytes, filters_to, journals_to, records_as_bytes, tried_files}
-use Rattle.flow_fleet_steps.specs.Laws.{FleetWent}
-use Rattle.flow_fleet_steps.specs.Openings.{Runs, numbers}
-use Rattle.flow_fleet_steps.specs.declared.error.FleetError.{FleetError}
-use Rattle.flow_fleet_sums.specs.Sums.{FleetAdds}
+use Rattle.cacao_cli_fleets.specs.Fleets.{FleetRefused}
+use Rattle.cacao_cli_fleets.specs.Costs.{acts_as_bytes, filters_to, journals_to, records_as_bytes, tried_files}
+use Rattle.cacao_cli_fleets.specs.Laws.{FleetWent}
+use Rattle.cacao_cli_fleets.specs.Openings.{Runs, numbers}
+use Rattle.cacao_cli_fleets.specs.FleetError.{FleetError}
+use Rattle.cacao_cli_fleets.specs.Sums.{FleetAdds}
 use Rattle.cacao_cli_words.specs.Requests.{FleetRequest}
 use Rattle.cacao_cli_ends.specs.Lines.{SaysAtMostALine}
 use Rattle.cacao_cli_status_laws.specs.Usage.{IsFew, Usage, opens_only}

@@ -20,7 +20,9 @@ ghost use Rattle.cacao_cli.specs.WithPeers.{CallsPeersFew, EndsWithPeer, IfAlone
 use crate::rehearse::rehearse;
 use crate::run::run;
 use cacao_cli_ends::{End, finish};
-use cacao_cli_fleets::{finish_fleet, fleet};
+use cacao_cli_fleets::{
+    complete_laws, finish_fleet, fleet, fleet_causes_law, fleet_costs_law, fleet_undamaged_law,
+};
 use cacao_cli_looks::{audit, canon, check, decide, say_rules, say_shadows, show};
 use cacao_cli_peers::{pair, serve};
 use cacao_cli_words::{
@@ -28,8 +30,6 @@ use cacao_cli_words::{
 };
 use cacao_site::{Rack, Shelf, Site};
 use flow_fleet_laws::{events_law, lines_law, shrinking_law};
-use flow_fleet_returns::{fleet_causes_law, fleet_costs_law, fleet_undamaged_law};
-use flow_world_laws::complete_laws;
 use oc2_wire_link::Peers;
 use std::alloc::Global;
 

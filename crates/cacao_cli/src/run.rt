@@ -7,8 +7,8 @@ ghost use Rattle.cacao_cli_status_laws.specs.Ended.{Performed};
 ghost use Rattle.cacao_cli_ends.specs.Files.{files_of, shelf_call};
 
 use cacao_cli_ends::End;
+use cacao_cli_peers::{Ready, make_ready};
 use cacao_cli_session::hold;
-use cacao_cli_starts::{Ready, make_ready};
 use cacao_cli_words::RunWords;
 use cacao_site::{Shelf, Site};
 use std::alloc::Global;

@@ -2,7 +2,7 @@
 use Rattle.std.proofs.Common.{◌≡◌, ◌⊎◌, inl, inr, ◌∙◌, refl, sym, ap, subst, arith, ℕ, List, [], ◌∷◌, Some, None, Err}
 use Rattle.cacao_site.specs.Counts.{Rose, next_count}
 use Rattle.cacao_site.specs.View.{SiteView}
-use Rattle.flow_fleet.specs.Fleets.{FleetRefused}
+use Rattle.flow_fleet_returns.specs.Fleets.{FleetRefused}
 use Rattle.flow_fleet_returns.specs.Causes.{CountsAsRefused, EachFleetRefusalTells}
 use Rattle.flow_fleet_steps.specs.Openings.{Runs}
 use Rattle.flow_fleet_steps.specs.declared.close.FleetClose.{FleetClose}

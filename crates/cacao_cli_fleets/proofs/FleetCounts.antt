@@ -2,7 +2,7 @@
 use Rattle.std.proofs.Common.{◌≡◌, ◌⊎◌, inl, inr, ◌∙◌, refl, sym, ap, subst, ℕ, Bool, true, List}
 use Rattle.cacao_site.specs.Counts.{next_count}
 use Rattle.cacao_site.specs.View.{CountsView, SiteView}
-use Rattle.flow_engine.specs.EngineView.{EngineView}
+use Rattle.flow_world_steps.specs.EngineView.{EngineView}
 use Rattle.slpf_actuator.specs.ActuatorView.{ActuatorView}
 use Rattle.flow_world_steps.specs.Steps.{Step}
 use Rattle.flow_world_steps.specs.Steps.Step.{begins as one_begins, moves as one_moves, expires as one_expires, puts_first as one_puts_first, resends as one_resends, replies as one_replies}
@@ -23,7 +23,7 @@ use Rattle.flow_fleet_steps.specs.declared.error.FleetError.{FleetError}
 use Rattle.flow_fleet_steps.specs.declared.error.FleetError.TheVariants as error
 use Rattle.flow_fleet_steps.proofs.Closes.{closes_are_no_refusals}
 use Rattle.flow_fleet_steps.proofs.Spending.{fleet_step_going}
-use Rattle.flow_fleet.specs.Fleets.{FleetClosed, FleetRefused}
+use Rattle.flow_fleet_returns.specs.Fleets.{FleetClosed, FleetRefused}
 use Rattle.cacao_cli_ends.specs.Ends.{unsaid}
 use Rattle.cacao_cli_session_laws.proofs.StepLemmas.{Unsaid, none_unsaid, one_unsaid, steps_unsaid}
 use Rattle.cacao_cli_fleets.specs.FleetEnds.{FleetEnd, error_end, plain}

@@ -4,7 +4,7 @@ use Rattle.std.specs.Prelude.{map, slice_get}
 use Rattle.cacao_site.specs.Sound.{IsSound}
 use Rattle.cacao_site.specs.View.{SiteView}
 use Rattle.flow_core_rules.specs.Givens.{Given}
-use Rattle.flow_fleet.specs.Fleets.{FleetRefused}
+use Rattle.flow_fleet_returns.specs.Fleets.{FleetRefused}
 use Rattle.flow_laws.specs.Good.{IsGood}
 use Rattle.flow_fleet_laws.specs.Fleets.{IsAt}
 use Rattle.flow_fleet_laws.specs.Views.{seen_from}
@@ -14,7 +14,7 @@ use Rattle.flow_fleet_steps.specs.declared.close.FleetClose.{FleetClose}
 use Rattle.flow_fleet_steps.specs.declared.close.FleetClose.TheVariants as close
 use Rattle.flow_fleet_steps.specs.declared.error.FleetError.{FleetError}
 use Rattle.flow_fleet_steps.specs.declared.error.FleetError.TheVariants as error
-use Rattle.flow_world_laws.specs.Undamaged.{ComesOfTexts}
+use Rattle.flow_fleet_returns.specs.WorldLawUndamaged.{ComesOfTexts}
 use Rattle.cacao_cli_words.specs.Requests.{FleetRequest}
 use Rattle.cacao_cli_words.specs.Words.{Text}
 use Rattle.cacao_cli_ends.specs.Comes.{IsOneOf}

@@ -4,7 +4,7 @@ use Rattle.serde_json.specs.Data.{Data}
 use Rattle.cacao_check.specs.declared.breaks.Break.{Break}
 use Rattle.cacao_site.specs.Sound.{IsSound}
 use Rattle.cacao_site.specs.View.{SiteView}
-use Rattle.flow_fleet.specs.Fleets.{FleetClosed, FleetRefused}
+use Rattle.flow_fleet_returns.specs.Fleets.{AreFleetRuns, FleetClosed, FleetRefused}
 use Rattle.flow_fleet_laws.specs.Events.{Events}
 use Rattle.flow_fleet_laws.specs.Fleets.{IsFleetStart, KeepsEach}
 use Rattle.flow_fleet_laws.specs.Speeches.Form.{with_numbers}
@@ -72,14 +72,15 @@ pub record FleetHeld (runs : Runs) (most : ℕ) (old new : SiteView) (last : Fle
   pub agreement : IsFleetStart old (numbers runs) → KeepsEach (numbers runs) old new
   pub steady : last ≢ plain disk_failed → new.disk.faults ≡ old.disk.faults
 
--- The playbooks were accepted, and a fleet was held with what they give. What it came to is sound, as each rack is: what the laws
--- of fleets ask.
+-- The playbooks were accepted, and a fleet was held with what they give. They are runs of a fleet, and what it came to is sound, as
+-- each rack is: what the laws of fleets ask.
 pub record HoldsFleet (wanted : FleetRequest) (shelf : ShelfCall) (old new : SiteView) (last : FleetEnd) : Type 0 where
   pub texts : List NamedText
   pub reads : ReadsTo shelf (fleet_files wanted) (Ok texts)
   pub roots : List Data
   pub trees : trees_of texts ≡ Ok roots
   pub runs : Runs
+  pub are : AreFleetRuns runs
   pub ready : AreReady wanted texts runs
   pub holds : FleetHeld runs wanted.most old new last
   pub sound : IsSound new

@@ -4,3 +4,9 @@ pub mod FleetTexts
 pub mod Judging
 pub mod MadeLines
 pub mod RackTold
+pub use Rattle.flow_fleet_returns.specs.Costs
+pub use Rattle.flow_fleet_returns.specs.Fleets
+pub use Rattle.flow_fleet_returns.specs.Sums
+pub use Rattle.flow_fleet_steps.specs.Laws
+pub use Rattle.flow_fleet_steps.specs.Openings
+pub use Rattle.flow_fleet_steps.specs.declared.error.FleetError

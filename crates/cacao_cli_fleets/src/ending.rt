@@ -8,7 +8,7 @@ use crate::fleet_end::FleetEnd;
 use cacao_cli_ends::{End, finish};
 use cacao_cli_session::limit_of;
 use cacao_site::Site;
-use flow_fleet::{FleetClose, FleetError};
+use flow_fleet_returns::{FleetClose, FleetError};
 use std::alloc::{AllocError, Global};
 
 fn plain<'w>(end: End<'w>) -> FleetEnd<'w>

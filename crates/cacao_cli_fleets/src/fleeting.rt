@@ -12,7 +12,7 @@ use cacao_cli_ends::End;
 use cacao_cli_looks::read_files;
 use cacao_cli_words::{FleetWords, RunBook};
 use cacao_site::{Rack, Shelf};
-use flow_fleet::FleetRuns;
+use flow_fleet_returns::FleetRuns;
 use std::alloc::{AllocError, Global};
 
 /// The names of the files, in order.
@@ -47,7 +47,10 @@ pub fn fleet<'w, L: Shelf, R: Rack>(
         Err(end) => return FleetEnd::Plain { end },
     };
     match set_up(alloc, wanted, texts) {
-        Ok(runs) => hold(alloc, runs, wanted.most, rack),
+        Ok(runs) => {
+            runs.law();
+            hold(alloc, runs, wanted.most, rack)
+        },
         Err(end) => FleetEnd::Plain { end },
     }
 }
@@ -57,7 +60,7 @@ fn hold<'w, R: Rack>(alloc: Global, runs: FleetRuns, most: u64, rack: &mut R) ->
     requires { 1 ≤ most }
     ensures { FleetHeld runs most (R.view rack.old) (R.view rack.new) (fleet_end_of result) }
 {
-    match flow_fleet::fleet(alloc, rack, runs, most) {
+    match flow_fleet_returns::fleet(alloc, rack, runs, most) {
         Ok(close) => close_end(close),
         Err(error) => error_end(error),
     }

@@ -19,7 +19,7 @@ use cacao_cli_looks::{FileText, trees_of};
 use cacao_cli_words::{FleetWords, RunBook};
 use cacao_site::Bytes;
 use flow_core::{Setup, SetupError};
-use flow_fleet::FleetRuns;
+use flow_fleet_returns::FleetRuns;
 use std::alloc::{AllocError, Global};
 
 /// The one text, as a run is given its playbooks.

@@ -8,11 +8,11 @@ use Rattle.flow_engine_answers.specs.declared.answers.OperatorAnswer.{OperatorAn
 use Rattle.flow_world_parts.specs.Openings.{RefusesFilters}
 use Rattle.flow_world_parts.specs.declared.close.Close.{Close}
 use Rattle.flow_world_parts.specs.declared.error.WorldError.{WorldError}
-use Rattle.flow_world_prefix_law.specs.Prefixes.{GoesOn}
+use Rattle.oc2_wire.specs.Prefixes.{GoesOn}
 use Rattle.oc2_wire.specs.Answering.{Served}
 use Rattle.oc2_wire.specs.Serving.{HasRefused, HasServed}
 use Rattle.oc2_wire_laws.specs.Since.{EngineKeepsSince}
-use Rattle.oc2_wire_steps.specs.Kept.{IsToldStart}
+use Rattle.oc2_wire.specs.Kept.{IsToldStart}
 use Rattle.oc2_wire.specs.declared.error.WireError.{WireError}
 use Rattle.oc2_wire.specs.declared.error.WireError.TheVariants as error
 use Rattle.oc2_wire_link.specs.Links.{LinkView}

@@ -25,7 +25,7 @@ use Rattle.oc2_wire_site.specs.Wires.{WireView}
 use Rattle.cacao_cli_words.specs.Words.{Text}
 use Rattle.cacao_cli_ends.specs.Ends.{End}
 use Rattle.cacao_cli_ends.proofs.SayingLemmas.{AreTold, SaysSome, Tallies}
-use Rattle.cacao_cli_status_laws.specs.Usage.{DiskCallsFew, IsFew, Usage, blocks, entry_bytes, opens_only, reads_to}
+use Rattle.cacao_cli_starts.specs.Usage.{DiskCallsFew, IsFew, Usage, blocks, entry_bytes, opens_only, reads_to}
 use Rattle.cacao_cli_peers.specs.Pairing.{ClosesOver, OverSite, RefusesOver}
 use Rattle.cacao_cli_peers.specs.PeerUsage.{acts_usage, over_usage, refused_usage, served_usage, serves_usage, unopened_usage}
 use Rattle.cacao_cli_peers.proofs.AloneLemmas.{acts_not}

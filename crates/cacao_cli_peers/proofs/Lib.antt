@@ -8,3 +8,5 @@ pub mod OverLemmas
 pub mod PairLemmas
 pub mod ServeLemmas
 pub mod UseLemmas
+pub use Rattle.cacao_cli_starts.proofs.ReadyLemmas
+pub use Rattle.oc2_wire.proofs.PrefixPrefixes as Prefixes

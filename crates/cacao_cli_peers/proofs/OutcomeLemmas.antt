@@ -19,8 +19,8 @@ use Rattle.cacao_cli_ends.proofs.EndLemmas.{end-failed, no_cons}
 use Rattle.cacao_cli_ends.proofs.ReadLemmas.{Read, empty-read}
 use Rattle.cacao_cli_ends.proofs.StatusLists.{widen}
 use Rattle.cacao_cli_ends.proofs.TreeCases.{TreesCase, all_trees, one_treeless, trees_case}
-use Rattle.cacao_cli_status_laws.specs.Ended.{PerformedBy, PerformsBy}
-use Rattle.cacao_cli_status_laws.proofs.CountLemmas.{read-status}
+use Rattle.cacao_cli_starts.specs.Ended.{PerformedBy, PerformsBy}
+use Rattle.cacao_cli_starts.proofs.CountLemmas.{read-status}
 use Rattle.cacao_cli_starts.proofs.ReadyLemmas.{not-ready-performed}
 use Rattle.cacao_cli_peers.specs.Pairing.{GoesAsPair, HoldsPair}
 

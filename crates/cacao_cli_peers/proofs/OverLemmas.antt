@@ -18,8 +18,8 @@ use Rattle.oc2_wire.specs.declared.error.WireError.TheVariants as error
 use Rattle.cacao_cli_ends.specs.Comes.{IsOneOf}
 use Rattle.cacao_cli_ends.specs.Ends.{End, disk_failed, status_of, unsaid}
 use Rattle.cacao_cli_ends.proofs.StatusLists.{session_statuses}
-use Rattle.cacao_cli_session_laws.proofs.HoldLemmas.{close-eight, close-nine, close-status}
-use Rattle.cacao_cli_session_laws.proofs.StepLemmas.{Unsaid, none_unsaid, one_unsaid, steps_unsaid}
+use Rattle.cacao_cli_starts.proofs.HoldLemmas.{close-eight, close-nine, close-status}
+use Rattle.cacao_cli_starts.proofs.StepLemmas.{Unsaid, none_unsaid, one_unsaid, steps_unsaid}
 use Rattle.cacao_cli_peers.specs.Pairing.{ClosesOver, RefusesOver, SessionOver, wire_end}
 
 -- ---- refusals

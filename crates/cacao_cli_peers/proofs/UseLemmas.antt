@@ -15,9 +15,9 @@ use Rattle.cacao_cli_ends.specs.declared.limit.Limit.TheVariants.{BookCount}
 use Rattle.cacao_cli_ends.proofs.EndLemmas.{no_cons}
 use Rattle.cacao_cli_ends.proofs.ReadLemmas.{Fails, Read, by_memory, by_shelf, reads-told}
 use Rattle.cacao_cli_ends.proofs.SayingLemmas.{SaysSome, some-failed, some-line, some-trans, tells-some}
-use Rattle.cacao_cli_status_laws.specs.Ended.{PerformedBy, PerformsBy}
-use Rattle.cacao_cli_status_laws.specs.Usage.{IsFew, opens_only}
-use Rattle.cacao_cli_status_laws.proofs.StartLemmas.{tells-line}
+use Rattle.cacao_cli_starts.specs.Ended.{PerformedBy, PerformsBy}
+use Rattle.cacao_cli_starts.specs.Usage.{IsFew, opens_only}
+use Rattle.cacao_cli_starts.proofs.StartLemmas.{tells-line}
 use Rattle.cacao_cli_peers.specs.FilterServing.{Accepts, FailsToAccept, LeavesPort, SaysPort, ServesSo, port_line}
 use Rattle.cacao_cli_peers.specs.Pairing.{GoesAsPair, HoldsPair, PairsSo}
 use Rattle.cacao_cli_peers.specs.PeerUsage.{FiltersUseFew, PairUsesFew, accepts_usage, filters_usage, over_usage, pair_usage, port_usage, served_usage}

@@ -3,3 +3,7 @@ pub mod Pairing
 pub mod PeerCounts
 pub mod PeerUsage
 pub mod SitesBeneath
+pub use Rattle.cacao_cli_starts.specs.ReadyRuns
+pub use Rattle.oc2_wire.specs.Answering
+pub use Rattle.oc2_wire.specs.declared.error.WireError
+pub use Rattle.oc2_wire.specs.Prefixes

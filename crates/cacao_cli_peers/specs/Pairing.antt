@@ -9,7 +9,7 @@ use Rattle.flow_core_rules.specs.Accepted.{Accepted}
 use Rattle.flow_core_rules.specs.Givens.{Given}
 use Rattle.flow_engine_answers.specs.declared.answers.OperatorAnswer.{OperatorAnswer}
 use Rattle.flow_world_parts.specs.declared.close.Close.{Close}
-use Rattle.flow_world_prefix_law.specs.Prefixes.{GoesOn}
+use Rattle.oc2_wire.specs.Prefixes.{GoesOn}
 use Rattle.oc2_wire.specs.Reading.{KeepsByLines}
 use Rattle.oc2_wire.specs.Serving.{HasRefused, HasServed}
 use Rattle.oc2_wire.specs.declared.error.WireError.{WireError}
@@ -20,14 +20,14 @@ use Rattle.oc2_wire_link.specs.Peering.{IsAsTold, PeersView, started}
 use Rattle.oc2_wire_site.specs.Marks.{WireMark, marked_site}
 use Rattle.oc2_wire_site.specs.ReadLines.{KeepsLinesSince}
 use Rattle.oc2_wire_site.specs.Wires.{WireView, new_wire, wire_view}
-use Rattle.oc2_wire_steps.specs.Kept.{IsToldStart}
+use Rattle.oc2_wire.specs.Kept.{IsToldStart}
 use Rattle.cacao_cli_ends.specs.Ends.{End, damaged, disk_failed, flooded, no_memory, other_book, other_run, past, peers_failed, unsaid}
 use Rattle.cacao_cli_ends.specs.Work.{Start, starts, work}
 use Rattle.cacao_cli_ends.specs.declared.limit.Limit.TheVariants.{LineBytes}
 use Rattle.cacao_cli_session.specs.Holding.{AreAnswers, close_end, limit_of}
 use Rattle.cacao_cli_ends.specs.Asked.{Asked}
 use Rattle.cacao_cli_ends.specs.Files.{NamedText, ReadsTo, ShelfCall, files_of}
-use Rattle.cacao_cli_status_laws.specs.Ended.{NoSession, PerformedBy}
+use Rattle.cacao_cli_starts.specs.Ended.{NoSession, PerformedBy}
 use Rattle.cacao_cli_peers.specs.PeerCounts.{Calls, Closes, behind_close}
 use Rattle.cacao_cli_peers.specs.SitesBeneath.{LeavesLink, beneath}
 

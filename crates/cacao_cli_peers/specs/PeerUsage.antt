@@ -21,7 +21,7 @@ use Rattle.cacao_cli_ends.specs.FileCauses.{HasTexts}
 use Rattle.cacao_cli_ends.specs.Files.{Files, NamedText}
 use Rattle.cacao_cli_ends.specs.Lines.{SaysAtMostALine}
 use Rattle.cacao_cli_ends.specs.Work.{start_of}
-use Rattle.cacao_cli_status_laws.specs.Usage.{IsFew, Usage, opens_only, reads_to}
+use Rattle.cacao_cli_starts.specs.Usage.{IsFew, Usage, opens_only, reads_to}
 use Rattle.cacao_cli_peers.specs.FilterServing.{Accepts, FailsToAccept, LeavesPort, SaysPort, ServesSo}
 use Rattle.cacao_cli_peers.specs.Pairing.{ClosesOver, HoldsPair, PairsSo, RefusesOver}
 

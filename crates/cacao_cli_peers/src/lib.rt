@@ -6,5 +6,6 @@ mod ending;
 mod pairing;
 mod serving;
 
+pub use cacao_cli_starts::{Ready, make_ready};
 pub use pairing::pair;
 pub use serving::serve;

@@ -30,13 +30,13 @@ use Rattle.flow_engine_answers.specs.declared.answers.OperatorAnswer.{OperatorAn
 use Rattle.flow_core_rules.specs.Givens.{Given}
 use Rattle.flow_world_steps.specs.Causes.{Shows}
 use Rattle.flow_world_steps.specs.Worlds.{Cause, Phase, refused, disk_failed, not_said, run_used, past, wants_memory}
-use Rattle.flow_world_parts.specs.Closes.{refusal_of}
-use Rattle.flow_world_parts.specs.Errors.{opening_refusal}
-use Rattle.flow_world_parts.specs.Openings.{OpensFile, OpensFilters, RefusesFile, RefusesOpening}
+use Rattle.flow_world.specs.Closes.{refusal_of}
+use Rattle.flow_world.specs.Errors.{opening_refusal}
+use Rattle.flow_world.specs.Openings.{OpensFile, OpensFilters, RefusesFile, RefusesOpening}
 use Rattle.flow_world.specs.Sessions.{HasRefused, RefusesLater, Went}
 use Rattle.flow_world.proofs.FaultLemmas.{refuses-failed, refuses-unsaid}
-use Rattle.flow_world_parts.specs.declared.error.WorldError.{WorldError}
-use Rattle.flow_world_parts.specs.declared.error.WorldError.TheVariants as refusal
+use Rattle.flow_world.specs.WorldError.{WorldError}
+use Rattle.flow_world.specs.WorldError.TheVariants as refusal
 use Rattle.cacao_json.specs.Reading.{tree}
 use Rattle.cacao_check.specs.Fits.{FitsKind}
 use Rattle.flow_core.specs.Setups.{AreAccepted}

@@ -18,8 +18,8 @@ use Rattle.flow_world_steps.specs.Turns.{most_ignored}
 use Rattle.flow_world_steps.specs.Worlds.{Notes, Phase}
 use Rattle.flow_world_steps.proofs.Bounded.{records_few}
 use Rattle.flow_world.specs.Sessions.{HasClosed}
-use Rattle.flow_world_parts.specs.declared.close.Close.{Close}
-use Rattle.flow_world_parts.specs.declared.close.Close.TheVariants as close
+use Rattle.flow_world.specs.Close.{Close}
+use Rattle.flow_world.specs.Close.TheVariants as close
 use Rattle.cacao_cli_rehearsal.specs.NewSites.{MayClose}
 use Rattle.cacao_cli_rehearsal.proofs.Asking.{asks_none}
 use Rattle.cacao_cli_rehearsal.proofs.Moments.{moment_low}

@@ -1,7 +1,7 @@
 -- How many device calls are made where the files are opened one after another.
 use Rattle.std.proofs.Common.{◌≡◌, ◌≢◌, ℕ, zero, suc, ◌+◌, ◌-◌, ◌*◌, ◌/◌, ◌≤◌, List, length, refl, sym, ◌∙◌, subst, ap, arith}
 use Rattle.cacao_site.specs.View.{DiskView}
-use Rattle.flow_world_parts.specs.Openings.{blocks_to}
+use Rattle.flow_world.specs.Openings.{blocks_to}
 use Rattle.cacao_cli_rehearsal.specs.Counts.{OpensFew}
 
 blocks_stay : (n : ℕ) (old new : DiskView) → ((file : ℕ) → 1 ≤ file → file ≤ n → new.reads file ≡ old.reads file) → blocks_to n new ≡ blocks_to n old

@@ -11,9 +11,9 @@ use Rattle.flow_world_steps.specs.Unbroken.{AreFiltersSure, EndedByFilter}
 use Rattle.flow_world_steps.specs.Worlds.{Cause, HasAllFilters, Phase, World, refused, rests}
 use Rattle.flow_world_steps.proofs.Beside.{ready_are_all}
 use Rattle.flow_world.specs.Sessions.{HasClosed, HasRefused}
-use Rattle.flow_world_parts.specs.declared.close.Close.{Close}
-use Rattle.flow_world_parts.specs.declared.close.Close.TheVariants as close
-use Rattle.flow_world_parts.specs.declared.error.WorldError.{WorldError}
+use Rattle.flow_world.specs.Close.{Close}
+use Rattle.flow_world.specs.Close.TheVariants as close
+use Rattle.flow_world.specs.WorldError.{WorldError}
 use Rattle.std.specs.Prelude.{IfErr, IfOk, MatchResult, Result, Ok, Err}
 use Rattle.cacao_site_memory.specs.declared.site.MemorySite.{MemorySite}
 use Rattle.cacao_cli_rehearsal.specs.Books.{rehearsal_text}

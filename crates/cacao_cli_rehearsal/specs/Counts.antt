@@ -9,7 +9,7 @@ use Rattle.flow_engine_history.specs.HistoryView.{HoldsRecords}
 use Rattle.flow_world_steps.specs.Sides.{AreFilters, IsFilter}
 use Rattle.flow_world_steps.specs.Spent.{all_acts}
 use Rattle.flow_world_steps.specs.Sums.{total}
-use Rattle.flow_world_parts.specs.Openings.{blocks_to}
+use Rattle.flow_world.specs.Openings.{blocks_to}
 use Rattle.cacao_cli_rehearsal.specs.declared.counting.FilterCount.{FilterCount}
 use Rattle.cacao_cli_rehearsal.specs.declared.summary.Summary.{Summary}
 

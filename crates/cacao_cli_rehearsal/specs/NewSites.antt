@@ -1,10 +1,10 @@
 -- Scaffold: What a rehearsal on a new site may come to.
 use Rattle.std.specs.Prelude.{⊤}
 use Rattle.cacao_site_memory.specs.declared.site.MemorySite.{MemorySite}
-use Rattle.flow_world_parts.specs.declared.close.Close.{Close}
-use Rattle.flow_world_parts.specs.declared.close.Close.TheVariants as close
-use Rattle.flow_world_parts.specs.declared.error.WorldError.{WorldError}
-use Rattle.flow_world_parts.specs.declared.error.WorldError.TheVariants as refusal
+use Rattle.flow_world.specs.Close.{Close}
+use Rattle.flow_world.specs.Close.TheVariants as close
+use Rattle.flow_world.specs.WorldError.{WorldError}
+use Rattle.flow_world.specs.WorldError.TheVariants as refusal
 use Rattle.cacao_cli_rehearsal.specs.Plans.{GoesByPlan}
 use Rattle.cacao_cli_rehearsal.specs.declared.error.RehearsalError.{RehearsalError}
 use Rattle.cacao_cli_rehearsal.specs.declared.error.RehearsalError.TheVariants as error

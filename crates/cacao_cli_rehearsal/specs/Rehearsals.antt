@@ -6,9 +6,9 @@ use Rattle.flow_core_rules.specs.Givens.{Given}
 use Rattle.flow_core.specs.SetupReading.{BreaksRule}
 use Rattle.flow_world_steps.specs.Spent.{all_acts}
 use Rattle.flow_world.specs.Sessions.{HasClosed, HasRefused}
-use Rattle.flow_world_parts.specs.declared.close.Close.{Close}
-use Rattle.flow_world_parts.specs.declared.close.Close.TheVariants as close
-use Rattle.flow_world_parts.specs.declared.error.WorldError.{WorldError}
+use Rattle.flow_world.specs.Close.{Close}
+use Rattle.flow_world.specs.Close.TheVariants as close
+use Rattle.flow_world.specs.WorldError.{WorldError}
 use Rattle.cacao_cli_rehearsal.specs.Books.{rehearsal_text}
 use Rattle.cacao_cli_rehearsal.specs.Counts.{KeepsImages, OpensFew, all_rules}
 use Rattle.cacao_cli_rehearsal.specs.Settings.{IsAccepted}

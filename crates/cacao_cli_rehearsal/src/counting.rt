@@ -1,6 +1,6 @@
 // What the files of a run hold. A disk that fails is answered as want of memory, since it is that of a site that is used up then.
 ghost use Rattle.std.specs.Prelude.{◌≡◌, ◌≢◌, ◌≤◌, ◌+◌, ◌*◌, ◌/◌, ℕ, IsTrue, IfOk, length};
-ghost use Rattle.flow_world_parts.specs.Openings.{blocks_to};
+ghost use Rattle.flow_world.specs.Openings.{blocks_to};
 ghost use Rattle.cacao_cli_rehearsal.specs.Counts.{Counts, CountsActs, CountsFilters, CountsRecords, HoldsFilter, HoldsFilters, HoldsRun, KeepsImages, OpensFew};
 
 use crate::summary::Summary;

@@ -14,10 +14,10 @@ use Rattle.flow_engine_answers.specs.Answers.{IsFirstBadLine}
 use Rattle.flow_engine_answers.specs.Answers as told
 use Rattle.flow_engine_answers.specs.declared.answers.OperatorAnswer.{OperatorAnswer}
 use Rattle.flow_world.specs.Sessions.{HasClosed, HasRefused, IsStart, KeepsAgreement}
-use Rattle.flow_world_parts.specs.declared.close.Close.{Close}
-use Rattle.flow_world_parts.specs.declared.close.Close.TheVariants as close
-use Rattle.flow_world_parts.specs.declared.error.WorldError.{WorldError}
-use Rattle.flow_world_parts.specs.declared.error.WorldError.TheVariants as error
+use Rattle.flow_world.specs.Close.{Close}
+use Rattle.flow_world.specs.Close.TheVariants as close
+use Rattle.flow_world.specs.WorldError.{WorldError}
+use Rattle.flow_world.specs.WorldError.TheVariants as error
 use Rattle.cacao_cli_ends.specs.Ends.{End, refused, bind_refused, ended_ok, ended_failed, paused, waiting, flooded, asked_for}
 use Rattle.cacao_cli_ends.specs.Ends.{other_run, other_book, run_used, past, not_readable, damaged, disk_failed, unsaid}
 use Rattle.cacao_cli_ends.specs.Ends.{no_memory}

@@ -18,10 +18,10 @@ use Rattle.flow_world_steps.specs.Steps.{IsAddressed}
 use Rattle.flow_world_steps.specs.Unbroken.{AreFiltersSure}
 use Rattle.flow_world_steps.specs.Worlds.{Notes, looked, rests, waits}
 use Rattle.flow_world_steps.proofs.Came.{same_last}
-use Rattle.flow_world_parts.specs.Closes.{IsClose}
+use Rattle.flow_world.specs.Closes.{IsClose}
 use Rattle.flow_world.specs.Sessions.{Went}
-use Rattle.flow_world_parts.specs.declared.close.Close.{Close}
-use Rattle.flow_world_parts.specs.declared.close.Close.TheVariants as close
+use Rattle.flow_world.specs.Close.{Close}
+use Rattle.flow_world.specs.Close.TheVariants as close
 use Rattle.cacao_cli_session_laws.specs.Returning.{ActsOnAll, HasActFor, IsRepliedLast, IsTakenLast}
 use Rattle.cacao_cli_ends.specs.Work.{Start}
 use Rattle.cacao_cli_session_laws.proofs.FloodLemmas.{hand-empty, takes-all}

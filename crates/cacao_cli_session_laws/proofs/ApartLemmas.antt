@@ -26,7 +26,7 @@ use Rattle.flow_engine.specs.EngineCalls.{IsWaiting}
 use Rattle.flow_laws.proofs.OneList.{same_acts, same_records}
 use Rattle.flow_world_steps.specs.Handled.{IsCommand, one_reply}
 use Rattle.flow_world_steps.specs.Turns.{answer_for}
-use Rattle.flow_engine_reports.proofs.AcceptLemmas.{accepted-one}
+use Rattle.flow_world_laws.proofs.AcceptLemmas.{accepted-one}
 use Rattle.flow_world_laws.specs.Returned.{ReadsAsRun}
 use Rattle.flow_world_laws.proofs.Returning.{reads_as_one_run}
 use Rattle.cacao_cli_session_laws.specs.Returning.{ActsOnAll, AsksSo, ComesInTurn, HasActFor, IsIdleNow, IsLateSo, IsOfEnabledMove, IsRepliedLast, IsTakenLast, IsToldNext, NextActPasses, NextPasses, PassesInHand, ReadsSo, WouldPassSo}

@@ -2,10 +2,10 @@
 use Rattle.std.proofs.Common.{◌≡◌, inl, inr, refl, ap, subst, arith, ℕ, true, false, List, [], ◌∷◌, Err}
 use Rattle.cacao_site.specs.Counts.{DidNotRise, Rose}
 use Rattle.cacao_site.specs.View.{SiteView}
-use Rattle.flow_world_parts.specs.declared.close.Close.{Close}
-use Rattle.flow_world_parts.specs.declared.close.Close.TheVariants as close
-use Rattle.flow_world_parts.specs.declared.error.WorldError.{WorldError}
-use Rattle.flow_world_parts.specs.declared.error.WorldError.TheVariants as error
+use Rattle.flow_world.specs.Close.{Close}
+use Rattle.flow_world.specs.Close.TheVariants as close
+use Rattle.flow_world.specs.WorldError.{WorldError}
+use Rattle.flow_world.specs.WorldError.TheVariants as error
 use Rattle.flow_world_laws.specs.Complete.{EndsSo, IsUndisturbed, StopsSo, TellsOfAnother}
 use Rattle.cacao_cli_ends.specs.Ends.{End, status_of, no_memory, shelf_failed}
 use Rattle.cacao_cli_ends.specs.Comes.{IsOneOf}

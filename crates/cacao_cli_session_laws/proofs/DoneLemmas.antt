@@ -12,7 +12,7 @@ use Rattle.flow_laws.specs.Images.{IsActs, IsRecords}
 use Rattle.flow_laws.proofs.OneList.{acts_of_layout, none_of_empty, same_records}
 use Rattle.flow_world_steps.specs.Complete.{IsComplete}
 use Rattle.flow_world.specs.Sessions.{HasClosed, IsStart, KeepsAgreement, Went}
-use Rattle.flow_world_parts.specs.declared.close.Close.TheVariants as close
+use Rattle.flow_world.specs.Close.TheVariants as close
 use Rattle.flow_world_laws.proofs.Answering.{send_is_acted_on}
 use Rattle.cacao_cli_session_laws.specs.Completing.{EachSendIsDone, FileHasNoRecord, IsDone}
 use Rattle.cacao_cli_session_laws.proofs.ReturnedRuns.{closes-filters, closes-sure, had-records, holds-there, sound-reads, sure-records}

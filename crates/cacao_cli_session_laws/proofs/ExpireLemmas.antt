@@ -23,11 +23,11 @@ use Rattle.flow_world_steps.specs.Sides.{HoldsWithUnsure}
 use Rattle.flow_world_steps.specs.Unbroken.{IsJournalSure}
 use Rattle.flow_world_steps.specs.Unsure.{UnsureByStep}
 use Rattle.flow_world_steps.specs.Worlds.{Notes}
-use Rattle.flow_world_parts.specs.Errors.{opening_refusal}
-use Rattle.flow_world_parts.specs.Openings.{RefusesJournal, RefusesOpening}
+use Rattle.flow_world.specs.Errors.{opening_refusal}
+use Rattle.flow_world.specs.Openings.{RefusesJournal, RefusesOpening}
 use Rattle.flow_world.specs.Sessions.{HasRefused, IsStart, Went}
-use Rattle.flow_world_parts.specs.declared.error.WorldError.{WorldError}
-use Rattle.flow_world_parts.specs.declared.error.WorldError.TheVariants as error
+use Rattle.flow_world.specs.WorldError.{WorldError}
+use Rattle.flow_world.specs.WorldError.TheVariants as error
 use Rattle.flow_world_laws.proofs.Opening.{OnlyOpens, opens_refused}
 use Rattle.flow_world_laws.proofs.Undamaged.{reads_agree}
 use Rattle.cacao_cli_session_laws.specs.Completing.{AddsNoExpire}

@@ -24,7 +24,7 @@ use Rattle.flow_world_steps.specs.Sums.{total}
 use Rattle.flow_world_steps.specs.Unbroken.{AreFiltersSure, IsJournalSure}
 use Rattle.flow_world_steps.specs.Worlds.{Notes, Phase, World}
 use Rattle.flow_world_steps.proofs.Failing.{fails_notes}
-use Rattle.flow_world_parts.specs.Openings.{IsFilterOpen}
+use Rattle.flow_world.specs.Openings.{IsFilterOpen}
 use Rattle.flow_world.specs.Sessions.{Went}
 use Rattle.cacao_cli_session_laws.specs.Returning.{FloodsSo, GainsActs}
 use Rattle.cacao_cli_ends.specs.Work.{Start}

@@ -34,9 +34,9 @@ use Rattle.flow_world_steps.specs.Worlds.{IsGoing, Notes, Phase, World, holds, l
 use Rattle.flow_world_steps.proofs.Asked.{step_not_opened}
 use Rattle.flow_world_steps.proofs.Handling.{steps_handle}
 use Rattle.flow_world_steps.proofs.Timely.{in_time_bounds, opened_in_time, steps_in_time}
-use Rattle.flow_world_parts.specs.Closes.{IsRefusal}
+use Rattle.flow_world.specs.Closes.{IsRefusal}
 use Rattle.flow_world.specs.Sessions.{Went}
-use Rattle.flow_world_parts.specs.declared.error.WorldError.TheVariants as error
+use Rattle.flow_world.specs.WorldError.TheVariants as error
 use Rattle.flow_world_laws.specs.Ends.{PassesAt, TurnAt}
 use Rattle.flow_world_laws.specs.Ends.PassesAt.{by_begin, by_move, by_upgrade, by_told, by_expire, by_reply, by_act}
 use Rattle.flow_world_laws.proofs.Shown.{steps_in_turn}

@@ -5,12 +5,12 @@ use Rattle.cacao_site.specs.View.{SiteView}
 use Rattle.flow_engine_answers.specs.declared.answers.OperatorAnswer.{OperatorAnswer}
 use Rattle.flow_core_rules.specs.Givens.{Given}
 use Rattle.flow_world_steps.specs.Worlds.{Cause, not_said, refused as refused_by}
-use Rattle.flow_world_parts.specs.Closes.{refusal_of}
+use Rattle.flow_world.specs.Closes.{refusal_of}
 use Rattle.flow_world.specs.Sessions.{HasRefused, RefusesLater, Went}
-use Rattle.flow_world_parts.specs.declared.close.Close.{Close}
-use Rattle.flow_world_parts.specs.declared.close.Close.TheVariants as close
-use Rattle.flow_world_parts.specs.declared.error.WorldError.{WorldError}
-use Rattle.flow_world_parts.specs.declared.error.WorldError.TheVariants as error
+use Rattle.flow_world.specs.Close.{Close}
+use Rattle.flow_world.specs.Close.TheVariants as close
+use Rattle.flow_world.specs.WorldError.{WorldError}
+use Rattle.flow_world.specs.WorldError.TheVariants as error
 use Rattle.flow_world.proofs.CloseLemmas.{closes_are_no_refusals}
 use Rattle.flow_world.proofs.FaultLemmas.{open-counts, refused-counts, refuses-failed, refuses-unsaid}
 use Rattle.cacao_cli_ends.specs.Ends.{End, status_of, disk_failed, ended_ok, unsaid}

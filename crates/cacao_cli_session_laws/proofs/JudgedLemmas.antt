@@ -4,7 +4,7 @@ use Rattle.cacao_site.specs.View.{SiteView}
 use Rattle.flow_core_setup.specs.declared.setup_errors.SetupError.TheVariants as setup_error
 use Rattle.flow_engine_answers.specs.Answers as told
 use Rattle.flow_engine_answers.proofs.AnswerLawLemmas.{bad_lines_tell_nothing}
-use Rattle.flow_engine_reports.proofs.AcceptLemmas.{not-accepted}
+use Rattle.flow_world_laws.proofs.AcceptLemmas.{not-accepted}
 use Rattle.cacao_cli_words.specs.Words.{Text}
 use Rattle.cacao_cli_ends.specs.Ends.{End, status_of, ended_ok}
 use Rattle.cacao_cli_session.specs.Holding.{CameTo, HasAnswers, HasBadAnswer, IsAcceptedStart, IsRefusedStart}

@@ -17,10 +17,10 @@ use Rattle.flow_world_steps.specs.Ready.{FilterStands, HoldsActsWithUnsure}
 use Rattle.flow_world_steps.specs.Unsure.{UnsureByFilter}
 use Rattle.flow_world_steps.specs.Worlds.{Notes}
 use Rattle.flow_world_steps.proofs.Unsure.{steps_unsure_act}
-use Rattle.flow_world_parts.specs.Openings.{IsFileCause, RefusesJournal, RefusesOpening, RefusesSecond}
+use Rattle.flow_world.specs.Openings.{IsFileCause, RefusesJournal, RefusesOpening, RefusesSecond}
 use Rattle.flow_world.specs.Sessions.{Went}
-use Rattle.flow_world_parts.specs.declared.error.WorldError.{WorldError}
-use Rattle.flow_world_parts.specs.declared.error.WorldError.TheVariants as error
+use Rattle.flow_world.specs.WorldError.{WorldError}
+use Rattle.flow_world.specs.WorldError.TheVariants as error
 use Rattle.cacao_cli_ends.specs.Lines.{SaysAtMostALine}
 use Rattle.cacao_cli_session_laws.specs.Returning.{GainsActs, KeepsActs}
 use Rattle.cacao_cli_session_laws.proofs.ExpireLemmas.{disk-or-not}

@@ -19,9 +19,9 @@ use Rattle.flow_world_steps.specs.Unbroken.{AreFiltersSure, EndedByFilter}
 use Rattle.flow_world_steps.specs.Unsure.{UnsureByFilter}
 use Rattle.flow_world_steps.specs.Worlds.{Cause, Notes, Phase, World, disk_failed, holds, past, refused, wants_memory}
 use Rattle.flow_world_steps.proofs.Unsure.{steps_unsure_act}
-use Rattle.flow_world_parts.specs.Closes.{IsRefusal}
+use Rattle.flow_world.specs.Closes.{IsRefusal}
 use Rattle.flow_world.specs.Sessions.{Went}
-use Rattle.flow_world_parts.specs.declared.error.WorldError.TheVariants as error
+use Rattle.flow_world.specs.WorldError.TheVariants as error
 use Rattle.flow_world_laws.proofs.WholeActs.{acts_undamaged}
 use Rattle.cacao_cli_session_laws.proofs.ReturnedRuns.{HoldsFilter, ReadsImages, cause-past, same-cause, sound-there, there-at, told-there}
 

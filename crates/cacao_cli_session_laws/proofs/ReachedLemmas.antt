@@ -27,9 +27,9 @@ use Rattle.flow_world_steps.proofs.Adding.{fails_clock}
 use Rattle.flow_world_steps.proofs.Ended.{going_as, steps_end}
 use Rattle.flow_world_steps.proofs.Failing.{fails_notes}
 use Rattle.flow_world_steps.proofs.Timely.{goes_reached}
-use Rattle.flow_world_parts.specs.Closes.{IsClose}
-use Rattle.flow_world_parts.specs.declared.close.Close.{Close}
-use Rattle.flow_world_parts.specs.declared.close.Close.TheVariants as close
+use Rattle.flow_world.specs.Closes.{IsClose}
+use Rattle.flow_world.specs.Close.{Close}
+use Rattle.flow_world.specs.Close.TheVariants as close
 use Rattle.flow_world.specs.Sessions.{HasClosed}
 use Rattle.flow_world_laws.specs.Ends.{IsInTurn, PassesAt, TurnAt}
 use Rattle.flow_world_laws.specs.Ends.PassesAt.{by_begin, by_move, by_upgrade, by_told, by_expire, by_reply, by_act}

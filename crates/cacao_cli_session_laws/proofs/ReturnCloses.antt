@@ -20,8 +20,8 @@ use Rattle.flow_world_steps.specs.Sums.{total}
 use Rattle.flow_world_steps.specs.Unbroken.{IsJournalSure}
 use Rattle.flow_world_steps.specs.Worlds.{Notes, Phase, rests}
 use Rattle.flow_world.specs.Sessions.{HasClosed, Went}
-use Rattle.flow_world_parts.specs.declared.close.Close.{Close}
-use Rattle.flow_world_parts.specs.declared.close.Close.TheVariants as close
+use Rattle.flow_world.specs.Close.{Close}
+use Rattle.flow_world.specs.Close.TheVariants as close
 use Rattle.flow_world_laws.specs.Ends.{EndsInTurn, IsInTurn}
 use Rattle.flow_world_laws.specs.Ends as ends_in
 use Rattle.flow_world_laws.specs.Returned.{ReadsAsRun}

@@ -12,7 +12,7 @@ use Rattle.flow_engine_history.specs.Laws.{HoldsRun}
 use Rattle.flow_engine_history.specs.Openings.{RefusesImage}
 use Rattle.flow_engine_history.specs.declared.error.EngineError.TheVariants as refusal
 use Rattle.flow_engine_history.proofs.RefusalLaws.{no_run_where_refused}
-use Rattle.flow_engine_reports.proofs.AcceptLemmas.{accepted-one}
+use Rattle.flow_world_laws.proofs.AcceptLemmas.{accepted-one}
 use Rattle.flow_world_laws.specs.Returned.{ReadsAsRun}
 use Rattle.flow_world_laws.specs.Undamaged.{IsDamagedFor}
 use Rattle.flow_world_laws.proofs.Returning.{reads_as_one_run}

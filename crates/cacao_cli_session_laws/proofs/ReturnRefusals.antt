@@ -25,12 +25,12 @@ use Rattle.flow_laws.specs.Images.{IsRecords}
 use Rattle.flow_laws.proofs.OneList.{stands_empty}
 use Rattle.flow_world_steps.specs.Unbroken.{IsJournalSure}
 use Rattle.flow_world_steps.specs.Worlds.{Cause, disk_failed, not_said, past, run_used, wants_memory}
-use Rattle.flow_world_parts.specs.Closes.{IsRefusal, refusal_of}
-use Rattle.flow_world_parts.specs.Errors.{opening_refusal}
-use Rattle.flow_world_parts.specs.Openings.{IsFileCause, RefusesJournal, RefusesSecond}
+use Rattle.flow_world.specs.Closes.{IsRefusal, refusal_of}
+use Rattle.flow_world.specs.Errors.{opening_refusal}
+use Rattle.flow_world.specs.Openings.{IsFileCause, RefusesJournal, RefusesSecond}
 use Rattle.flow_world.specs.Sessions.{HasRefused, RefusesLater}
-use Rattle.flow_world_parts.specs.declared.error.WorldError.{WorldError}
-use Rattle.flow_world_parts.specs.declared.error.WorldError.TheVariants as error
+use Rattle.flow_world.specs.WorldError.{WorldError}
+use Rattle.flow_world.specs.WorldError.TheVariants as error
 use Rattle.cacao_cli_ends.specs.Ends.{status_of}
 use Rattle.cacao_cli_session.specs.Holding.{AreAnswers, error_end}
 use Rattle.cacao_cli_session_laws.specs.Returning.{BeginsAnother, FindsUsed, GainsRecords, HasDamagedFilter, LeavesRecords, ReadsTooLarge, ReturnsSo}

@@ -18,9 +18,9 @@ use Rattle.flow_world_steps.specs.Turns.{most_ignored}
 use Rattle.flow_world_steps.specs.Unbroken.{AreFiltersSure, IsJournalSure}
 use Rattle.flow_world_steps.specs.Worlds.{IsGoing, Notes, Phase, World, looked, opened, past, refused, rests, waits}
 use Rattle.flow_world_steps.proofs.Timely.{in_time_bounds, opened_in_time, steps_in_time}
-use Rattle.flow_world_parts.specs.Closes.{IsClose}
+use Rattle.flow_world.specs.Closes.{IsClose}
 use Rattle.flow_world.specs.Sessions.{Went}
-use Rattle.flow_world_parts.specs.declared.close.Close.TheVariants as close
+use Rattle.flow_world.specs.Close.TheVariants as close
 use Rattle.flow_world_laws.specs.Ends.{IsInTurn}
 use Rattle.flow_world_laws.specs.Returned.{ReadsAsRun}
 use Rattle.flow_world_laws.proofs.Returning.{reads_as_one_run}

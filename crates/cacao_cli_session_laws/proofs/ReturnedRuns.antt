@@ -38,12 +38,12 @@ use Rattle.flow_world_steps.specs.Steps.{HasRun, IsActCause}
 use Rattle.flow_world_steps.specs.Unbroken.{AreFiltersSure, EndedByFilter, IsJournalSure}
 use Rattle.flow_world_steps.specs.Unsure.{UnsureByStep}
 use Rattle.flow_world_steps.specs.Worlds.{Cause, Phase, World, disk_failed, holds, not_said, past, refused, run_used, wants_memory}
-use Rattle.flow_world_parts.specs.Closes.{IsClose, IsRefusal, refusal_of}
+use Rattle.flow_world.specs.Closes.{IsClose, IsRefusal, refusal_of}
 use Rattle.flow_world.specs.Sessions.{Went}
-use Rattle.flow_world_parts.specs.declared.close.Close.{Close}
-use Rattle.flow_world_parts.specs.declared.close.Close.TheVariants as close
-use Rattle.flow_world_parts.specs.declared.error.WorldError.{WorldError}
-use Rattle.flow_world_parts.specs.declared.error.WorldError.TheVariants as error
+use Rattle.flow_world.specs.Close.{Close}
+use Rattle.flow_world.specs.Close.TheVariants as close
+use Rattle.flow_world.specs.WorldError.{WorldError}
+use Rattle.flow_world.specs.WorldError.TheVariants as error
 use Rattle.flow_world.proofs.CloseLemmas.{closes_are_no_refusals}
 use Rattle.flow_world_laws.specs.Ends.{TurnAt}
 use Rattle.flow_world_laws.specs.Returned.{ReadsAsRun}

@@ -3,3 +3,7 @@ pub mod PartLemmas
 pub mod ReadyLemmas
 pub mod RunFiles
 pub mod SplitLemmas
+pub use Rattle.cacao_cli_status_laws.proofs.StartLemmas
+pub use Rattle.cacao_cli_status_laws.proofs.CountLemmas
+pub use Rattle.cacao_cli_status_laws.proofs.HoldLemmas
+pub use Rattle.cacao_cli_status_laws.proofs.StepLemmas

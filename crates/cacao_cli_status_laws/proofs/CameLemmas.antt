@@ -8,7 +8,7 @@ use Rattle.cacao_cli_ends.specs.Asked.{runs}
 use Rattle.cacao_cli_status_laws.specs.Ended.{Performs}
 use Rattle.cacao_cli_ends.specs.Ends.{End, status_of}
 use Rattle.cacao_cli_ends.specs.Comes.{IsOneOf}
-use Rattle.cacao_cli_session.specs.Holding.{ClosesSo, RefusesSo}
+use Rattle.cacao_cli_session_laws.specs.Holding.{ClosesSo, RefusesSo}
 use Rattle.cacao_cli_ends.specs.Lines.{Tells}
 use Rattle.cacao_cli_session_laws.specs.Returning.{ActsOnAll}
 use Rattle.cacao_cli_ends.specs.Work.{Start, Work, compares, ends, judges, opens_filter, opens_run, rehearsals, starts, work}

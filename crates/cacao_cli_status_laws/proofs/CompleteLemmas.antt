@@ -10,11 +10,11 @@ use Rattle.flow_core.specs.Setups.{AreAccepted}
 use Rattle.flow_core_rules.specs.Accepted.{Accepted}
 use Rattle.flow_core_rules.specs.Givens.{Given}
 use Rattle.flow_world.specs.Sessions.{HasClosed, HasRefused, IsStart, KeepsAgreement}
-use Rattle.flow_world_parts.specs.declared.close.Close.{Close}
-use Rattle.flow_world_parts.specs.declared.close.Close.TheVariants as close
-use Rattle.flow_world_parts.specs.declared.error.WorldError.{WorldError}
-use Rattle.flow_world_laws.specs.Complete.{EndsSo, IsForThisRun, IsUndisturbed, NoneFindsAnother, StopsSo, UndisturbedCompletes}
-use Rattle.flow_world_laws.specs.Undamaged.{ComesOfTexts}
+use Rattle.flow_world.specs.Close.{Close}
+use Rattle.flow_world.specs.Close.TheVariants as close
+use Rattle.flow_world.specs.WorldError.{WorldError}
+use Rattle.cacao_cli_session_laws.specs.Complete.{EndsSo, IsForThisRun, IsUndisturbed, NoneFindsAnother, StopsSo, UndisturbedCompletes}
+use Rattle.cacao_cli_session_laws.specs.Undamaged.{ComesOfTexts}
 use Rattle.cacao_cli_words.specs.Requests.{RunRequest}
 use Rattle.cacao_cli_ends.specs.Asked.{Asked, canonises, checks, runs, shows, lists_rules, decides, shadows, rehearses, audits}
 use Rattle.cacao_cli_ends.specs.FileCauses.{HasTexts, HasTrees, LacksTree}
@@ -23,7 +23,7 @@ use Rattle.cacao_cli_status_laws.specs.Ended.{Performed, Performs}
 use Rattle.cacao_cli_ends.specs.Ends.{End, status_of, text_of, no_memory, past}
 use Rattle.cacao_cli_ends.specs.Comes.{IsOneOf, file_faults}
 use Rattle.cacao_cli_ends.specs.Files.{File, Files, NamedText, ShelfCall, files_of, has_too_many, reading}
-use Rattle.cacao_cli_session.specs.Holding.{ClosesSo, IsRefusedStart, RefusesSo, close_end, error_end}
+use Rattle.cacao_cli_session_laws.specs.Holding.{ClosesSo, IsRefusedStart, RefusesSo, close_end, error_end}
 use Rattle.cacao_cli_ends.specs.Lines.{SaysAtMostALine, Tells}
 use Rattle.cacao_cli_ends.specs.Work.{Start, Work, ends, starts, start_of, trees_wanted, work}
 use Rattle.cacao_cli_ends.specs.declared.limit.Limit.TheVariants.{BookCount}

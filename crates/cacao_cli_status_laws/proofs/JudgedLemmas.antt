@@ -9,7 +9,7 @@ use Rattle.cacao_cli_ends.specs.FileCauses.{LacksTree}
 use Rattle.cacao_cli_status_laws.specs.Exact.{HasStatus, IsSettled}
 use Rattle.cacao_cli_ends.specs.Comes.{IsOneOf}
 use Rattle.cacao_cli_ends.specs.Files.{NamedText}
-use Rattle.cacao_cli_session.specs.Holding.{HasBadAnswer, IsAcceptedStart, IsRefusedStart}
+use Rattle.cacao_cli_session_laws.specs.Holding.{HasBadAnswer, IsAcceptedStart, IsRefusedStart}
 use Rattle.cacao_cli_ends.specs.Work.{Start, starts}
 use Rattle.cacao_cli_ends.proofs.TreeCases.{Roots, Treeless}
 use Rattle.cacao_cli_ends.proofs.StatusLists.{not-among, session_statuses}

@@ -18,7 +18,7 @@ use Rattle.cacao_cli_status_laws.specs.Rehearsing.{Rehearses}
 use Rattle.cacao_cli_ends.specs.Work.{Work, ends, judges, opens_filter, opens_run, compares, rehearsals, at_rules, at_shadows, at_decisions, or_end, packets_or_end, tree_of, trees_of, canon_line, run_files, work, work_on, Start, starts, start_of, trees_wanted}
 use Rattle.cacao_cli_status_laws.specs.Ended.{Performs, Performed, Ended}
 use Rattle.cacao_cli_ends.specs.Comes.{IsOneOf}
-use Rattle.cacao_cli_session.specs.Holding.{HoldsSession}
+use Rattle.cacao_cli_session_laws.specs.Holding.{HoldsSession}
 use Rattle.cacao_cli_status_laws.specs.Leaves.{LeavesSession, Leaves}
 use Rattle.cacao_cli_ends.specs.Stays.{SaysAtMostOnce, ReadsAtMost, WritesNothing}
 use Rattle.cacao_cli_ends.specs.declared.limit.Limit.TheVariants.{BookCount}

@@ -26,3 +26,5 @@ pub mod SteadyLemmas
 pub mod UndamagedLemmas
 pub mod UsageLemmas
 pub mod WithinLemmas
+pub use Rattle.cacao_cli_session_laws.proofs.HoldLemmas
+pub use Rattle.cacao_cli_session_laws.proofs.StepLemmas

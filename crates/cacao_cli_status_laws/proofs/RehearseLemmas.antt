@@ -9,10 +9,10 @@ use Rattle.cacao_site.specs.View.{SiteView}
 use Rattle.cacao_site_memory.specs.declared.site.MemorySite.{MemorySite}
 use Rattle.flow_core_setup.specs.declared.setup_errors.SetupError.TheVariants as setup_error
 use Rattle.flow_core_rules.specs.Givens.{Given}
-use Rattle.flow_world_parts.specs.declared.close.Close.{Close}
-use Rattle.flow_world_parts.specs.declared.close.Close.TheVariants as close
-use Rattle.flow_world_parts.specs.declared.error.WorldError.{WorldError}
-use Rattle.flow_world_parts.specs.declared.error.WorldError.TheVariants as refusal
+use Rattle.flow_world.specs.Close.{Close}
+use Rattle.flow_world.specs.Close.TheVariants as close
+use Rattle.flow_world.specs.WorldError.{WorldError}
+use Rattle.flow_world.specs.WorldError.TheVariants as refusal
 use Rattle.cacao_cli_rehearsal.specs.Books.{rehearsal_text}
 use Rattle.cacao_cli_rehearsal.specs.NewSites.{EndsByPlan, MayClose, MayComeOfNew, MayRefuse}
 use Rattle.cacao_cli_rehearsal.specs.Plans.{GoesByPlan}
@@ -26,7 +26,7 @@ use Rattle.flow_engine_reports.proofs.AcceptLemmas.{not-accepted}
 use Rattle.cacao_cli_ends.specs.Ends.{End, accepted, agrees, asked_for, bind_refused, damaged, disagrees, disk_failed, peers_failed, done, ended_failed, ended_ok, flooded, no_memory, no_such_file, not_readable, not_understood, other_book, other_run, past, paused, refused, rehearsed, run_used, shelf_failed, status_of, text_of, unsaid, waiting}
 use Rattle.cacao_cli_status_laws.specs.Exact.{HasRehearsed, IsRehearsed}
 use Rattle.cacao_cli_ends.specs.Comes.{IsOneOf, run_rehearsal_statuses}
-use Rattle.cacao_cli_session.specs.Holding.{close_end, error_end}
+use Rattle.cacao_cli_session_laws.specs.Holding.{close_end, error_end}
 use Rattle.cacao_cli_ends.specs.Lines.{Tells}
 use Rattle.cacao_cli_status_laws.specs.Rehearsing.{MayEndSo, EndsRun, IsBrokenRehearsal, RehearsalTo, Rehearses, TellsRehearsal, failed_end}
 use Rattle.cacao_cli_ends.proofs.EndCases.{nine-or-not}

@@ -8,10 +8,10 @@ use Rattle.flow_engine_answers.specs.declared.answers.OperatorAnswer.{OperatorAn
 use Rattle.flow_world_steps.specs.Causes.{IsShort, Shows}
 use Rattle.flow_world_steps.specs.Worlds.{Phase}
 use Rattle.flow_world.specs.Sessions.{HasClosed}
-use Rattle.flow_world_parts.specs.declared.close.Close.{Close}
-use Rattle.flow_world_parts.specs.declared.close.Close.TheVariants as close
-use Rattle.flow_world_parts.specs.declared.error.WorldError.{WorldError}
-use Rattle.flow_world_parts.specs.declared.error.WorldError.TheVariants as error
+use Rattle.flow_world.specs.Close.{Close}
+use Rattle.flow_world.specs.Close.TheVariants as close
+use Rattle.flow_world.specs.WorldError.{WorldError}
+use Rattle.flow_world.specs.WorldError.TheVariants as error
 use Rattle.cacao_cli_words.specs.Requests.{RunRequest}
 use Rattle.cacao_cli_ends.specs.Asked.{Asked, canonises, checks, runs, shows, lists_rules, decides, shadows, rehearses, audits}
 use Rattle.cacao_cli_status_laws.specs.Ended.{Ended}
@@ -19,7 +19,7 @@ use Rattle.cacao_cli_ends.specs.Ends.{End, status_of, past}
 use Rattle.cacao_cli_status_laws.specs.Exact.{HasStatus, IsSettled}
 use Rattle.cacao_cli_ends.specs.Comes.{IsOneOf}
 use Rattle.cacao_cli_ends.specs.Files.{Files, NamedText, Reads, ShelfCall, files_of, has_too_many}
-use Rattle.cacao_cli_session.specs.Holding.{ClosesSo, RefusesSo, close_end, error_end}
+use Rattle.cacao_cli_session_laws.specs.Holding.{ClosesSo, RefusesSo, close_end, error_end}
 use Rattle.cacao_cli_ends.specs.Lines.{SaysAtMostALine}
 use Rattle.cacao_cli_status_laws.specs.Clocks.{StandsShort}
 use Rattle.cacao_cli_ends.specs.Work.{Start, ends, starts, or_end, start_of, trees_wanted, work, work_on}

@@ -5,10 +5,10 @@ use Rattle.std.specs.List.{list_any}
 use Rattle.std.proofs.lemmas.Bool.{true≢false}
 use Rattle.cacao_site.specs.Counts.{Rose, last_count}
 use Rattle.cacao_site.specs.View.{DiskView, SiteView}
-use Rattle.flow_world_parts.specs.declared.close.Close.{Close}
-use Rattle.flow_world_parts.specs.declared.close.Close.TheVariants as close
-use Rattle.flow_world_parts.specs.declared.error.WorldError.{WorldError}
-use Rattle.flow_world_parts.specs.declared.error.WorldError.TheVariants as error
+use Rattle.flow_world.specs.Close.{Close}
+use Rattle.flow_world.specs.Close.TheVariants as close
+use Rattle.flow_world.specs.WorldError.{WorldError}
+use Rattle.flow_world.specs.WorldError.TheVariants as error
 use Rattle.cacao_cli_ends.specs.Asked.{runs}
 use Rattle.cacao_cli_ends.specs.Ends.{End, damaged, ended_ok, no_such_file, not_readable, past, status_of}
 use Rattle.cacao_cli_ends.specs.Files.{Files, NamedText, files_of, has_too_many, reading}
@@ -17,7 +17,7 @@ use Rattle.cacao_cli_status_laws.specs.Exact.{HasStatus, IsSettled}
 use Rattle.cacao_cli_ends.specs.Comes.{IsOneOf, statuses_beside, reached_statuses, disk_failed_if_full}
 use Rattle.cacao_cli_status_laws.specs.Causes.{FindsItDamaged, IsPastLimit, SessionTo}
 use Rattle.cacao_cli_ends.specs.FileCauses.{HasTexts, IsMissing, IsTooLong}
-use Rattle.cacao_cli_session.specs.Holding.{CameTo, ClosesSo, RefusesSo, close_end, error_end}
+use Rattle.cacao_cli_session_laws.specs.Holding.{CameTo, ClosesSo, RefusesSo, close_end, error_end}
 use Rattle.cacao_cli_ends.specs.Lines.{SaysAtMostALine}
 use Rattle.cacao_cli_ends.specs.declared.limit.Limit.{Limit}
 use Rattle.cacao_cli_ends.specs.declared.limit.Limit.TheVariants.{BookCount}

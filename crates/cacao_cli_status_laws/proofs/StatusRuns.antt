@@ -15,7 +15,7 @@ use Rattle.cacao_cli_status_laws.specs.Causes.{IsUnreadable, SessionTo}
 use Rattle.cacao_cli_ends.specs.declared.limit.Limit.TheVariants.{BookCount}
 use Rattle.cacao_cli_status_laws.proofs.CauseLemmas.{missing-long, texts-within, ReadingCase, all_within, one_missing, one_long, reading_case, first-missing, first-long}
 use Rattle.cacao_cli_ends.proofs.TreeCases.{Roots, Treeless, TreesCase, all_trees, one_treeless, trees_case}
-use Rattle.cacao_cli_session.specs.Holding.{HasBadAnswer, IsAcceptedStart, IsRefusedStart}
+use Rattle.cacao_cli_session_laws.specs.Holding.{HasBadAnswer, IsAcceptedStart, IsRefusedStart}
 use Rattle.cacao_cli_ends.specs.declared.limit.Limit.{Limit}
 use Rattle.cacao_cli_ends.specs.declared.reason.Reason.{Reason}
 use Rattle.cacao_cli_words.specs.Requests.{RunRequest}

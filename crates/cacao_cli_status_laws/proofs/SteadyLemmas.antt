@@ -10,7 +10,7 @@ use Rattle.cacao_cli_ends.specs.Asked.{Asked}
 use Rattle.cacao_cli_status_laws.specs.Ended.{Ended, Performs}
 use Rattle.cacao_cli_ends.specs.Ends.{End, disk_failed, done, status_of, text_of}
 use Rattle.cacao_cli_ends.specs.Files.{ShelfCall}
-use Rattle.cacao_cli_session.specs.Holding.{ClosesSo, RefusesSo, error_end}
+use Rattle.cacao_cli_session_laws.specs.Holding.{ClosesSo, RefusesSo, error_end}
 use Rattle.cacao_cli_ends.specs.Lines.{Tells}
 use Rattle.cacao_cli_ends.specs.Work.{Work, Start, compares, ends, judges, opens_filter, opens_run, rehearsals, starts, work}
 use Rattle.cacao_cli_looks.proofs.AuditLemmas.{compares-disk}

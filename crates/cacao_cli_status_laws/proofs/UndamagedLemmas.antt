@@ -14,18 +14,18 @@ use Rattle.flow_core_rules.specs.Givens.{Given}
 use Rattle.flow_engine_answers.specs.declared.answers.OperatorAnswer.{OperatorAnswer}
 use Rattle.flow_laws.specs.Good.{IsGood}
 use Rattle.flow_world.specs.Sessions.{HasRefused}
-use Rattle.flow_world_parts.specs.declared.close.Close.{Close}
-use Rattle.flow_world_parts.specs.declared.close.Close.TheVariants as close
-use Rattle.flow_world_parts.specs.declared.error.WorldError.{WorldError}
-use Rattle.flow_world_parts.specs.declared.error.WorldError.TheVariants as error
-use Rattle.flow_world_laws.specs.Undamaged.{ComesOfTexts, GoodIsUndamaged, IsUndamaged, NoneFindsDamage}
+use Rattle.flow_world.specs.Close.{Close}
+use Rattle.flow_world.specs.Close.TheVariants as close
+use Rattle.flow_world.specs.WorldError.{WorldError}
+use Rattle.flow_world.specs.WorldError.TheVariants as error
+use Rattle.cacao_cli_session_laws.specs.Undamaged.{ComesOfTexts, GoodIsUndamaged, IsUndamaged, NoneFindsDamage}
 use Rattle.cacao_cli_ends.specs.Asked.{Asked, canonises, checks, runs, shows, lists_rules, decides, shadows, rehearses, audits}
 use Rattle.cacao_cli_status_laws.specs.Ended.{Ended, Performs}
 use Rattle.cacao_cli_ends.specs.Ends.{End, status_of, accepted, disk_failed, done, no_memory, past}
 use Rattle.cacao_cli_looks.specs.Audited.{HasVerdict}
 use Rattle.cacao_cli_ends.specs.Comes.{IsOneOf}
 use Rattle.cacao_cli_ends.specs.Files.{Files, NamedText, ShelfCall, files_of, has_too_many, Reads}
-use Rattle.cacao_cli_session.specs.Holding.{ClosesSo, RefusesSo, close_end, error_end}
+use Rattle.cacao_cli_session_laws.specs.Holding.{ClosesSo, RefusesSo, close_end, error_end}
 use Rattle.cacao_cli_ends.specs.Lines.{Tells}
 use Rattle.cacao_cli_looks.specs.Openings.{Opens}
 use Rattle.cacao_cli_ends.specs.Work.{Work, ends, judges, opens_filter, opens_run, compares, rehearsals, starts, at_decisions, canon_line, or_end, packets_or_end, start_of, trees_of, trees_wanted, work, work_on}

@@ -18,16 +18,16 @@ use Rattle.flow_world_steps.specs.Written.{act_bytes, record_bytes}
 use Rattle.flow_world_steps.proofs.Failing.{fails_notes}
 use Rattle.flow_world_steps.proofs.Unsure.{steps_unsure}
 use Rattle.cacao_site.specs.declared.parcel.Parcel.{Parcel}
-use Rattle.flow_world_parts.specs.Openings.{RefusesOpening, blocks_to}
+use Rattle.flow_world.specs.Openings.{RefusesOpening, blocks_to}
 use Rattle.flow_world.specs.Sessions.{HasRefused, Went}
-use Rattle.flow_world_parts.specs.declared.error.WorldError.{WorldError}
+use Rattle.flow_world.specs.WorldError.{WorldError}
 use Rattle.cacao_cli_words.specs.Requests.{RunRequest}
 use Rattle.cacao_cli_words.specs.Words.{Text}
 use Rattle.cacao_cli_ends.specs.Asked.{Asked, canonises, checks, runs, shows, lists_rules, decides, shadows, rehearses, audits}
 use Rattle.cacao_cli_status_laws.specs.Ended.{Ended, Performs}
 use Rattle.cacao_cli_ends.specs.Ends.{End, done, not_understood, past}
 use Rattle.cacao_cli_ends.specs.Files.{NamedText, ShelfCall, has_too_many}
-use Rattle.cacao_cli_session.specs.Holding.{ClosesSo, RefusesSo}
+use Rattle.cacao_cli_session_laws.specs.Holding.{ClosesSo, RefusesSo}
 use Rattle.cacao_cli_status_laws.specs.Leaves.{LeavesSession}
 use Rattle.cacao_cli_ends.specs.Stays.{WritesNothing}
 use Rattle.cacao_cli_ends.specs.Lines.{Tells}

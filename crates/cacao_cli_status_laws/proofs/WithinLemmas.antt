@@ -15,15 +15,15 @@ use Rattle.flow_world_steps.specs.Causes.{Shows}
 use Rattle.flow_world_steps.specs.Unbroken.{IsJournalSure}
 use Rattle.flow_world_steps.specs.Unsure.{UnsureByStep}
 use Rattle.flow_world_steps.specs.Worlds.{Phase}
-use Rattle.flow_world_parts.specs.Openings.{RefusesOpening}
+use Rattle.flow_world.specs.Openings.{RefusesOpening}
 use Rattle.flow_world.specs.Sessions.{HasRefused, Went}
-use Rattle.flow_world_parts.specs.declared.error.WorldError.{WorldError}
+use Rattle.flow_world.specs.WorldError.{WorldError}
 use Rattle.cacao_cli_words.specs.Requests.{RunRequest}
 use Rattle.cacao_cli_ends.specs.Asked.{runs}
 use Rattle.cacao_cli_status_laws.specs.Ended.{Performs}
 use Rattle.cacao_cli_ends.specs.Ends.{End, past}
 use Rattle.cacao_cli_ends.specs.Files.{NamedText, has_too_many}
-use Rattle.cacao_cli_session.specs.Holding.{ClosesSo, RefusesSo}
+use Rattle.cacao_cli_session_laws.specs.Holding.{ClosesSo, RefusesSo}
 use Rattle.cacao_cli_ends.specs.Lines.{SaysAtMostALine}
 use Rattle.cacao_cli_session_laws.specs.Returning.{HasMore, KeepsActs, KeepsRecords}
 use Rattle.cacao_cli_ends.specs.Work.{Start, Work, ends, judges, opens_filter, opens_run, compares, rehearsals, starts, or_end, start_of, trees_of, trees_wanted, work, work_on}

@@ -11,7 +11,7 @@ use Rattle.cacao_cli_ends.specs.Ends.{End, asked_for, damaged, ended_ok, other_b
 use Rattle.cacao_cli_ends.specs.Ends.{waiting}
 use Rattle.cacao_cli_words.specs.Requests.{RunRequest}
 use Rattle.cacao_cli_status_laws.specs.Exact.{IsBroken}
-use Rattle.cacao_cli_session.specs.Holding.{CameTo, HasBadAnswer, IsRefusedStart}
+use Rattle.cacao_cli_session_laws.specs.Holding.{CameTo, HasBadAnswer, IsRefusedStart}
 use Rattle.cacao_cli_ends.specs.declared.limit.Limit.{Limit}
 use Rattle.cacao_cli_looks.specs.Openings.{HoldsFilter, HoldsRun, IsDamagedFilter, IsDamagedRun, IsTooLargeRun}
 use Rattle.cacao_cli_ends.specs.Files.{File, Files, files_of, has_too_many, packet_file, NamedText}

@@ -6,7 +6,7 @@ use Rattle.cacao_cli_ends.specs.Asked.{Asked}
 use Rattle.cacao_cli_looks.specs.Audited.{Compares}
 use Rattle.cacao_cli_ends.specs.Ends.{End}
 use Rattle.cacao_cli_ends.specs.Files.{ShelfCall, NamedText, ReadsTo, files_of}
-use Rattle.cacao_cli_session.specs.Holding.{HoldsSession, TellsBadLine, TellsBindBreak, TellsBookBreak, WantsToStart}
+use Rattle.cacao_cli_session_laws.specs.Holding.{HoldsSession, TellsBadLine, TellsBindBreak, TellsBookBreak, WantsToStart}
 use Rattle.cacao_cli_ends.specs.Lines.{SaysWork, Tells}
 use Rattle.cacao_cli_looks.specs.Openings.{FailsToOpen, FindsDamage, FindsNoRun, FindsTooMany, SaysFilter, SaysRun, WantsToOpen}
 use Rattle.cacao_cli_status_laws.specs.Rehearsing.{Rehearses}

@@ -10,7 +10,7 @@ use Rattle.cacao_cli_ends.specs.Files.{Files, files_of, reading}
 use Rattle.cacao_cli_looks.specs.Openings.{HoldsFilter, HoldsRun, IsDamagedFilter, IsDamagedRun, IsTooLargeRun}
 use Rattle.cacao_cli_status_laws.specs.Rehearsing.{IsBrokenRehearsal, RehearsalTo}
 use Rattle.cacao_cli_ends.specs.Work.{Work, ends, judges, opens_filter, opens_run, compares, rehearsals, work, Start, starts}
-use Rattle.cacao_cli_session.specs.Holding.{CameTo, HasBadAnswer, IsRefusedStart}
+use Rattle.cacao_cli_session_laws.specs.Holding.{CameTo, HasBadAnswer, IsRefusedStart}
 use Rattle.cacao_cli_ends.specs.Comes.{IfTold, IsOneOf, faults_of}
 use Rattle.cacao_cli_looks.specs.Audited.{HasVerdict}
 

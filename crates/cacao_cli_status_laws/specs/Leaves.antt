@@ -5,7 +5,7 @@ use Rattle.cacao_site.specs.View.{SiteView}
 use Rattle.cacao_cli_ends.specs.Asked.{Asked, canonises, checks, shows, lists_rules, decides, shadows, rehearses, audits, runs}
 use Rattle.cacao_cli_ends.specs.Ends.{End}
 use Rattle.cacao_cli_ends.specs.Comes.{IsOneOf}
-use Rattle.cacao_cli_session.specs.Holding.{CameTo}
+use Rattle.cacao_cli_session_laws.specs.Holding.{CameTo}
 use Rattle.cacao_cli_ends.specs.Work.{Start}
 use Rattle.cacao_cli_words.specs.Requests.{RunRequest}
 use Rattle.cacao_cli_ends.specs.Stays.{SaysAtMostOnce, WritesNothing}

@@ -6,8 +6,8 @@ use Rattle.cacao_site_memory.specs.declared.site.MemorySite.{MemorySite}
 use Rattle.cacao_check.specs.declared.breaks.Break.{Break}
 use Rattle.flow_core.specs.SetupReading.{BreaksRule}
 use Rattle.flow_core_rules.specs.Givens.{Given}
-use Rattle.flow_world_parts.specs.declared.close.Close.{Close}
-use Rattle.flow_world_parts.specs.declared.error.WorldError.{WorldError}
+use Rattle.flow_world.specs.Close.{Close}
+use Rattle.flow_world.specs.WorldError.{WorldError}
 use Rattle.cacao_cli_rehearsal.specs.Books.{rehearsal_text}
 use Rattle.cacao_cli_rehearsal.specs.Plans.{GoesByPlan}
 use Rattle.cacao_cli_rehearsal.specs.Rehearsals.{ClosesOtherwise, Refuses, RunsWell}
@@ -16,7 +16,7 @@ use Rattle.cacao_cli_rehearsal.specs.declared.error.RehearsalError.{RehearsalErr
 use Rattle.cacao_cli_rehearsal.specs.declared.error.RehearsalError.TheVariants as rehearsal_error
 use Rattle.cacao_cli_rehearsal.specs.declared.summary.Summary.{Summary}
 use Rattle.cacao_cli_ends.specs.Ends.{End, ended_failed, no_memory, past, refused, rehearsed}
-use Rattle.cacao_cli_session.specs.Holding.{close_end, error_end}
+use Rattle.cacao_cli_session_laws.specs.Holding.{close_end, error_end}
 use Rattle.cacao_cli_ends.specs.declared.limit.Limit.TheVariants.{FileBytes}
 
 -- ---- the text

@@ -8,12 +8,12 @@ use Rattle.run_records.specs.declared.act.Act.{Act}
 use Rattle.flow_engine_answers.specs.declared.answers.OperatorAnswer.{OperatorAnswer}
 use Rattle.flow_core_rules.specs.Givens.{Given}
 use Rattle.flow_world_steps.specs.Sums.{total}
-use Rattle.flow_world_parts.specs.Openings.{RefusesOpening}
+use Rattle.flow_world.specs.Openings.{RefusesOpening}
 use Rattle.flow_world.specs.Sessions.{HasRefused, Went}
-use Rattle.flow_world_parts.specs.declared.error.WorldError.{WorldError}
+use Rattle.flow_world.specs.WorldError.{WorldError}
 use Rattle.cacao_cli_ends.specs.Asked.{Asked, canonises, checks, runs, shows, lists_rules, decides, shadows, rehearses, audits}
 use Rattle.cacao_cli_ends.specs.Ends.{End}
-use Rattle.cacao_cli_session.specs.Holding.{ClosesSo, HoldsSession, RefusesSo}
+use Rattle.cacao_cli_session_laws.specs.Holding.{ClosesSo, HoldsSession, RefusesSo}
 use Rattle.cacao_cli_status_laws.specs.Leaves.{LeavesSession}
 use Rattle.cacao_cli_ends.specs.Work.{Start}
 

@@ -12,8 +12,8 @@ use Rattle.flow_core_rules.specs.declared.moves.Move.{Move}
 use Rattle.flow_core_rules.specs.Moves.{enabled_move}
 use Rattle.flow_core_rules.specs.Runs.{Next, after, shown_after}
 use Rattle.flow_core_rules.specs.State.{Lists, Shown, State}
-use Rattle.flow_core.specs.Flows.{IsReached}
-use Rattle.flow_core.specs.Views.{View, begins, taken}
+use Rattle.flow_engine_history.specs.Flows.{IsReached}
+use Rattle.flow_engine_history.specs.Views.{View, begins, taken}
 use Rattle.flow_engine_history.specs.HistoryCalls.{Adds, Is, IsOfMove, MayCome}
 use Rattle.flow_engine_history.specs.HistoryView.{HistoryView, flow_of}
 use Rattle.flow_engine_history.specs.declared.error.EngineError.{EngineError}

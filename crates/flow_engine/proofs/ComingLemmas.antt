@@ -30,12 +30,12 @@ use Rattle.flow_core_rules.specs.Runs.{begin_of, first_edits, first_task}
 use Rattle.flow_core_rules.specs.Sane.{CanEnd, IsSane}
 use Rattle.flow_core_rules.specs.State.{Shown}
 use Rattle.flow_core_rules.proofs.ShapeLemmas.{Issued, Sent, change_shape}
-use Rattle.flow_core.specs.Flows.{HasSizes, IsReached, IsStateOf}
-use Rattle.flow_core.specs.Setups.{IsReadable, IsSetup}
-use Rattle.flow_core.specs.Views.{AsksText, View, begins, blank_shown, is_long_command, most_tasks, is_makes, passed, taken, taken_by}
-use Rattle.flow_core.specs.declared.flow_errors.LimitKind.{LimitKind}
-use Rattle.flow_core.specs.declared.flow_errors.LimitKind.TheVariants as limit
-use Rattle.flow_core.proofs.FlowLemmas.{reached_state}
+use Rattle.flow_engine_history.specs.Flows.{HasSizes, IsReached, IsStateOf}
+use Rattle.flow_engine_history.specs.Setups.{IsReadable, IsSetup}
+use Rattle.flow_engine_history.specs.Views.{AsksText, View, begins, blank_shown, is_long_command, most_tasks, is_makes, passed, taken, taken_by}
+use Rattle.flow_engine_history.specs.LimitKind.{LimitKind}
+use Rattle.flow_engine_history.specs.LimitKind.TheVariants as limit
+use Rattle.flow_engine_history.proofs.FlowLemmas.{reached_state}
 use Rattle.flow_engine_history.specs.HistoryCalls.{MayMove, with_record}
 use Rattle.flow_engine_history.specs.HistoryView.{HistoryView, entries_of, flow_of}
 use Rattle.flow_engine_history.specs.Histories.{IsHistory}

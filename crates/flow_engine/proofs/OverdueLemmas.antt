@@ -10,7 +10,7 @@ use Rattle.flow_core_rules.specs.declared.issues.Issue.{Issue}
 use Rattle.flow_core_rules.specs.State.{Shown}
 use Rattle.flow_core_rules.specs.Changes.{is_waiting}
 use Rattle.flow_core_rules.specs.Moves.{deadline_of, deadlines, has_deadline}
-use Rattle.flow_core.proofs.DueFacts.{deadline_pairs}
+use Rattle.flow_engine_history.proofs.DueFacts.{deadline_pairs}
 use Rattle.flow_engine.specs.declared.puts.Puts.{Puts}
 use Rattle.flow_engine.specs.EngineView.{EngineView}
 use Rattle.flow_engine.specs.EngineCalls.{put_deadline}

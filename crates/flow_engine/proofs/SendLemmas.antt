@@ -18,7 +18,7 @@ use Rattle.flow_core_rules.specs.declared.issues.Issue.{Issue}
 use Rattle.flow_core_rules.specs.Laws.{HasRecords, IssuesHaveRecords, record_of_issue}
 use Rattle.flow_core_rules.specs.Runnable.{IsRunnable}
 use Rattle.flow_core_rules.specs.State.{Shown}
-use Rattle.flow_core.specs.SetupLaws.{AcceptedIsRunnable}
+use Rattle.flow_engine_history.specs.SetupLaws.{AcceptedIsRunnable}
 use Rattle.flow_engine_history.specs.HistoryView.{HistoryView, IsReady, entries_of}
 use Rattle.flow_engine_history.specs.Histories.{IsHistory, IsSoFar}
 use Rattle.flow_engine.specs.declared.puts.Puts.{Puts}

@@ -15,9 +15,9 @@ use Rattle.flow_core_rules.specs.Runs.{begin_of}
 use Rattle.flow_core_rules.specs.State.{Shown}
 use Rattle.flow_core_rules.specs.declared.issues.Issue.{Issue}
 use Rattle.flow_core_rules.specs.declared.moves.Move.{Move}
-use Rattle.flow_core.specs.Flows.{HasSizes, IsReached}
-use Rattle.flow_core.specs.Setups.{IsSetup}
-use Rattle.flow_core.specs.Views.{taken}
+use Rattle.flow_engine_history.specs.Flows.{HasSizes, IsReached}
+use Rattle.flow_engine_history.specs.Setups.{IsSetup}
+use Rattle.flow_engine_history.specs.Views.{taken}
 use Rattle.flow_engine_history.specs.HistoryCalls.{Adds, Refuses}
 use Rattle.flow_engine_history.specs.HistoryView.{HistoryView, flow_of}
 use Rattle.flow_engine_history.specs.declared.error.EngineError.{EngineError}

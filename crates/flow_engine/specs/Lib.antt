@@ -3,3 +3,12 @@ pub mod EngineView
 pub mod Inside
 pub mod KeptPuts
 pub mod OpenIssues
+pub use Rattle.flow_engine_history.specs.LimitKind
+pub use Rattle.flow_engine_history.specs.SetupLaws
+pub use Rattle.flow_engine_history.specs.Views
+pub use Rattle.flow_engine_history.specs.HistoryView
+pub use Rattle.flow_engine_history.specs.Histories
+pub use Rattle.flow_engine_history.specs.HistoryCalls
+pub use Rattle.flow_engine_history.specs.declared.error.EngineError
+pub use Rattle.flow_engine_answers.specs.declared.answers.OperatorAnswer
+pub use Rattle.flow_engine_history.specs.Openings

@@ -8,5 +8,5 @@ mod records;
 mod sending;
 
 pub use engine::Engine;
-pub use flow_engine_history::EngineError;
+pub use flow_engine_history::{EngineError, LimitKind, accepted_is_runnable};
 pub use puts::Puts;

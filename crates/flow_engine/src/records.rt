@@ -7,7 +7,7 @@ ghost use Rattle.run_records.specs.declared.record.Record.TheVariants as entry;
 ghost use Rattle.flow_core_rules.specs.Changes.{is_in_time, is_waiting, outcome};
 ghost use Rattle.flow_core_rules.specs.Moves.{deadline_of, enabled_move};
 ghost use Rattle.flow_core_rules.specs.declared.issues.Issue.{Issue};
-ghost use Rattle.flow_core.specs.Views.{taken};
+ghost use Rattle.flow_engine_history.specs.Views.{taken};
 ghost use Rattle.flow_engine_history.specs.HistoryCalls.{Is, MayMove};
 ghost use Rattle.flow_engine_history.specs.HistoryView.{IsReady, flow_of};
 ghost use Rattle.flow_engine_answers.specs.Answers.{IsOperatorAnswer};
@@ -16,12 +16,11 @@ ghost use Rattle.flow_engine.specs.OpenIssues.{puts_of};
 
 use crate::engine::Engine;
 use cacao_site::{Bytes, Disk, Parcel, Site};
-use flow_core::{Flow, Move};
 use flow_core_rules::{
     moves_are_in_range, moves_have_records, records_keep_issues, runs_are_sane, waiting_can_end,
 };
 use flow_engine_answers::OperatorAnswer;
-use flow_engine_history::EngineError;
+use flow_engine_history::{EngineError, Flow, Move};
 use oc2_msg::{Answer, ResponseError, read_response};
 use run_records::Record;
 use std::alloc::{AllocError, Global};

@@ -7,9 +7,8 @@ ghost use Rattle.flow_engine.specs.EngineCalls.{IsWaiting, Sends, command_of};
 
 use crate::engine::Engine;
 use cacao_site::{Bytes, Parcel, Site};
-use flow_core::accepted_is_runnable;
 use flow_core_rules::issues_have_records;
-use flow_engine_history::EngineError;
+use flow_engine_history::{EngineError, accepted_is_runnable};
 use std::alloc::AllocError;
 
 impl Engine {

@@ -7,3 +7,5 @@ pub mod OpenedLemmas
 pub mod RefusalLaws
 pub mod ReplayLemmas
 pub mod SoFarLemmas
+pub use Rattle.flow_core.proofs.DueFacts
+pub use Rattle.flow_core.proofs.FlowLemmas

@@ -9,3 +9,8 @@ pub mod Laws
 pub mod LineParts
 pub mod Openings
 pub mod Replays
+pub use Rattle.flow_core.specs.Views
+pub use Rattle.flow_core.specs.Flows
+pub use Rattle.flow_core.specs.SetupLaws
+pub use Rattle.flow_core.specs.Setups
+pub use Rattle.flow_core.specs.declared.flow_errors.LimitKind

@@ -9,5 +9,7 @@ mod lines;
 mod opening;
 
 pub use error::EngineError;
+pub use flow_core::{Flow, LimitKind, Setup, accepted_is_runnable};
+pub use flow_core_rules::Move;
 pub use history::History;
 pub use laws::opening_law;

@@ -76,7 +76,7 @@ impl FleetRuns {
     }
 
     /// What holds of each list of runs. The function does nothing; its contract is the law.
-    pub(crate) fn law(&self)
+    pub fn law(&self)
         ensures { AreFleetRuns self.now }
     {
         let _ = &self.list;

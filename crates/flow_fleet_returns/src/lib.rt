@@ -7,7 +7,9 @@ ghost use Rattle.flow_fleet_returns.specs.Costs.{EachFleetCloseUsesFew, EachFlee
 ghost use Rattle.flow_fleet_returns.specs.Prefixes.{EachFleetCloseGoesOn, EachFleetRefusalGoesOn, EachRefusedFleetOpeningAddsNothing};
 ghost use Rattle.flow_fleet_returns.specs.Undamaged.{NoFleetFindsDamage};
 
-use flow_world_laws::complete_laws;
+pub use flow_fleet::{FleetRuns, fleet};
+pub use flow_fleet_steps::{FleetClose, FleetError};
+pub use flow_world_laws::complete_laws;
 
 /// However a fleet ends, from a start where all agrees, as each of its runs sees the rack: some image of its journal at the start
 /// stands for a run, and on return the journal reads as a run that has it as its front. The records that were added, of all runs

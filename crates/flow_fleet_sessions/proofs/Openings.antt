@@ -2,7 +2,7 @@
 use Rattle.std.proofs.Common.{inl, inr, ℕ, ◌+◌, IsTrue}
 use Rattle.cacao_site.specs.View.{SiteView}
 use Rattle.cacao_site.proofs.Beats.{told-goes_on}
-use Rattle.flow_world_parts.specs.Openings.{OpensFile}
+use Rattle.flow_world.specs.Openings.{OpensFile}
 use Rattle.flow_fleet_laws.specs.Shrinking.{OnlyShrinks}
 use Rattle.flow_fleet_laws.proofs.Shrinking.{file_shrinks, filters_shrink, shrinks_on}
 use Rattle.flow_fleet_sessions.specs.Sessions.{FiltersOpen, OpeningsShrink, RefusedOpeningsShrink}

@@ -17,7 +17,7 @@ use Rattle.flow_core_rules.specs.Laws.{record_of_issue}
 use Rattle.flow_core_rules.specs.Runs.{begin_of}
 use Rattle.flow_core_rules.specs.State.{Shown}
 use Rattle.flow_core_rules.specs.declared.issues.Issue.{Issue}
-use Rattle.flow_core.specs.Views.{View, begins, taken}
+use Rattle.flow_world_steps.specs.Views.{View, begins, taken}
 use Rattle.flow_laws.specs.Beats.{IsFurther}
 use Rattle.flow_laws.specs.Fresh.{IsFresh}
 use Rattle.flow_laws.specs.Good.{IsGood}
@@ -27,12 +27,12 @@ use Rattle.flow_laws.specs.Journals.{IsShownBefore as ShowsBefore, run_of}
 use Rattle.flow_laws.specs.Since.{Agreed}
 use Rattle.flow_laws.proofs.Basics.{same_some}
 use Rattle.flow_laws.proofs.OneList.{records_of_layout, same_records}
-use Rattle.flow_engine_history.specs.HistoryCalls.{MayCome, Offers}
-use Rattle.flow_engine_history.specs.HistoryView.{HistoryView, flow_of}
-use Rattle.flow_engine_history.specs.Histories.{IsHistory, IsLineAt, IsShownBefore}
-use Rattle.flow_engine_history.proofs.SoFarLemmas.{begin_is}
-use Rattle.flow_engine.specs.EngineCalls.{IsOpen, Sends, command_of}
-use Rattle.flow_engine.specs.EngineView.{EngineView}
+use Rattle.flow_world_steps.specs.HistoryCalls.{MayCome, Offers}
+use Rattle.flow_world_steps.specs.HistoryView.{HistoryView, flow_of}
+use Rattle.flow_world_steps.specs.Histories.{IsHistory, IsLineAt, IsShownBefore}
+use Rattle.flow_world_steps.proofs.SoFarLemmas.{begin_is}
+use Rattle.flow_world_steps.specs.EngineCalls.{IsOpen, Sends, command_of}
+use Rattle.flow_world_steps.specs.EngineView.{EngineView}
 use Rattle.flow_world_steps.specs.Sides.{IsUp, IsWhole}
 use Rattle.flow_world_steps.proofs.Records.{has_records, run_known}
 use Rattle.flow_fleet_laws.specs.Events.{AllOwn, Event}

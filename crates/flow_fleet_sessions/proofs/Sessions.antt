@@ -6,7 +6,7 @@ use Rattle.cacao_site.specs.declared.parcel.Parcel.{Parcel}
 use Rattle.cacao_site.specs.Sound.{IsSound}
 use Rattle.flow_core_rules.specs.Givens.{Given}
 use Rattle.flow_world_steps.specs.Worlds.{World, Phase, holds, opened}
-use Rattle.flow_world_parts.specs.Openings.{AreOpen}
+use Rattle.flow_world.specs.Openings.{AreOpen}
 use Rattle.flow_fleet_laws.specs.Events.{Events}
 use Rattle.flow_fleet_laws.specs.Events.Event.{shrinks}
 use Rattle.flow_fleet_laws.specs.Events.Events.{nothing, and_then}

@@ -6,8 +6,8 @@ use Rattle.cacao_site.specs.declared.parcel.Parcel.{Parcel}
 use Rattle.cacao_site.specs.Sound.{IsSound}
 use Rattle.run_records.specs.Ranges.{last_moment}
 use Rattle.run_records.specs.declared.record.Record.{Record}
-use Rattle.flow_core.specs.declared.flow_errors.LimitKind.TheVariants as limit
-use Rattle.flow_engine_history.specs.HistoryCalls.{Offers}
+use Rattle.flow_world_steps.specs.LimitKind.TheVariants as limit
+use Rattle.flow_world_steps.specs.HistoryCalls.{Offers}
 use Rattle.flow_laws.specs.Fresh.{IsFresh}
 use Rattle.slpf_actuator.specs.ActuatorCalls.{MayHaveDone, Offers as FilterOffers}
 use Rattle.slpf_actuator.specs.declared.error.ActError.{ActError}

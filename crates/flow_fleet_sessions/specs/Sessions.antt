@@ -3,11 +3,11 @@ use Rattle.std.specs.Prelude.{◌⊎◌, ℕ, ◌<◌, ◌^◌, List, [], ◌∷
 use Rattle.cacao_site.specs.Sound.{IsSound}
 use Rattle.cacao_site.specs.View.{SiteView}
 use Rattle.flow_core_rules.specs.Givens.{Given}
-use Rattle.flow_engine.specs.EngineView.{EngineView}
+use Rattle.flow_world_steps.specs.EngineView.{EngineView}
 use Rattle.flow_engine_answers.specs.declared.answers.OperatorAnswer.{OperatorAnswer}
 use Rattle.slpf_actuator.specs.ActuatorView.{ActuatorView}
-use Rattle.flow_world_parts.specs.Openings.{AreOpen, OpensFilters, RefusesOpening}
-use Rattle.flow_world_parts.specs.declared.error.WorldError.{WorldError}
+use Rattle.flow_world.specs.Openings.{AreOpen, OpensFilters, RefusesOpening}
+use Rattle.flow_world.specs.WorldError.{WorldError}
 use Rattle.flow_world.specs.Sessions.{IsStart, Went}
 use Rattle.flow_laws.specs.Sessions.{IsStart as IsStartAs}
 use Rattle.flow_fleet_laws.specs.Events.{Events}

@@ -5,6 +5,8 @@
 ghost use Rattle.flow_fleet_sessions.specs.Sessions.{FiltersOpen, OpeningsShrink, RefusedOpeningsShrink};
 ghost use Rattle.flow_fleet_sessions.specs.Sessions.{SessionsAreEvents, SessionsKeepBystanders, SessionsKeepNumbered};
 
+pub use flow_world::WorldError;
+
 /// Where a session opens its files, all of them or some before it refuses, each file has at most the images that it had; and all
 /// that it does, however it ends, is calls in a row of its run. So a fleet may go on with that run, where it might before, and
 /// each run beside it is left as it was.

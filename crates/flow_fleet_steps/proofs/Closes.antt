@@ -3,7 +3,7 @@ use Rattle.std.proofs.Common.{◌≡◌, inl, inr, ℕ, ◌<◌, Bool, refl, sym
 use Rattle.std.specs.Prelude.{Option, Some, None, slice_get}
 use Rattle.std.proofs.lemmas.Bool.{cases_lt}
 use Rattle.flow_core_rules.specs.Moves.{asks}
-use Rattle.flow_engine.specs.EngineView.{EngineView}
+use Rattle.flow_world_steps.specs.EngineView.{EngineView}
 use Rattle.flow_laws.proofs.Basics.{same_some}
 use Rattle.flow_world_steps.specs.Worlds.{Cause, Phase, looked, refused, rests, waits}
 use Rattle.flow_fleet_steps.specs.Closes.{HasEnded, IsAsking, IsFleetClose, IsFlooded, IsPaused, TellsFailed}

@@ -5,8 +5,8 @@ use Rattle.cacao_site.specs.View.{LinkView, SiteView}
 use Rattle.cacao_site.specs.declared.parcel.Parcel.{Parcel}
 use Rattle.cacao_site.specs.Sound.{IsSound}
 use Rattle.run_records.specs.declared.record.Record.{Record}
-use Rattle.flow_engine.specs.EngineView.{EngineView}
-use Rattle.flow_engine_history.specs.HistoryCalls.{Offers}
+use Rattle.flow_world_steps.specs.EngineView.{EngineView}
+use Rattle.flow_world_steps.specs.HistoryCalls.{Offers}
 use Rattle.slpf_actuator.specs.ActuatorCalls.{MayHaveDone, Offers as FilterOffers}
 use Rattle.slpf_actuator.specs.ActuatorView.{ActuatorView}
 use Rattle.slpf_actuator.specs.declared.error.ActError.{ActError}

@@ -2,7 +2,7 @@
 use Rattle.std.proofs.Common.{◌≡◌, ℕ, zero, suc, List, [], ◌∷◌, length, refl, sym, ◌∙◌, ap, arith}
 use Rattle.std.specs.Prelude.{Some, map, slice_get, slice_set}
 use Rattle.flow_core_rules.specs.Givens.{Given}
-use Rattle.flow_engine.specs.EngineView.{EngineView}
+use Rattle.flow_world_steps.specs.EngineView.{EngineView}
 use Rattle.flow_fleet_laws.specs.Fleets.{IsAt}
 use Rattle.flow_fleet_steps.specs.Openings.{Runs, numbers}
 use Rattle.flow_fleet_steps.proofs.Records.{AreRunsOf}

@@ -4,9 +4,9 @@ use Rattle.cacao_site.specs.View.{SiteView}
 use Rattle.cacao_site.specs.DiskCalls.{IsLeft}
 use Rattle.cacao_site.specs.RunViews.{file_of}
 use Rattle.cacao_site.proofs.Beats.{goes_on-refl, told-goes_on}
-use Rattle.flow_engine.specs.EngineView.{EngineView}
-use Rattle.flow_world_parts.specs.Openings.{OpensFile, RefusesFilters}
-use Rattle.flow_world_parts.specs.declared.error.WorldError.{WorldError}
+use Rattle.flow_world_steps.specs.EngineView.{EngineView}
+use Rattle.flow_fleet_sessions.specs.Openings.{OpensFile, RefusesFilters}
+use Rattle.flow_fleet_sessions.specs.WorldError.{WorldError}
 use Rattle.flow_fleet_laws.specs.Shrinking.{OnlyShrinks}
 use Rattle.flow_fleet_laws.specs.Views.{seen_from}
 use Rattle.flow_fleet_laws.proofs.Shrinking.{file_shrinks, shrinks_on}

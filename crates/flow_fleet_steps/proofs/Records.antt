@@ -16,11 +16,11 @@ use Rattle.flow_laws.specs.Images.{IsRecords}
 use Rattle.flow_laws.specs.Journals.{run_of}
 use Rattle.flow_laws.proofs.Basics.{same_some}
 use Rattle.flow_laws.proofs.OneList.{records_of_layout, same_records}
-use Rattle.flow_engine_history.specs.HistoryCalls.{Offers}
-use Rattle.flow_engine_history.specs.HistoryView.{HistoryView}
-use Rattle.flow_engine_history.specs.Histories.{IsHistory, IsLineAt}
-use Rattle.flow_engine.specs.EngineCalls.{Sends, command_of}
-use Rattle.flow_engine.specs.EngineView.{EngineView}
+use Rattle.flow_world_steps.specs.HistoryCalls.{Offers}
+use Rattle.flow_world_steps.specs.HistoryView.{HistoryView}
+use Rattle.flow_world_steps.specs.Histories.{IsHistory, IsLineAt}
+use Rattle.flow_world_steps.specs.EngineCalls.{Sends, command_of}
+use Rattle.flow_world_steps.specs.EngineView.{EngineView}
 use Rattle.flow_world_steps.specs.Sides.{IsUp, IsWhole}
 use Rattle.flow_world_steps.proofs.Records.{has_records, run_known}
 use Rattle.flow_fleet_laws.specs.Events.{AllOwn, Event}

@@ -5,12 +5,12 @@ use Rattle.cacao_site.specs.View.{ClockView, SiteView}
 use Rattle.cacao_site.specs.declared.parcel.Parcel.{Parcel}
 use Rattle.run_records.specs.Ranges.{last_moment}
 use Rattle.run_records.specs.declared.record.Record.{Record}
-use Rattle.flow_core.specs.declared.flow_errors.LimitKind.TheVariants as limit
-use Rattle.flow_core.specs.SetupLaws.{AcceptedIsRunnable}
+use Rattle.flow_world_steps.specs.LimitKind.TheVariants as limit
+use Rattle.flow_world_steps.specs.SetupLaws.{AcceptedIsRunnable}
 use Rattle.flow_core_rules.specs.Changes.{is_in_time}
 use Rattle.flow_laws.proofs.Basics.{same_some}
-use Rattle.flow_engine.specs.EngineView.{EngineView}
-use Rattle.flow_engine.specs.OpenIssues.{IsNextPut, OpenIssues}
+use Rattle.flow_world_steps.specs.EngineView.{EngineView}
+use Rattle.flow_world_steps.specs.OpenIssues.{IsNextPut, OpenIssues}
 use Rattle.std.proofs.lemmas.Option.{none-some}
 use Rattle.flow_engine_answers.specs.declared.answers.OperatorAnswer.{OperatorAnswer}
 use Rattle.flow_world_steps.specs.Appends.{Tries}

@@ -4,7 +4,7 @@ use Rattle.std.specs.Prelude.{IsSome}
 use Rattle.cacao_site.specs.View.{SiteView}
 use Rattle.cacao_site.specs.declared.parcel.Parcel.{Parcel}
 use Rattle.cacao_site.specs.Sound.{IsSound}
-use Rattle.flow_engine.specs.EngineView.{EngineView}
+use Rattle.flow_world_steps.specs.EngineView.{EngineView}
 use Rattle.flow_world_steps.specs.Worlds.{Phase, holds, opened}
 use Rattle.flow_fleet_laws.specs.Events.{Events}
 use Rattle.flow_fleet_laws.specs.Events.Event.{shrinks}

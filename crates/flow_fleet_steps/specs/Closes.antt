@@ -4,7 +4,7 @@ use Rattle.flow_core_rules.specs.Changes.{outcome}
 use Rattle.flow_core_rules.specs.Moves.{asks, due}
 use Rattle.flow_world_steps.specs.Turns.{most_ignored}
 use Rattle.flow_world_steps.specs.Worlds.{Cause, refused, rests, run_used, waits}
-use Rattle.flow_world_parts.specs.Closes.{refusal_of}
+use Rattle.flow_fleet_sessions.specs.Closes.{refusal_of}
 use Rattle.flow_fleet_steps.specs.Errors.{fleet_refusal}
 use Rattle.flow_fleet_steps.specs.Turns.{GoesOnAt, IsIdle, IsSettled}
 use Rattle.flow_fleet_steps.specs.Worlds.{At, EachBelow, EachRun, FleetWorld}

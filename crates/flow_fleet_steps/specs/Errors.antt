@@ -1,8 +1,8 @@
 -- Promise: How a refusal for one run becomes that of a fleet.
 use Rattle.std.specs.Prelude.{ℕ, ◌==◌, if◌then◌else◌}
 use Rattle.cacao_site.specs.RunViews.{file_of}
-use Rattle.flow_world_parts.specs.declared.error.WorldError.{WorldError}
-use Rattle.flow_world_parts.specs.declared.error.WorldError.TheVariants as one
+use Rattle.flow_fleet_sessions.specs.WorldError.{WorldError}
+use Rattle.flow_fleet_sessions.specs.WorldError.TheVariants as one
 use Rattle.flow_fleet_steps.specs.declared.error.FleetError.{FleetError}
 use Rattle.flow_fleet_steps.specs.declared.error.FleetError.TheVariants as fleet
 

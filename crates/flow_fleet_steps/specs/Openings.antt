@@ -2,11 +2,11 @@
 use Rattle.std.specs.Prelude.{◌≡◌, ◌⊎◌, ℕ, ◌+◌, List, [], ◌∷◌, ◌++◌, length, map, None, Some, slice_get}
 use Rattle.cacao_site.specs.View.{SiteView}
 use Rattle.flow_core_rules.specs.Givens.{Given}
-use Rattle.flow_engine.specs.EngineView.{EngineView}
+use Rattle.flow_world_steps.specs.EngineView.{EngineView}
 use Rattle.slpf_actuator.specs.ActuatorView.{ActuatorView}
 use Rattle.flow_world_steps.specs.Worlds.{opened}
-use Rattle.flow_world_parts.specs.Openings.{IsJournalOpen, OpensFilters, RefusesFilters, RefusesJournal}
-use Rattle.flow_world_parts.specs.declared.error.WorldError.{WorldError}
+use Rattle.flow_fleet_sessions.specs.Openings.{IsJournalOpen, OpensFilters, RefusesFilters, RefusesJournal}
+use Rattle.flow_fleet_sessions.specs.WorldError.{WorldError}
 use Rattle.flow_world_steps.specs.Sides.{AreFilters}
 use Rattle.flow_fleet_laws.specs.Views.{seen_from}
 use Rattle.flow_fleet_steps.specs.Errors.{fleet_refusal}

@@ -1,7 +1,7 @@
 -- Promise: What a fleet uses up, so that it ends.
 use Rattle.std.specs.Prelude.{◌≡◌, ◌≢◌, ℕ, suc, ◌+◌, ◌*◌, ◌≤◌, true, length}
 use Rattle.flow_core_rules.specs.Changes.{is_in_time}
-use Rattle.flow_engine.specs.EngineView.{EngineView}
+use Rattle.flow_world_steps.specs.EngineView.{EngineView}
 use Rattle.flow_world_steps.specs.Spent.{all_acts, all_counts, place}
 use Rattle.flow_world_steps.specs.Sums.{total}
 use Rattle.flow_world_steps.specs.Worlds.{IsGoing, opened}

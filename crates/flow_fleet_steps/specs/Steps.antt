@@ -8,9 +8,9 @@ use Rattle.cacao_site.specs.Sound.{IsSound}
 use Rattle.cacao_site.specs.declared.parcel.Parcel.{Parcel}
 use Rattle.oc2_msg.specs.declared.answers.Answer.{Answer}
 use Rattle.run_records.specs.Ranges.{last_moment}
-use Rattle.flow_core.specs.declared.flow_errors.LimitKind.TheVariants as limit
-use Rattle.flow_engine.specs.EngineCalls.{IsReplyTo}
-use Rattle.flow_engine.specs.EngineView.{EngineView}
+use Rattle.flow_world_steps.specs.LimitKind.TheVariants as limit
+use Rattle.flow_world_steps.specs.EngineCalls.{IsReplyTo}
+use Rattle.flow_world_steps.specs.EngineView.{EngineView}
 use Rattle.slpf_actuator.specs.ActuatorView.{ActuatorView}
 use Rattle.slpf_actuator.specs.declared.error.ActError.{ActError}
 use Rattle.flow_world_steps.specs.Sides.{IsUp}
@@ -18,7 +18,7 @@ use Rattle.flow_world_steps.specs.Steps.{ActsOn, Begins, Expires, FailsToAct, Is
 use Rattle.flow_world_steps.specs.Turns.{most_ignored}
 use Rattle.flow_world_steps.specs.Worlds.{World, Phase, Cause, IsGoing, opened, rests, looked, owes, holds, refused, owes_line}
 use Rattle.flow_world_steps.specs.Worlds.{not_said, run_used, past, wants_memory}
-use Rattle.flow_world_parts.specs.Openings.{HasRunAt, IsFirstRunAt}
+use Rattle.flow_fleet_sessions.specs.Openings.{HasRunAt, IsFirstRunAt}
 use Rattle.flow_fleet_laws.specs.Speeches.{head_of}
 use Rattle.flow_fleet_laws.specs.Views.{seen_from}
 use Rattle.flow_fleet_steps.specs.Turns.{BeginsTurn, ComesNext, HasLooked, HasNoResend, HasNoneOverdue, IsIdle, IsOnTime, IsSettled, IsTurnOf, StandsAt, last_of, turn_after}

@@ -6,9 +6,9 @@ use Rattle.cacao_site.specs.View.{SiteView}
 use Rattle.base_dues.specs.Pairs.{IsFirstBy}
 use Rattle.flow_core_rules.specs.Changes.{outcome}
 use Rattle.flow_core_rules.specs.Moves.{due, enabled_move}
-use Rattle.flow_engine.specs.EngineCalls.{put_deadline}
-use Rattle.flow_engine.specs.EngineView.{EngineView}
-use Rattle.flow_engine.specs.OpenIssues.{IsNextPut}
+use Rattle.flow_world_steps.specs.EngineCalls.{put_deadline}
+use Rattle.flow_world_steps.specs.EngineView.{EngineView}
+use Rattle.flow_world_steps.specs.OpenIssues.{IsNextPut}
 use Rattle.flow_world_steps.specs.Sides.{AllPut, IsUp, IsWhole}
 use Rattle.flow_world_steps.specs.Turns.{most_ignored}
 use Rattle.flow_world_steps.specs.Worlds.{looked, rests}

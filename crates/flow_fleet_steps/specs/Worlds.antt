@@ -3,7 +3,7 @@ use Rattle.std.specs.Prelude.{◌≡◌, ◌<◌, ◌==◌, ℕ, List, [], Optio
 use Rattle.cacao_site.specs.View.{SiteView}
 use Rattle.run_records.specs.declared.act.Act.{Act}
 use Rattle.run_records.specs.declared.record.Record.{Record}
-use Rattle.flow_engine.specs.EngineView.{EngineView}
+use Rattle.flow_world_steps.specs.EngineView.{EngineView}
 use Rattle.slpf_actuator.specs.ActuatorView.{ActuatorView}
 use Rattle.flow_world_steps.specs.Worlds.{Notes, Phase, World}
 use Rattle.flow_fleet_laws.specs.Views.{seen_from}

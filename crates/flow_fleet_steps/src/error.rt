@@ -3,8 +3,8 @@ ghost use Rattle.std.specs.Prelude.{◌≡◌, ◌≤◌};
 ghost use Rattle.cacao_site.specs.RunViews.{file_of};
 ghost use Rattle.flow_fleet_steps.specs.Errors.{fleet_refusal};
 
-use flow_core::LimitKind;
-use flow_world_parts::WorldError;
+use flow_fleet_sessions::WorldError;
+use flow_world_steps::LimitKind;
 use thiserror::Error;
 
 /// Why a fleet did not open its files, or did not go on.

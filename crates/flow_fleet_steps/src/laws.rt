@@ -2,7 +2,7 @@
 ghost use Rattle.flow_fleet_steps.specs.Spent.{EachFleetInTime, EachFleetSpends};
 ghost use Rattle.flow_fleet_steps.specs.Laws.{ClosesAreNoRefusals, ClosesAreOne, FleetsAreEvents, FleetsKeepEach, OpeningsShrink};
 
-use flow_core::accepted_is_runnable;
+use flow_world_steps::accepted_is_runnable;
 
 /// How a fleet stands in the end tells how it closes: no two closes hold of one world, and none where it refused. The function does
 /// nothing; its contract is the law.

@@ -3,7 +3,7 @@ use Rattle.std.proofs.Common.{◌≡◌, ℕ, Bool, refl, sym, ◌∙◌, ap, ar
 use Rattle.std.specs.Prelude.{Option, Some, None}
 use Rattle.flow_core_rules.specs.Changes.{outcome}
 use Rattle.flow_core_rules.specs.Moves.{asks}
-use Rattle.flow_world_steps.specs.Worlds.{Phase, World, Cause, looked, refused, rests, waits}
+use Rattle.flow_world_parts.specs.Worlds.{Phase, World, Cause, looked, refused, rests, waits}
 use Rattle.flow_world_parts.specs.Closes.{IsClose}
 use Rattle.flow_world.specs.Laws.{ClosesAreNoRefusals, ClosesAreOne}
 use Rattle.flow_world_parts.specs.declared.close.Close.{Close}

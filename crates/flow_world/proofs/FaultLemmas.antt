@@ -4,11 +4,11 @@ use Rattle.cacao_site.specs.Counts.{Rose}
 use Rattle.cacao_site.specs.View.{CountsView, SiteView}
 use Rattle.flow_core_rules.specs.Givens.{Given}
 use Rattle.flow_engine_answers.specs.declared.answers.OperatorAnswer.{OperatorAnswer}
-use Rattle.flow_engine_history.specs.declared.error.EngineError.{EngineError}
-use Rattle.flow_engine_history.specs.declared.error.EngineError.TheVariants as engine_error
-use Rattle.flow_engine_history.specs.Openings.{IsRefusedOpening}
-use Rattle.flow_world_steps.specs.Causes.{Shows}
-use Rattle.flow_world_steps.specs.Worlds.{Cause, Phase, World, disk_failed as failed_disk, not_said, past as past_limit, refused as refused_by, run_used as used, wants_memory}
+use Rattle.flow_world_parts.specs.EngineError.{EngineError}
+use Rattle.flow_world_parts.specs.EngineError.TheVariants as engine_error
+use Rattle.flow_world_parts.specs.HistoryOpenings.{IsRefusedOpening}
+use Rattle.flow_world_parts.specs.Causes.{Shows}
+use Rattle.flow_world_parts.specs.Worlds.{Cause, Phase, World, disk_failed as failed_disk, not_said, past as past_limit, refused as refused_by, run_used as used, wants_memory}
 use Rattle.flow_world_parts.specs.Closes.{refusal_of}
 use Rattle.flow_world_parts.specs.Errors.{opening_refusal}
 use Rattle.flow_world_parts.specs.Openings.{AreOpen, RefusesOpening}

@@ -7,17 +7,17 @@ use Rattle.cacao_site.specs.Sound.{IsSound}
 use Rattle.cacao_site.specs.View.{LinkView, SiteView}
 use Rattle.cacao_site.specs.declared.parcel.Parcel.{Parcel}
 use Rattle.cacao_site.proofs.Beats.{goes_on-trans}
-use Rattle.flow_engine.specs.EngineView.{EngineView}
+use Rattle.flow_world_parts.specs.EngineView.{EngineView}
 use Rattle.flow_laws.specs.Fresh.{IsFresh}
 use Rattle.flow_laws.specs.Held.{plain}
 use Rattle.flow_laws.specs.Since.{AgreedSince}
 use Rattle.flow_laws.proofs.Calls.{since_quiet, since_start}
 use Rattle.flow_core_rules.specs.Givens.{Given}
-use Rattle.slpf_actuator.specs.ActuatorView.{ActuatorView}
-use Rattle.flow_world_steps.specs.Agreement.{HasKept}
-use Rattle.flow_world_steps.specs.Steps.{Steps}
-use Rattle.flow_world_steps.specs.Worlds.{World, holds, opened}
-use Rattle.flow_world_steps.proofs.Agreement.{steps_keep_agreement}
+use Rattle.flow_world_parts.specs.ActuatorView.{ActuatorView}
+use Rattle.flow_world_parts.specs.Agreement.{HasKept}
+use Rattle.flow_world_parts.specs.Steps.{Steps}
+use Rattle.flow_world_parts.specs.Worlds.{World, holds, opened}
+use Rattle.flow_world_parts.proofs.Agreement.{steps_keep_agreement}
 use Rattle.flow_world_parts.specs.Openings.{AreOpen, OpensFile, OpensFilters, RefusesOpening}
 use Rattle.flow_world.specs.Sessions.{IsStart, KeepsAgreement}
 use Rattle.flow_world_parts.specs.declared.error.WorldError.{WorldError}

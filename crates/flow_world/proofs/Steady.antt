@@ -4,8 +4,8 @@ use Rattle.std.specs.Prelude.{Result, Ok, Err, IfOk, IfErr}
 use Rattle.cacao_site.specs.View.{SiteView}
 use Rattle.flow_engine_answers.specs.declared.answers.OperatorAnswer.{OperatorAnswer}
 use Rattle.flow_core_rules.specs.Givens.{Given}
-use Rattle.flow_world_steps.specs.Worlds.{Cause, disk_failed, refused}
-use Rattle.flow_world_steps.proofs.Steady.{steps_steady}
+use Rattle.flow_world_parts.specs.Worlds.{Cause, disk_failed, refused}
+use Rattle.flow_world_parts.proofs.Steady.{steps_steady}
 use Rattle.flow_world_parts.specs.Closes.{refusal_of}
 use Rattle.flow_world.specs.Laws.{ClosesAreSteady, RefusalsAreSteady}
 use Rattle.flow_world.specs.Sessions.{HasClosed, HasRefused, Went}

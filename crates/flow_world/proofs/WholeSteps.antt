@@ -4,14 +4,14 @@ use Rattle.std.specs.Prelude.{Result, Ok, Err, IfOk, IfErr}
 use Rattle.cacao_site.specs.Sound.{IsSound}
 use Rattle.cacao_site.specs.View.{SiteView}
 use Rattle.flow_engine_answers.specs.declared.answers.OperatorAnswer.{OperatorAnswer}
-use Rattle.flow_engine.specs.EngineView.{EngineView}
+use Rattle.flow_world_parts.specs.EngineView.{EngineView}
 use Rattle.flow_core_rules.specs.Givens.{Given}
-use Rattle.slpf_actuator.specs.ActuatorView.{ActuatorView}
-use Rattle.flow_world_steps.specs.Steps.{Steps}
-use Rattle.flow_world_steps.specs.Whole.{IsOpened, blank_notes}
-use Rattle.flow_world_steps.specs.Worlds.{World, opened}
-use Rattle.flow_world_steps.proofs.Caused.{steps_cause}
-use Rattle.flow_world_steps.proofs.Whole.{steps_add_up}
+use Rattle.flow_world_parts.specs.ActuatorView.{ActuatorView}
+use Rattle.flow_world_parts.specs.Steps.{Steps}
+use Rattle.flow_world_parts.specs.Whole.{IsOpened, blank_notes}
+use Rattle.flow_world_parts.specs.Worlds.{World, opened}
+use Rattle.flow_world_parts.proofs.Caused.{steps_cause}
+use Rattle.flow_world_parts.proofs.Whole.{steps_add_up}
 use Rattle.flow_world_parts.specs.Leads.{ClosesAt, EndedAt, IsNewTo, RefusesAt, at}
 use Rattle.flow_world_parts.specs.Openings.{AreOpen}
 use Rattle.flow_world.specs.Sessions.{HasClosed, HasRefused, IsStart, KeepsAgreement, Went}

@@ -3,7 +3,7 @@ use Rattle.std.specs.Prelude.{◌≡◌, ℕ, List}
 use Rattle.cacao_site.specs.View.{SiteView}
 use Rattle.flow_engine_answers.specs.declared.answers.OperatorAnswer.{OperatorAnswer}
 use Rattle.flow_core_rules.specs.Givens.{Given}
-use Rattle.flow_world_steps.specs.Worlds.{World}
+use Rattle.flow_world_parts.specs.Worlds.{World}
 use Rattle.flow_world_parts.specs.Closes.{IsClose, IsRefusal}
 use Rattle.flow_world_parts.specs.Openings.{IsSteady}
 use Rattle.flow_world.specs.Sessions.{HasClosed, HasRefused}

@@ -7,10 +7,10 @@ use Rattle.flow_laws.specs.Held.{plain}
 use Rattle.flow_laws.specs.Sessions.{IsStart as IsStartAs}
 use Rattle.flow_laws.specs.Since.{AgreedSince}
 use Rattle.flow_core_rules.specs.Givens.{Given}
-use Rattle.flow_world_steps.specs.Causes.{HasCause}
-use Rattle.flow_world_steps.specs.Steps.{Steps}
-use Rattle.flow_world_steps.specs.Whole.{AddsUp, IsOpened}
-use Rattle.flow_world_steps.specs.Worlds.{World}
+use Rattle.flow_world_parts.specs.Causes.{HasCause}
+use Rattle.flow_world_parts.specs.Steps.{Steps}
+use Rattle.flow_world_parts.specs.Whole.{AddsUp, IsOpened}
+use Rattle.flow_world_parts.specs.Worlds.{World}
 use Rattle.flow_world_parts.specs.Closes.{IsClose, IsRefusal}
 use Rattle.flow_world_parts.specs.Openings.{AreOpen, RefusesOpening}
 use Rattle.flow_world_parts.specs.declared.close.Close.{Close}

@@ -3,9 +3,8 @@ ghost use Rattle.std.specs.Prelude.{◌≡◌, ◌≢◌, ◌≤◌, Err, IfOk, 
 ghost use Rattle.flow_world.specs.Sessions.{HasClosed, HasRefused, IsStart, KeepsAgreement};
 
 use cacao_site::Site;
-use flow_core::Setup;
 use flow_engine_answers::Answers;
-use flow_world_parts::{Close, WorldError, open_files, run_opened};
+use flow_world_parts::{Close, Setup, WorldError, open_files, run_opened};
 use std::alloc::Global;
 
 /// One session of a run: its files are opened, and it goes on until it closes or a call refuses. At most `most` records are

@@ -7,7 +7,7 @@ use Rattle.cacao_site.specs.Sound.{IsSound}
 use Rattle.run_records.specs.declared.record.Record.{Record}
 use Rattle.run_records.specs.declared.record.Record.TheVariants as entry
 use Rattle.flow_core_rules.specs.Changes.{outcome}
-use Rattle.flow_engine_history.specs.Histories.{IsHistory}
+use Rattle.flow_world_steps.specs.Histories.{IsHistory}
 use Rattle.flow_laws.specs.Held.{plain}
 use Rattle.flow_laws.specs.Journals.{IsSent}
 use Rattle.flow_laws.specs.Since.{AgreedSince}

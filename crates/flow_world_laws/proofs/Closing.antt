@@ -5,8 +5,8 @@ use Rattle.cacao_site.specs.Counts.{last_count, next_count}
 use Rattle.cacao_site.specs.declared.parcel.Parcel.{Parcel}
 use Rattle.run_records.specs.declared.record.Record.{Record}
 use Rattle.flow_core_rules.specs.Changes.{outcome}
-use Rattle.flow_engine_history.specs.HistoryView.{HistoryView}
-use Rattle.flow_engine.specs.EngineView.{EngineView}
+use Rattle.flow_world_steps.specs.HistoryView.{HistoryView}
+use Rattle.flow_world_steps.specs.EngineView.{EngineView}
 use Rattle.flow_world_steps.specs.Appends.{Tries}
 use Rattle.flow_world_steps.specs.Appends.Tries.{done, failed, limited}
 use Rattle.flow_world_steps.specs.Causes.{AskedLast}
@@ -20,7 +20,7 @@ use Rattle.flow_world_steps.specs.Worlds.{Notes, Phase, World, opened, looked, h
 use Rattle.flow_world_steps.proofs.Ended.{step_going}
 use Rattle.flow_world_steps.proofs.Failing.{fails_notes}
 use Rattle.flow_world_steps.proofs.Resent.{step_asked}
-use Rattle.flow_world_parts.specs.declared.close.Close.TheVariants as close
+use Rattle.flow_world.specs.Close.TheVariants as close
 use Rattle.flow_world_laws.specs.Ends.{EachCountsShorts, EachEndsInTurn, EndsInTurn, IsInTurn, MayGoOn, TurnAt}
 use Rattle.flow_world_laws.proofs.Carried.{steps_shorts}
 use Rattle.flow_world_laws.proofs.Shown.{EndShows, step_shows, steps_in_turn}

@@ -17,8 +17,8 @@ use Rattle.flow_core_rules.proofs.IssueLemmas.{issues_are_new, issues_have_recor
 use Rattle.flow_core_rules.proofs.KeepLemmas.{records_keep_issues}
 use Rattle.flow_core_rules.proofs.RunLemmas.{some_inner}
 use Rattle.flow_core_setup.proofs.SetupRunnable.{accepted_is_runnable}
-use Rattle.flow_engine_history.specs.HistoryView.{HistoryView}
-use Rattle.flow_engine_history.specs.Histories.{IsHistory, IsSoFar}
+use Rattle.flow_world_steps.specs.HistoryView.{HistoryView}
+use Rattle.flow_world_steps.specs.Histories.{IsHistory, IsSoFar}
 use Rattle.cacao_check.proofs.LawLemmas.{sound_gives}
 use Rattle.std.proofs.lemmas.Option.{none-some}
 

@@ -14,3 +14,4 @@ pub mod Undisturbed
 pub mod Used
 pub mod WholeActs
 pub mod WholeRuns
+pub use Rattle.flow_engine_reports.proofs.AcceptLemmas

@@ -16,20 +16,20 @@ use Rattle.flow_core_rules.proofs.RunLemmas.{some_inner}
 use Rattle.flow_laws.specs.Fresh.{IsFresh, IsUnused}
 use Rattle.flow_laws.specs.Images.{IsActs, IsRecords}
 use Rattle.flow_laws.proofs.OneList.{stands_empty}
-use Rattle.flow_engine_history.specs.Openings.{BeginsWith, IsRefusedOpening, RefusesEntries, RefusesImage}
+use Rattle.flow_world_steps.specs.Openings.{BeginsWith, IsRefusedOpening, RefusesEntries, RefusesImage}
 use Rattle.flow_engine_answers.specs.declared.answers.OperatorAnswer.{OperatorAnswer}
-use Rattle.flow_engine_history.specs.declared.error.EngineError.{EngineError}
-use Rattle.flow_engine_history.specs.declared.error.EngineError.TheVariants as engine_error
+use Rattle.flow_world_steps.specs.EngineError.{EngineError}
+use Rattle.flow_world_steps.specs.EngineError.TheVariants as engine_error
 use Rattle.flow_world_steps.specs.Sides.{IsFilter}
 use Rattle.flow_world_steps.specs.Worlds.{Cause, refused, disk_failed, not_said, run_used, past, wants_memory}
 use Rattle.flow_world_steps.proofs.FilterCalls.{has_acts}
 use Rattle.flow_world_steps.proofs.Records.{has_records}
-use Rattle.flow_world_parts.specs.Closes.{refusal_of}
-use Rattle.flow_world_parts.specs.Errors.{opening_refusal}
-use Rattle.flow_world_parts.specs.Openings.{IsFileCause}
+use Rattle.flow_world.specs.Closes.{refusal_of}
+use Rattle.flow_world.specs.Errors.{opening_refusal}
+use Rattle.flow_world.specs.Openings.{IsFileCause}
 use Rattle.flow_world.specs.Sessions.{Went}
-use Rattle.flow_world_parts.specs.declared.error.WorldError.{WorldError}
-use Rattle.flow_world_parts.specs.declared.error.WorldError.TheVariants as error
+use Rattle.flow_world.specs.WorldError.{WorldError}
+use Rattle.flow_world.specs.WorldError.TheVariants as error
 use Rattle.flow_world_laws.specs.Complete.{HoldsThisRun, NoneFindsAnother, TellsOfAnother}
 use Rattle.flow_world_laws.proofs.Opening.{OnlyOpens, opens_all, opens_refused}
 use Rattle.flow_world_laws.proofs.Used.{used_at_once}

@@ -4,13 +4,13 @@ use Rattle.std.proofs.lemmas.Bool.{cases_lt}
 use Rattle.cacao_site.specs.DiskCalls.{GoesOn, IsLeft}
 use Rattle.cacao_site.specs.View.{SiteView}
 use Rattle.cacao_site.proofs.Beats.{goes_on-trans, told-goes_on}
-use Rattle.flow_engine.specs.EngineView.{EngineView}
+use Rattle.flow_world_steps.specs.EngineView.{EngineView}
 use Rattle.flow_laws.specs.Beats.{Among}
 use Rattle.flow_laws.proofs.Basics.{same_or_not}
 use Rattle.flow_core_rules.specs.Givens.{Given}
 use Rattle.slpf_actuator.specs.ActuatorView.{ActuatorView}
-use Rattle.flow_world_parts.specs.Openings.{AreOpen, OpensFile, OpensFilters, RefusesOpening}
-use Rattle.flow_world_parts.specs.declared.error.WorldError.{WorldError}
+use Rattle.flow_world.specs.Openings.{AreOpen, OpensFile, OpensFilters, RefusesOpening}
+use Rattle.flow_world.specs.WorldError.{WorldError}
 
 -- the images of each file at the last beat of the new site were images of it at that of the old one, and the disk went on
 pub record OnlyOpens (old new : SiteView) : Type 0 where

@@ -11,15 +11,15 @@ use Rattle.flow_core_rules.proofs.RunLemmas.{run_one}
 use Rattle.flow_core.specs.Views.{blank_shown}
 use Rattle.flow_laws.specs.Images.{IsRecords}
 use Rattle.flow_laws.proofs.OneList.{same_records}
-use Rattle.flow_engine_history.specs.Histories.{IsSoFar}
+use Rattle.flow_world_steps.specs.Histories.{IsSoFar}
 use Rattle.flow_engine_answers.specs.declared.answers.OperatorAnswer.{OperatorAnswer}
 use Rattle.flow_world_steps.specs.Sides.{IsWhole}
 use Rattle.flow_world_steps.specs.Worlds.{Notes, Phase, IsGoing, looked, rests}
 use Rattle.flow_world_steps.proofs.Records.{has_records}
 use Rattle.flow_world_steps.proofs.Standing.{steps_stand}
 use Rattle.flow_world.specs.Sessions.{HasClosed, Went}
-use Rattle.flow_world_parts.specs.declared.close.Close.{Close}
-use Rattle.flow_world_parts.specs.declared.close.Close.TheVariants as close
+use Rattle.flow_world.specs.Close.{Close}
+use Rattle.flow_world.specs.Close.TheVariants as close
 use Rattle.flow_world_laws.specs.Ends.{EndsInTurn}
 use Rattle.flow_world_laws.specs.Returned.{EachClosesOnRun, ReadsAsOneRun, ReadsAsRun}
 use Rattle.flow_world_laws.proofs.Closing.{steps_end_in_turn}

@@ -17,11 +17,11 @@ use Rattle.flow_core_rules.specs.State.{Shown}
 use Rattle.flow_core_rules.specs.declared.issues.Issue.{Issue}
 use Rattle.flow_core_rules.specs.declared.moves.Move.{Move}
 use Rattle.flow_core_rules.specs.declared.moves.Move.TheVariants as move
-use Rattle.flow_engine_history.specs.HistoryView.{HistoryView}
-use Rattle.flow_engine_history.specs.Histories.{IsHistory}
+use Rattle.flow_world_steps.specs.HistoryView.{HistoryView}
+use Rattle.flow_world_steps.specs.Histories.{IsHistory}
 use Rattle.flow_engine_answers.specs.declared.answers.OperatorAnswer.{OperatorAnswer}
-use Rattle.flow_engine.specs.EngineCalls.{IsWaiting}
-use Rattle.flow_engine.specs.EngineView.{EngineView}
+use Rattle.flow_world_steps.specs.EngineCalls.{IsWaiting}
+use Rattle.flow_world_steps.specs.EngineView.{EngineView}
 use Rattle.flow_laws.proofs.Basics.{same_some}
 use Rattle.flow_world_steps.specs.Appends.{Tries}
 use Rattle.flow_world_steps.specs.Appends.Tries.{done, failed, limited}

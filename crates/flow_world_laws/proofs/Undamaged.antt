@@ -13,16 +13,16 @@ use Rattle.flow_laws.specs.Images.{IsAgent, puts_to}
 use Rattle.flow_laws.proofs.Basics.{put_at, put_at-each, put_at-same}
 use Rattle.flow_core.specs.SetupLaws.{AcceptedAgain}
 use Rattle.flow_core.specs.Setups.{AreAccepted}
-use Rattle.flow_engine_history.specs.Openings.{IsRefusedOpening}
-use Rattle.flow_engine_history.specs.declared.error.EngineError.{EngineError}
-use Rattle.flow_engine_history.specs.declared.error.EngineError.TheVariants as engine_error
+use Rattle.flow_world_steps.specs.Openings.{IsRefusedOpening}
+use Rattle.flow_world_steps.specs.EngineError.{EngineError}
+use Rattle.flow_world_steps.specs.EngineError.TheVariants as engine_error
 use Rattle.slpf_actuator.specs.Damage as filter_file
 use Rattle.flow_engine_reports.specs.RunFiles as run_file
 use Rattle.flow_world_steps.specs.Worlds.{Cause, disk_failed, not_said, run_used, past, wants_memory}
-use Rattle.flow_world_parts.specs.Closes.{refusal_of}
-use Rattle.flow_world_parts.specs.Errors.{opening_refusal}
-use Rattle.flow_world_parts.specs.Openings.{IsFileCause, RefusesOpening}
-use Rattle.flow_world_parts.specs.declared.error.WorldError.TheVariants as error
+use Rattle.flow_world.specs.Closes.{refusal_of}
+use Rattle.flow_world.specs.Errors.{opening_refusal}
+use Rattle.flow_world.specs.Openings.{IsFileCause, RefusesOpening}
+use Rattle.flow_world.specs.WorldError.TheVariants as error
 use Rattle.flow_world_laws.specs.Undamaged.{ComesOfTexts, GoodIsUndamaged, IsDamagedFor, NoneFindsDamage}
 use Rattle.flow_world_laws.proofs.Opening.{OnlyOpens, opens_refused}
 use Rattle.flow_world_laws.proofs.WholeActs.{acts_undamaged}

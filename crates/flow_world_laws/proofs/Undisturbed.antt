@@ -5,20 +5,20 @@ use Rattle.cacao_site.specs.Sound.{IsSound}
 use Rattle.cacao_site.specs.View.{ClockView, CountsView, SiteView}
 use Rattle.flow_core.specs.SetupLaws.{AcceptedAgain}
 use Rattle.flow_core_rules.specs.Givens.{Given}
-use Rattle.flow_engine_history.specs.Openings.{IsRefusedOpening}
+use Rattle.flow_world_steps.specs.Openings.{IsRefusedOpening}
 use Rattle.flow_engine_answers.specs.declared.answers.OperatorAnswer.{OperatorAnswer}
-use Rattle.flow_engine_history.specs.declared.error.EngineError.{EngineError}
-use Rattle.flow_engine_history.specs.declared.error.EngineError.TheVariants as engine_error
+use Rattle.flow_world_steps.specs.EngineError.{EngineError}
+use Rattle.flow_world_steps.specs.EngineError.TheVariants as engine_error
 use Rattle.flow_world_steps.specs.Causes.{Shows}
 use Rattle.flow_world_steps.specs.Worlds.{Cause, Phase, refused, disk_failed, not_said, run_used, past, waits, wants_memory}
-use Rattle.flow_world_parts.specs.Closes.{refusal_of}
-use Rattle.flow_world_parts.specs.Errors.{opening_refusal}
-use Rattle.flow_world_parts.specs.Openings.{RefusesOpening}
+use Rattle.flow_world.specs.Closes.{refusal_of}
+use Rattle.flow_world.specs.Errors.{opening_refusal}
+use Rattle.flow_world.specs.Openings.{RefusesOpening}
 use Rattle.flow_world.specs.Sessions.{HasClosed, HasRefused, IsStart, Went}
-use Rattle.flow_world_parts.specs.declared.close.Close.{Close}
-use Rattle.flow_world_parts.specs.declared.close.Close.TheVariants as close
-use Rattle.flow_world_parts.specs.declared.error.WorldError.{WorldError}
-use Rattle.flow_world_parts.specs.declared.error.WorldError.TheVariants as error
+use Rattle.flow_world.specs.Close.{Close}
+use Rattle.flow_world.specs.Close.TheVariants as close
+use Rattle.flow_world.specs.WorldError.{WorldError}
+use Rattle.flow_world.specs.WorldError.TheVariants as error
 use Rattle.flow_world_laws.specs.Complete.{EndsSo, IsForThisRun, IsUndisturbed, StopsSo, UndisturbedCompletes}
 use Rattle.flow_world_laws.specs.Undamaged.{ComesOfTexts}
 use Rattle.flow_world_laws.proofs.Closing.{steps_count_shorts}

@@ -19,9 +19,9 @@ use Rattle.flow_core_rules.proofs.RunLemmas.{list_heads, run_one, some_inner}
 use Rattle.flow_core.specs.Setups.{AreAccepted}
 use Rattle.flow_laws.specs.Images.{IsRecords}
 use Rattle.flow_laws.specs.Journals.{IsJournalRun}
-use Rattle.flow_engine_history.specs.Histories.{IsShownAfter}
-use Rattle.flow_engine_history.specs.Openings.{BreaksOff, RefusesEntries, RefusesImage}
-use Rattle.flow_engine_history.specs.declared.error.EngineError.TheVariants as refused
+use Rattle.flow_world_steps.specs.Histories.{IsShownAfter}
+use Rattle.flow_world_steps.specs.Openings.{BreaksOff, RefusesEntries, RefusesImage}
+use Rattle.flow_world_steps.specs.EngineError.TheVariants as refused
 use Rattle.flow_engine_reports.specs.RunFiles.{IsBegin}
 use Rattle.flow_engine_reports.specs.RunFiles as run_file
 use Rattle.flow_engine_reports.proofs.AcceptLemmas.{accepted-one}

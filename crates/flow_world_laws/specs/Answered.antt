@@ -20,7 +20,7 @@ use Rattle.flow_world_steps.specs.Unbroken.{AreFiltersSure, IsJournalSure}
 use Rattle.flow_world_steps.specs.Whole.{IsOpened}
 use Rattle.flow_world_steps.specs.Worlds.{HasAllFilters, World, looked}
 use Rattle.flow_world.specs.Sessions.{HasClosed}
-use Rattle.flow_world_parts.specs.declared.close.Close.TheVariants as close
+use Rattle.flow_world.specs.Close.TheVariants as close
 
 -- ---- operators tell of questions alone
 

@@ -7,13 +7,13 @@ use Rattle.cacao_site.specs.View.{SiteView}
 use Rattle.run_journal.specs.Layout.{Stands}
 use Rattle.flow_core_rules.specs.Givens.{Given}
 use Rattle.flow_laws.specs.Fresh.{IsFresh}
-use Rattle.flow_engine_history.specs.Openings.{BeginsWith}
+use Rattle.flow_world_steps.specs.Openings.{BeginsWith}
 use Rattle.flow_engine_answers.specs.declared.answers.OperatorAnswer.{OperatorAnswer}
 use Rattle.flow_world.specs.Sessions.{HasClosed, HasRefused, IsStart}
-use Rattle.flow_world_parts.specs.declared.close.Close.{Close}
-use Rattle.flow_world_parts.specs.declared.close.Close.TheVariants as close
-use Rattle.flow_world_parts.specs.declared.error.WorldError.{WorldError}
-use Rattle.flow_world_parts.specs.declared.error.WorldError.TheVariants as error
+use Rattle.flow_world.specs.Close.{Close}
+use Rattle.flow_world.specs.Close.TheVariants as close
+use Rattle.flow_world.specs.WorldError.{WorldError}
+use Rattle.flow_world.specs.WorldError.TheVariants as error
 use Rattle.flow_world_laws.specs.Undamaged.{ComesOfTexts}
 
 -- ---- no other run

@@ -7,9 +7,9 @@ use Rattle.run_records.specs.declared.record.Record.TheVariants as entry
 use Rattle.flow_core.specs.declared.flow_errors.LimitKind.{LimitKind}
 use Rattle.flow_core.specs.declared.flow_errors.LimitKind.TheVariants as limit
 use Rattle.flow_core_rules.specs.Changes.{outcome}
-use Rattle.flow_engine_history.specs.HistoryCalls.{Is}
+use Rattle.flow_world_steps.specs.HistoryCalls.{Is}
 use Rattle.flow_engine_answers.specs.declared.answers.OperatorAnswer.{OperatorAnswer}
-use Rattle.flow_engine.specs.EngineCalls.{IsBeginning, IsMove, IsReply}
+use Rattle.flow_world_steps.specs.EngineCalls.{IsBeginning, IsMove, IsReply}
 use Rattle.slpf_actuator.specs.ActuatorView.{ActuatorView}
 use Rattle.slpf_actuator.specs.declared.error.ActError.TheVariants as act_error
 use Rattle.flow_world_steps.specs.Appends.{HasPassedLimit}
@@ -19,9 +19,9 @@ use Rattle.flow_world_steps.specs.Steps.{Begins, Expires, FailsToAct, Moves, Rep
 use Rattle.flow_world_steps.specs.Turns.{most_ignored}
 use Rattle.flow_world_steps.specs.Worlds.{Cause, IsGoing, Phase, World, opened, looked, holds, waits, refused}
 use Rattle.flow_world_steps.specs.Worlds.{disk_failed, not_said, run_used, past, wants_memory}
-use Rattle.flow_world_parts.specs.Closes.{IsClose}
-use Rattle.flow_world_parts.specs.declared.close.Close.{Close}
-use Rattle.flow_world_parts.specs.declared.close.Close.TheVariants as close
+use Rattle.flow_world.specs.Closes.{IsClose}
+use Rattle.flow_world.specs.Close.{Close}
+use Rattle.flow_world.specs.Close.TheVariants as close
 
 -- ---- turns
 

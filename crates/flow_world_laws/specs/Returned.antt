@@ -8,11 +8,11 @@ use Rattle.flow_core_rules.specs.Givens.{Given}
 use Rattle.flow_core_rules.specs.Moves.{asks, due}
 use Rattle.flow_core_rules.specs.State.{Shown}
 use Rattle.flow_laws.specs.Images.{IsRecords}
-use Rattle.flow_engine_history.specs.Histories.{IsSoFar}
+use Rattle.flow_world_steps.specs.Histories.{IsSoFar}
 use Rattle.flow_engine_answers.specs.declared.answers.OperatorAnswer.{OperatorAnswer}
 use Rattle.flow_world.specs.Sessions.{HasClosed}
-use Rattle.flow_world_parts.specs.declared.close.Close.{Close}
-use Rattle.flow_world_parts.specs.declared.close.Close.TheVariants as close
+use Rattle.flow_world.specs.Close.{Close}
+use Rattle.flow_world.specs.Close.TheVariants as close
 
 -- the bytes that file 0 reads as are records, a run so far of what was given under this number, and so it stands after them
 pub record ReadsAsRun (given : Given) (run : ℕ) (site : SiteView) (seen : Shown) : Type 0 where

@@ -9,13 +9,13 @@ use Rattle.flow_core_rules.specs.Givens.{Given}
 use Rattle.flow_laws.specs.Good.{IsGood}
 use Rattle.flow_laws.specs.Images.{IsAgent}
 use Rattle.flow_core.specs.Setups.{AreAccepted}
-use Rattle.flow_engine_history.specs.Openings.{RefusesImage}
-use Rattle.flow_engine_history.specs.declared.error.EngineError.TheVariants as engine_error
+use Rattle.flow_world_steps.specs.Openings.{RefusesImage}
+use Rattle.flow_world_steps.specs.EngineError.TheVariants as engine_error
 use Rattle.flow_engine_answers.specs.declared.answers.OperatorAnswer.{OperatorAnswer}
 use Rattle.flow_engine_reports.specs.RunFiles as run_file
 use Rattle.slpf_actuator.specs.Damage as filter_file
 use Rattle.flow_world.specs.Sessions.{HasRefused}
-use Rattle.flow_world_parts.specs.declared.error.WorldError.TheVariants as error
+use Rattle.flow_world.specs.WorldError.TheVariants as error
 
 -- some texts that are accepted give this
 pub record ComesOfTexts (given : Given) : Type 0 where

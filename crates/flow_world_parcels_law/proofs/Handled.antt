@@ -30,11 +30,11 @@ use Rattle.flow_world_steps.specs.Worlds.{IsGoing, Phase, World, holds, looked, 
 use Rattle.flow_world_steps.proofs.Hands.{hand_as}
 use Rattle.flow_world_steps.proofs.Records.{has_records}
 use Rattle.flow_world_steps.proofs.Standing.{steps_stand}
-use Rattle.flow_world_parts.specs.Closes.{IsClose}
-use Rattle.flow_world_parts.specs.Openings.{RefusesOpening}
-use Rattle.flow_world_parts.specs.declared.close.Close.{Close}
-use Rattle.flow_world_parts.specs.declared.close.Close.TheVariants as close
-use Rattle.flow_world_parts.specs.declared.error.WorldError.{WorldError}
+use Rattle.flow_world.specs.Closes.{IsClose}
+use Rattle.flow_world.specs.Openings.{RefusesOpening}
+use Rattle.flow_world.specs.Close.{Close}
+use Rattle.flow_world.specs.Close.TheVariants as close
+use Rattle.flow_world.specs.WorldError.{WorldError}
 use Rattle.flow_world.specs.Sessions.{IsStart, Went}
 use Rattle.flow_world_laws.specs.Ends.{IsInTurn, TurnAt}
 use Rattle.flow_world_laws.proofs.Carried.{steps_keep_disk_on}

@@ -15,8 +15,8 @@ use Rattle.flow_laws.specs.Images.{IsActs, IsAgent, IsRecords, puts_to}
 use Rattle.flow_laws.proofs.Basics.{put_at, put_at-each, put_at-same, same_some}
 use Rattle.flow_world_steps.specs.Worlds.{refused}
 use Rattle.flow_world_steps.proofs.Hands.{few_at_hand}
-use Rattle.flow_world_parts.specs.Openings.{RefusesOpening}
-use Rattle.flow_world_parts.specs.declared.error.WorldError.{WorldError}
+use Rattle.flow_world.specs.Openings.{RefusesOpening}
+use Rattle.flow_world.specs.WorldError.{WorldError}
 use Rattle.flow_world.specs.Sessions.{IsStart, Went}
 use Rattle.flow_world_laws.proofs.Opening.{opens_refused}
 use Rattle.flow_world_parcels_law.specs.Parcels.{AreHandled, EachCloseHandles, EachRefusalHandles, IsOfTaken, Took, but_the_last}

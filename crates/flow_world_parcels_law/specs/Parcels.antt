@@ -16,8 +16,8 @@ use Rattle.flow_laws.specs.Images.{EachFilter, EachJournal, IsActs, IsAgent, IsR
 use Rattle.slpf_actuator.specs.ActLists.{HasActed}
 use Rattle.flow_world_steps.specs.Handled.{IsCommand, IsTakenAct, IsTakenReply}
 use Rattle.flow_world.specs.Sessions.{HasClosed, HasRefused, IsStart}
-use Rattle.flow_world_parts.specs.declared.close.Close.{Close}
-use Rattle.flow_world_parts.specs.declared.error.WorldError.{WorldError}
+use Rattle.flow_world.specs.Close.{Close}
+use Rattle.flow_world.specs.WorldError.{WorldError}
 
 -- ---- the parcels
 

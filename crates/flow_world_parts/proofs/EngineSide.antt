@@ -6,11 +6,11 @@ use Rattle.cacao_site.specs.Sound.{IsSound}
 use Rattle.cacao_site.specs.View.{SiteView}
 use Rattle.cacao_site.specs.declared.parcel.Parcel.{Parcel}
 use Rattle.run_records.specs.declared.record.Record.{Record}
-use Rattle.flow_engine_history.specs.HistoryView.{HistoryView, IsReady}
-use Rattle.flow_engine_history.specs.Histories.{IsHistory}
-use Rattle.flow_engine.specs.EngineCalls.{Appends, IsBeginning, IsReply, IsWaiting, Sends}
-use Rattle.flow_engine.specs.EngineView.{EngineView}
-use Rattle.flow_engine.specs.OpenIssues.{ArePut, OpenIssues, puts_of}
+use Rattle.flow_world_steps.specs.HistoryView.{HistoryView, IsReady}
+use Rattle.flow_world_steps.specs.Histories.{IsHistory}
+use Rattle.flow_world_steps.specs.EngineCalls.{Appends, IsBeginning, IsReply, IsWaiting, Sends}
+use Rattle.flow_world_steps.specs.EngineView.{EngineView}
+use Rattle.flow_world_steps.specs.OpenIssues.{ArePut, OpenIssues, puts_of}
 use Rattle.flow_world_steps.specs.Sides.{AllPut, IsEngine, IsUp, IsWhole}
 use Rattle.flow_world_steps.specs.Steps.{IsAddressed}
 use Rattle.flow_world_steps.specs.Steps.Step.{begins, puts_first, replies}

@@ -7,11 +7,11 @@ use Rattle.cacao_site.specs.SayCalls.{SaysOnly}
 use Rattle.cacao_site.specs.Sound.{IsSound}
 use Rattle.cacao_site.specs.View.{SiteView}
 use Rattle.run_records.specs.declared.record.Record.{Record}
-use Rattle.flow_engine_history.specs.Histories.{IsLineAt}
-use Rattle.flow_engine_history.specs.declared.error.EngineError.{EngineError}
-use Rattle.flow_engine_history.specs.declared.error.EngineError.TheVariants as engine_error
-use Rattle.flow_engine.specs.EngineCalls.{Appends, Refused}
-use Rattle.flow_engine.specs.EngineView.{EngineView}
+use Rattle.flow_world_steps.specs.Histories.{IsLineAt}
+use Rattle.flow_world_steps.specs.EngineError.{EngineError}
+use Rattle.flow_world_steps.specs.EngineError.TheVariants as engine_error
+use Rattle.flow_world_steps.specs.EngineCalls.{Appends, Refused}
+use Rattle.flow_world_steps.specs.EngineView.{EngineView}
 use Rattle.slpf_actuator.specs.ActuatorView.{ActuatorView}
 use Rattle.flow_world_steps.specs.Appends.{Tries}
 use Rattle.flow_world_steps.specs.Appends.Tries.{done, failed, limited}

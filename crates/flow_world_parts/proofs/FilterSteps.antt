@@ -4,9 +4,9 @@ use Rattle.std.specs.Prelude.{Some, IsTrue, slice_get, slice_set}
 use Rattle.cacao_site.specs.Sound.{IsSound}
 use Rattle.cacao_site.specs.View.{SiteView}
 use Rattle.cacao_site.specs.declared.parcel.Parcel.{Parcel}
-use Rattle.flow_core.specs.declared.flow_errors.LimitKind.TheVariants as limit
-use Rattle.flow_engine.specs.EngineView.{EngineView}
-use Rattle.flow_laws.specs.Images.{HasBegun}
+use Rattle.flow_world_steps.specs.LimitKind.TheVariants as limit
+use Rattle.flow_world_steps.specs.EngineView.{EngineView}
+use Rattle.flow_world_steps.specs.Images.{HasBegun}
 use Rattle.slpf_actuator.specs.ActuatorCalls.{Acts, Offers, Refuses, Repeats}
 use Rattle.slpf_actuator.specs.ActuatorView.{ActuatorView, act_for}
 use Rattle.slpf_actuator.specs.declared.error.ActError.{ActError}

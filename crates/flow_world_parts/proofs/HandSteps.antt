@@ -6,7 +6,7 @@ use Rattle.cacao_site.specs.Sound.{IsSound}
 use Rattle.cacao_site.specs.View.{SiteView}
 use Rattle.cacao_site.specs.declared.parcel.Parcel.{Parcel}
 use Rattle.run_records.specs.declared.act.Act.{Act}
-use Rattle.flow_laws.specs.Images.{HasBegun}
+use Rattle.flow_world_steps.specs.Images.{HasBegun}
 use Rattle.slpf_actuator.specs.ActuatorCalls.{Acts, Refuses}
 use Rattle.slpf_actuator.specs.ActuatorView.{ActuatorView}
 use Rattle.slpf_actuator.specs.declared.error.ActError.{ActError}

@@ -11,3 +11,7 @@ pub mod Standing
 pub mod Told
 pub mod TurnSteps
 pub mod WaitSteps
+pub use Rattle.flow_world_steps.proofs.Caused
+pub use Rattle.flow_world_steps.proofs.Whole
+pub use Rattle.flow_world_steps.proofs.Agreement
+pub use Rattle.flow_world_steps.proofs.Steady

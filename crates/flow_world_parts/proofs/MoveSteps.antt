@@ -6,16 +6,16 @@ use Rattle.cacao_site.specs.View.{ClockView, SiteView}
 use Rattle.run_records.specs.declared.record.Record.{Record}
 use Rattle.run_records.specs.declared.record.Record.TheVariants as entry
 use Rattle.base_dues.specs.Pairs.{IsFirstBy}
-use Rattle.flow_engine_history.specs.HistoryCalls.{Is}
-use Rattle.flow_engine_history.specs.HistoryView.{HistoryView}
-use Rattle.flow_engine_history.specs.Histories.{IsHistory}
+use Rattle.flow_world_steps.specs.HistoryCalls.{Is}
+use Rattle.flow_world_steps.specs.HistoryView.{HistoryView}
+use Rattle.flow_world_steps.specs.Histories.{IsHistory}
 use Rattle.flow_engine_answers.specs.declared.answers.OperatorAnswer.{OperatorAnswer}
-use Rattle.flow_engine_history.specs.declared.error.EngineError.{EngineError}
-use Rattle.flow_engine.specs.EngineCalls.{Appends, IsMove, IsWaiting, Refused, Sends, put_deadline}
-use Rattle.flow_engine.specs.EngineView.{EngineView}
-use Rattle.flow_engine.specs.OpenIssues.{ArePut, IsNextPut, OpenIssues, puts_of}
-use Rattle.flow_engine.specs.declared.puts.Puts.{Puts}
-use Rattle.flow_laws.proofs.Basics.{same_or_not}
+use Rattle.flow_world_steps.specs.EngineError.{EngineError}
+use Rattle.flow_world_steps.specs.EngineCalls.{Appends, IsMove, IsWaiting, Refused, Sends, put_deadline}
+use Rattle.flow_world_steps.specs.EngineView.{EngineView}
+use Rattle.flow_world_steps.specs.OpenIssues.{ArePut, IsNextPut, OpenIssues, puts_of}
+use Rattle.flow_world_steps.specs.Puts.{Puts}
+use Rattle.flow_world_steps.proofs.Basics.{same_or_not}
 use Rattle.flow_core_rules.specs.Changes.{is_in_time, moment_of}
 use Rattle.flow_core_rules.specs.State.{Shown}
 use Rattle.flow_core_rules.specs.declared.issues.Issue.{Issue}

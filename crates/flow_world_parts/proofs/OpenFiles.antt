@@ -9,14 +9,14 @@ use Rattle.slpf_actuator.specs.ActuatorView as filter
 use Rattle.slpf_actuator.specs.Damage.{IsDamaged}
 use Rattle.slpf_actuator.specs.declared.error.ActError.{ActError}
 use Rattle.slpf_actuator.specs.declared.error.ActError.TheVariants as act_error
-use Rattle.flow_engine_history.specs.HistoryView.{HoldsRecords}
-use Rattle.flow_engine_history.specs.HistoryView as engine
-use Rattle.flow_engine_history.specs.Histories.{IsHistory}
-use Rattle.flow_engine_history.specs.Openings.{IsRefusedOpening}
-use Rattle.flow_engine_history.specs.declared.error.EngineError.{EngineError}
-use Rattle.flow_engine_history.specs.declared.error.EngineError.TheVariants as engine_error
-use Rattle.flow_engine.specs.EngineView.{EngineView}
-use Rattle.flow_engine.specs.OpenIssues.{ArePut}
+use Rattle.flow_world_steps.specs.HistoryView.{HoldsRecords}
+use Rattle.flow_world_steps.specs.HistoryView as engine
+use Rattle.flow_world_steps.specs.Histories.{IsHistory}
+use Rattle.flow_world_steps.specs.Openings.{IsRefusedOpening}
+use Rattle.flow_world_steps.specs.EngineError.{EngineError}
+use Rattle.flow_world_steps.specs.EngineError.TheVariants as engine_error
+use Rattle.flow_world_steps.specs.EngineView.{EngineView}
+use Rattle.flow_world_steps.specs.OpenIssues.{ArePut}
 use Rattle.flow_core_rules.specs.Givens.{Given}
 use Rattle.flow_world_parts.specs.Clock.{FallsShort, IsReached}
 use Rattle.flow_world_parts.specs.Errors.{MayRefuseFile, file_refusal, opening_refusal}

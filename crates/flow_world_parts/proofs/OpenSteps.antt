@@ -5,7 +5,7 @@ use Rattle.std.proofs.lemmas.Bool.{cases_lt}
 use Rattle.cacao_site.specs.DiskCalls.{GoesOn, IsDurable, IsLeft, OnlyFile, SameRest, StaysAt}
 use Rattle.cacao_site.specs.View.{DiskView, SiteView}
 use Rattle.cacao_site.proofs.Beats.{goes_on-refl, goes_on-trans, stays-trans}
-use Rattle.flow_engine.specs.EngineView.{EngineView}
+use Rattle.flow_world_steps.specs.EngineView.{EngineView}
 use Rattle.slpf_actuator.specs.ActuatorView.{ActuatorView, HoldsActs}
 use Rattle.flow_world_steps.specs.Sides.{AreFilters, FiltersReady, IsWhole}
 use Rattle.flow_world_steps.proofs.Filters.{ready_stays}

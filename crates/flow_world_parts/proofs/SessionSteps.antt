@@ -7,8 +7,8 @@ use Rattle.cacao_site.specs.Sound.{IsSound}
 use Rattle.cacao_site.specs.View.{SiteView}
 use Rattle.cacao_site.specs.declared.parcel.Parcel.{Parcel}
 use Rattle.flow_engine_answers.specs.declared.answers.OperatorAnswer.{OperatorAnswer}
-use Rattle.flow_engine.specs.EngineCalls.{IsReplyTo}
-use Rattle.flow_engine.specs.EngineView.{EngineView}
+use Rattle.flow_world_steps.specs.EngineCalls.{IsReplyTo}
+use Rattle.flow_world_steps.specs.EngineView.{EngineView}
 use Rattle.flow_core_rules.specs.Changes.{outcome}
 use Rattle.oc2_msg.specs.declared.answers.Answer.{Answer}
 use Rattle.slpf_actuator.specs.ActuatorView.{ActuatorView}

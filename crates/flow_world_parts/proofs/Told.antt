@@ -7,11 +7,11 @@ use Rattle.std.proofs.lemmas.List.{get_or_default}
 use Rattle.std.proofs.lemmas.Option.{none-some}
 use Rattle.cacao_site.specs.View.{SiteView}
 use Rattle.flow_engine_answers.specs.declared.answers.OperatorAnswer.{OperatorAnswer}
-use Rattle.flow_engine.specs.EngineView.{EngineView}
+use Rattle.flow_world_steps.specs.EngineView.{EngineView}
 use Rattle.flow_core_rules.specs.Changes.{is_waiting}
 use Rattle.flow_core_rules.specs.State.{Shown}
 use Rattle.flow_core_rules.specs.declared.issues.Issue.{Issue}
-use Rattle.flow_laws.proofs.Basics.{same_some}
+use Rattle.flow_world_steps.proofs.Basics.{same_some}
 use Rattle.slpf_actuator.specs.ActuatorView.{ActuatorView}
 use Rattle.flow_world_steps.specs.Turns.{HasAnswer, IsIdle, IsToBeTold, IsUntold, answer_for}
 use Rattle.flow_world_steps.specs.Worlds.{Notes, looked}

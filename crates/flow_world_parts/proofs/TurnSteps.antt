@@ -2,9 +2,9 @@
 use Rattle.std.proofs.Common.{◌≡◌, ◌<◌, ◌≤◌, List, sym, subst, ap, arith}
 use Rattle.std.specs.Prelude.{Option, None, Result, Ok}
 use Rattle.cacao_site.specs.View.{SiteView}
-use Rattle.flow_core.specs.SetupLaws.{AcceptedIsRunnable}
+use Rattle.flow_world_steps.specs.SetupLaws.{AcceptedIsRunnable}
 use Rattle.flow_engine_answers.specs.declared.answers.OperatorAnswer.{OperatorAnswer}
-use Rattle.flow_engine.specs.EngineView.{EngineView}
+use Rattle.flow_world_steps.specs.EngineView.{EngineView}
 use Rattle.flow_core_rules.specs.Moves.{enabled_move}
 use Rattle.flow_world_steps.specs.Sides.{AllPut}
 use Rattle.flow_world_steps.specs.Spent.{most_spent, place}

@@ -9,10 +9,10 @@ use Rattle.cacao_site.specs.View.{SiteView}
 use Rattle.run_records.specs.Ranges.{last_moment}
 use Rattle.run_records.specs.declared.act.Act.{Act}
 use Rattle.run_records.specs.declared.record.Record.{Record}
-use Rattle.flow_core.specs.declared.flow_errors.LimitKind.TheVariants as limit
+use Rattle.flow_world_steps.specs.LimitKind.TheVariants as limit
 use Rattle.flow_engine_answers.specs.declared.answers.OperatorAnswer.{OperatorAnswer}
-use Rattle.flow_engine.specs.EngineView.{EngineView}
-use Rattle.flow_engine.specs.OpenIssues.{IsNextPut}
+use Rattle.flow_world_steps.specs.EngineView.{EngineView}
+use Rattle.flow_world_steps.specs.OpenIssues.{IsNextPut}
 use Rattle.flow_core_rules.specs.Changes.{is_in_time, outcome}
 use Rattle.flow_core_rules.specs.Moves.{asks, due, enabled_move}
 use Rattle.flow_core_rules.specs.Sane.{IsNotStuck}

@@ -1,8 +1,8 @@
 -- Promise: How refusals of the engine and of the filters become those of a session.
 use Rattle.std.specs.Prelude.{ℕ, ⊤}
-use Rattle.flow_core.specs.declared.flow_errors.LimitKind.TheVariants as limit
-use Rattle.flow_engine_history.specs.declared.error.EngineError.{EngineError}
-use Rattle.flow_engine_history.specs.declared.error.EngineError.TheVariants as engine_error
+use Rattle.flow_world_steps.specs.LimitKind.TheVariants as limit
+use Rattle.flow_world_steps.specs.EngineError.{EngineError}
+use Rattle.flow_world_steps.specs.EngineError.TheVariants as engine_error
 use Rattle.slpf_actuator.specs.declared.error.ActError.{ActError}
 use Rattle.slpf_actuator.specs.declared.error.ActError.TheVariants as act_error
 use Rattle.flow_world_parts.specs.declared.error.WorldError.{WorldError}

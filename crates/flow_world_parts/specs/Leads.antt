@@ -3,9 +3,9 @@ use Rattle.std.specs.Prelude.{◌≡◌, ◌≢◌, ℕ, ◌+◌, ◌<◌, ◌�
 use Rattle.cacao_site.specs.View.{SiteView}
 use Rattle.cacao_site.specs.declared.parcel.Parcel.{Parcel}
 use Rattle.flow_engine_answers.specs.declared.answers.OperatorAnswer.{OperatorAnswer}
-use Rattle.flow_engine.specs.EngineCalls.{IsWaiting}
-use Rattle.flow_engine.specs.EngineView.{EngineView}
-use Rattle.flow_engine.specs.OpenIssues.{puts_of}
+use Rattle.flow_world_steps.specs.EngineCalls.{IsWaiting}
+use Rattle.flow_world_steps.specs.EngineView.{EngineView}
+use Rattle.flow_world_steps.specs.OpenIssues.{puts_of}
 use Rattle.flow_core_rules.specs.Changes.{is_in_time, is_waiting}
 use Rattle.flow_core_rules.specs.declared.issues.Issue.{Issue}
 use Rattle.slpf_actuator.specs.ActuatorView.{ActuatorView}

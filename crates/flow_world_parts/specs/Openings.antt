@@ -4,10 +4,10 @@ use Rattle.cacao_site.specs.Counts.{Rose}
 use Rattle.cacao_site.specs.DiskCalls.{GoesOn, IsDurable, IsLeft, OnlyFile, SameRest, StaysAt}
 use Rattle.cacao_site.specs.View.{DiskView, SiteView}
 use Rattle.run_records.specs.declared.act.Act.{Act}
-use Rattle.flow_engine_history.specs.HistoryView.{HoldsRecords}
-use Rattle.flow_engine_history.specs.Openings.{IsRefusedOpening}
-use Rattle.flow_engine_history.specs.declared.error.EngineError.{EngineError}
-use Rattle.flow_engine.specs.EngineView.{EngineView}
+use Rattle.flow_world_steps.specs.HistoryView.{HoldsRecords}
+use Rattle.flow_world_steps.specs.Openings.{IsRefusedOpening}
+use Rattle.flow_world_steps.specs.EngineError.{EngineError}
+use Rattle.flow_world_steps.specs.EngineView.{EngineView}
 use Rattle.flow_core_rules.specs.Givens.{Given}
 use Rattle.slpf_actuator.specs.ActuatorView.{ActuatorView, HoldsActs}
 use Rattle.slpf_actuator.specs.Damage.{IsDamaged}

@@ -1,11 +1,11 @@
 // What a session asks of the clock.
 ghost use Rattle.std.specs.Prelude.{◌≡◌, ◌<◌, IfOk, IfErr, MatchOption};
-ghost use Rattle.flow_core.specs.declared.flow_errors.LimitKind.TheVariants as limit;
+ghost use Rattle.flow_world_steps.specs.LimitKind.TheVariants as limit;
 ghost use Rattle.flow_world_parts.specs.Clock.{FallsShort, IsTooLate, IsReached};
 
 use crate::error::WorldError;
 use cacao_site::Site;
-use flow_core::LimitKind;
+use flow_world_steps::LimitKind;
 
 /// The last moment of a record, in milliseconds.
 pub const LAST_MOMENT: u64 = 9_000_000_000_000_000;

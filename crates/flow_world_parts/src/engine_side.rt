@@ -1,8 +1,8 @@
 // What a session does with its engine. These functions know nothing of the filters.
 ghost use Rattle.std.specs.Prelude.{◌≡◌, ◌≢◌, ◌+◌, ◌<◌, ◌≤◌, ℕ, [], None, true, false, Ok, OnOk, IfErr};
 ghost use Rattle.run_records.specs.Ranges.{last_moment};
-ghost use Rattle.flow_engine.specs.EngineCalls.{IsReplyTo, IsWaiting, Sends};
-ghost use Rattle.flow_engine.specs.OpenIssues.{puts_of};
+ghost use Rattle.flow_world_steps.specs.EngineCalls.{IsReplyTo, IsWaiting, Sends};
+ghost use Rattle.flow_world_steps.specs.OpenIssues.{puts_of};
 ghost use Rattle.flow_core_rules.specs.declared.issues.Issue.{Issue};
 ghost use Rattle.oc2_msg.specs.declared.answers.Answer.{Answer};
 ghost use Rattle.flow_world_steps.specs.Sides.{AllPut, IsWhole};
@@ -12,7 +12,7 @@ ghost use Rattle.flow_world_parts.specs.Leads.{AnyNotes, ArePutBelow, EngineDid,
 
 use crate::error::{WorldError, of_append};
 use cacao_site::{Parcel, Site};
-use flow_engine::Engine;
+use flow_world_steps::Engine;
 
 /// Says the line of the last record, which is owed.
 pub fn say_last<S: Site>(engine: &Engine, site: &mut S) -> Result<(), WorldError>

@@ -1,10 +1,9 @@
 // Why a session refuses.
 ghost use Rattle.std.specs.Prelude.{◌≡◌, ◌≢◌};
-ghost use Rattle.flow_engine_history.specs.declared.error.EngineError.TheVariants as engine_error;
+ghost use Rattle.flow_world_steps.specs.EngineError.TheVariants as engine_error;
 ghost use Rattle.flow_world_parts.specs.Errors.{MayRefuseAppend, append_refusal, opening_refusal};
 
-use flow_core::LimitKind;
-use flow_engine::EngineError;
+use flow_world_steps::{EngineError, LimitKind};
 use thiserror::Error;
 
 /// Why a session did not open its files, or did not go on.

@@ -1,7 +1,7 @@
 // The filters of a session. They know nothing of the engine.
 ghost use Rattle.std.specs.Prelude.{◌≡◌, ◌↔◌, ◌+◌, ◌≤◌, ℕ, [], false, MatchOption, IsTrue, IfOk, IfErr, OnOk, length};
 ghost use Rattle.run_records.specs.Ranges.{last_moment};
-ghost use Rattle.flow_laws.specs.Images.{HasBegun};
+ghost use Rattle.flow_world_steps.specs.Images.{HasBegun};
 ghost use Rattle.flow_world_steps.specs.Sides.{FiltersReady};
 ghost use Rattle.flow_world_steps.specs.Steps.{IsAddressed};
 ghost use Rattle.flow_world_parts.specs.Acting.{OneAnswers};
@@ -11,7 +11,7 @@ ghost use Rattle.flow_world_parts.specs.Openings.{HasRunAt, IsFirstRunAt, OpensF
 
 use crate::error::WorldError;
 use cacao_site::{Disk, Parcel, Site};
-use flow_core::LimitKind;
+use flow_world_steps::LimitKind;
 use slpf_actuator::{ActError, Actuator};
 use std::alloc::Global;
 use std::marker::Model;

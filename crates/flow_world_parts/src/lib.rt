@@ -15,5 +15,6 @@ pub use clock::reach;
 pub use close::Close;
 pub use error::WorldError;
 pub use filters::Filters;
+pub use flow_world_steps::Setup;
 pub use opening::{open_files, run_opened};
 pub use turns::Session;

@@ -5,7 +5,7 @@ ghost use Rattle.std.specs.Option.{option_map_or};
 ghost use Rattle.flow_core_rules.specs.Changes.{outcome};
 ghost use Rattle.flow_engine_answers.specs.Answers.{IsOperatorAnswer};
 ghost use Rattle.flow_engine_answers.specs.declared.answers.OperatorAnswer.{OperatorAnswer};
-ghost use Rattle.flow_engine.specs.OpenIssues.{IsNextPut};
+ghost use Rattle.flow_world_steps.specs.OpenIssues.{IsNextPut};
 ghost use Rattle.flow_world_steps.specs.Sides.{AllPut};
 ghost use Rattle.flow_world_steps.specs.Turns.{IsIdle, IsOnTime, IsToBeTold, IsUntold};
 ghost use Rattle.flow_world_steps.specs.Worlds.{looked};
@@ -14,8 +14,8 @@ ghost use Rattle.flow_world_parts.specs.Leads.{EngineDid, EngineTried, IsAtWork,
 use crate::engine_side::{put_first, put_issue, say_last};
 use crate::error::{WorldError, of_append};
 use cacao_site::Site;
-use flow_engine::Engine;
 use flow_engine_answers::{Answers, OperatorAnswer};
+use flow_world_steps::Engine;
 
 /// Appends the record of the enabled move at the present moment, says its line, and puts the command that it sends.
 pub fn move_on<S: Site>(engine: &mut Engine, site: &mut S, now: u64) -> Result<bool, WorldError>

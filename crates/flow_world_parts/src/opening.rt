@@ -11,9 +11,8 @@ use crate::error::{WorldError, of_opening};
 use crate::filters::Filters;
 use crate::turns::Session;
 use cacao_site::Site;
-use flow_core::Setup;
-use flow_engine::Engine;
 use flow_engine_answers::Answers;
+use flow_world_steps::{Engine, Setup};
 use std::alloc::Global;
 
 /// Opens the journal for a run, and then the files of the filters in order. It writes nothing.

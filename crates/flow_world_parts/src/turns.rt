@@ -4,7 +4,7 @@ ghost use Rattle.run_records.specs.Ranges.{last_moment};
 ghost use Rattle.flow_core_rules.specs.Changes.{outcome};
 ghost use Rattle.flow_core_rules.specs.Moves.{enabled_move};
 ghost use Rattle.flow_engine_answers.specs.declared.answers.OperatorAnswer.{OperatorAnswer};
-ghost use Rattle.flow_engine.specs.OpenIssues.{IsNextPut};
+ghost use Rattle.flow_world_steps.specs.OpenIssues.{IsNextPut};
 ghost use Rattle.flow_world_steps.specs.Sides.{AllPut, FiltersReady, IsWhole};
 ghost use Rattle.flow_world_steps.specs.Steps.{IsAddressed};
 ghost use Rattle.flow_world_steps.specs.Turns.{IsIdle, IsOnTime, IsUntold, most_ignored};
@@ -19,9 +19,8 @@ use crate::error::WorldError;
 use crate::filters::Filters;
 use crate::moves::{expire, move_on, resend, soonest, tell};
 use cacao_site::{Parcel, Site};
-use flow_core::{LimitKind, accepted_is_runnable};
-use flow_engine::Engine;
 use flow_engine_answers::Answers;
+use flow_world_steps::{Engine, LimitKind, accepted_is_runnable};
 
 /// The most parcels of a session that change neither journal.
 const MOST_IGNORED: u32 = 1_000_000;

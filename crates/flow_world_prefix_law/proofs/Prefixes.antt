@@ -10,7 +10,7 @@ use Rattle.cacao_site.specs.View.{SiteView}
 use Rattle.run_records.specs.Ranges.{InRange}
 use Rattle.run_records.specs.declared.record.Record.{Record}
 use Rattle.flow_core_rules.specs.Givens.{Given}
-use Rattle.flow_engine.specs.EngineView.{EngineView}
+use Rattle.flow_world_steps.specs.EngineView.{EngineView}
 use Rattle.flow_engine_answers.specs.declared.answers.OperatorAnswer.{OperatorAnswer}
 use Rattle.flow_laws.specs.Good.{IsChoice, IsGood}
 use Rattle.flow_laws.specs.Images.{IsRecords}
@@ -27,10 +27,10 @@ use Rattle.flow_world.specs.Sessions.{IsStart, KeepsAgreement, Went}
 use Rattle.flow_engine_history.specs.Openings.{IsRefusedOpening}
 use Rattle.flow_engine_history.specs.declared.error.EngineError.{EngineError}
 use Rattle.flow_engine_history.specs.declared.error.EngineError.TheVariants as refused_as
-use Rattle.flow_world_parts.specs.Errors.{opening_refusal}
-use Rattle.flow_world_parts.specs.Openings.{IsJournalOpen, RefusesFilters, RefusesJournal, RefusesSecond}
-use Rattle.flow_world_parts.specs.declared.error.WorldError.{WorldError}
-use Rattle.flow_world_parts.specs.declared.error.WorldError.TheVariants as error
+use Rattle.flow_world.specs.Errors.{opening_refusal}
+use Rattle.flow_world.specs.Openings.{IsJournalOpen, RefusesFilters, RefusesJournal, RefusesSecond}
+use Rattle.flow_world.specs.WorldError.{WorldError}
+use Rattle.flow_world.specs.WorldError.TheVariants as error
 use Rattle.flow_world_prefix_law.specs.Prefixes.{AddsNothing, EachCloseGoesOn, EachLaterRefusalGoesOn, EachRefusalGoesOn, EachRefusedOpeningAddsNothing, EachSecondRefusalGoesOn, GoesOn, GoesOnDurably}
 
 -- ---- what each image stands for, where all agrees

@@ -10,9 +10,9 @@ use Rattle.flow_engine_answers.specs.declared.answers.OperatorAnswer.{OperatorAn
 use Rattle.flow_laws.specs.Images.{IsRecords}
 use Rattle.flow_laws.specs.Journals.{IsJournalRun}
 use Rattle.flow_world.specs.Sessions.{HasClosed, HasRefused, IsStart, KeepsAgreement, RefusesLater}
-use Rattle.flow_world_parts.specs.Openings.{RefusesOpening, RefusesSecond}
-use Rattle.flow_world_parts.specs.declared.close.Close.{Close}
-use Rattle.flow_world_parts.specs.declared.error.WorldError.{WorldError}
+use Rattle.flow_world.specs.Openings.{RefusesOpening, RefusesSecond}
+use Rattle.flow_world.specs.Close.{Close}
+use Rattle.flow_world.specs.WorldError.{WorldError}
 
 -- What a session of at most so many records did to the run. Some image of file 0 at the start stands for `before`; on return
 -- the file reads as a run, which is `before` and then `added`. Where no call of the disk failed, the file read as `before` at

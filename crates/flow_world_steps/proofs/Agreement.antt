@@ -5,9 +5,9 @@ use Rattle.cacao_site.specs.View.{SiteView}
 use Rattle.cacao_site.specs.declared.parcel.Parcel.{Parcel}
 use Rattle.run_records.specs.Ranges.{last_moment}
 use Rattle.run_records.specs.declared.record.Record.{Record}
-use Rattle.flow_core.specs.declared.flow_errors.LimitKind.TheVariants as limit
-use Rattle.flow_engine_history.specs.HistoryCalls.{Offers}
-use Rattle.flow_engine_history.specs.HistoryView.{HistoryView}
+use Rattle.flow_engine.specs.LimitKind.TheVariants as limit
+use Rattle.flow_engine.specs.HistoryCalls.{Offers}
+use Rattle.flow_engine.specs.HistoryView.{HistoryView}
 use Rattle.flow_engine.specs.EngineView.{EngineView}
 use Rattle.flow_laws.specs.Fresh.{IsFresh}
 use Rattle.slpf_actuator.specs.ActuatorCalls.{MayHaveDone, Offers as FilterOffers}

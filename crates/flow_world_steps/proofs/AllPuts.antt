@@ -24,13 +24,13 @@ use Rattle.flow_core_rules.specs.declared.issues.IssuePhase.{IssuePhase}
 use Rattle.flow_core_rules.specs.declared.tasks.Task.{Task}
 use Rattle.flow_core_rules.proofs.QuietLemmas.{IsQuiet}
 use Rattle.flow_core_rules.proofs.ShapeLemmas.{IssueShape, change_shape, new_issue}
-use Rattle.flow_core.specs.Views.{View, begins, taken}
-use Rattle.flow_core.proofs.FlowLemmas.{begins_first}
+use Rattle.flow_engine.specs.Views.{View, begins, taken}
+use Rattle.flow_engine.proofs.FlowLemmas.{begins_first}
 use Rattle.flow_laws.proofs.Basics.{same_or_not, same_some}
-use Rattle.flow_engine_history.specs.HistoryCalls.{Is, MayCome}
-use Rattle.flow_engine_history.specs.HistoryView.{HistoryView, flow_of}
-use Rattle.flow_engine_history.specs.Histories.{IsHistory, IsSoFar}
-use Rattle.flow_engine_history.proofs.SoFarLemmas.{begin_is}
+use Rattle.flow_engine.specs.HistoryCalls.{Is, MayCome}
+use Rattle.flow_engine.specs.HistoryView.{HistoryView, flow_of}
+use Rattle.flow_engine.specs.Histories.{IsHistory, IsSoFar}
+use Rattle.flow_engine.proofs.SoFarLemmas.{begin_is}
 use Rattle.flow_engine.specs.EngineCalls.{Appends, IsReply, IsWaiting, Sends}
 use Rattle.flow_engine.specs.EngineView.{EngineView}
 use Rattle.flow_engine.specs.OpenIssues.{ArePut, OpenIssues, count_of, most_puts, puts_of, with_put}

@@ -23,8 +23,8 @@ use Rattle.flow_core_rules.proofs.IssueLemmas.{closed-after, issued-after}
 use Rattle.flow_core_rules.proofs.QuietLemmas.{IsQuiet, keeps_issues}
 use Rattle.flow_core_rules.proofs.ShapeLemmas.{IssueShape, change_shape, new_issue}
 use Rattle.flow_laws.proofs.Basics.{same_some}
-use Rattle.flow_engine_history.specs.HistoryView.{HistoryView, entries_of}
-use Rattle.flow_engine_history.specs.Histories.{IsHistory, IsSoFar}
+use Rattle.flow_engine.specs.HistoryView.{HistoryView, entries_of}
+use Rattle.flow_engine.specs.Histories.{IsHistory, IsSoFar}
 use Rattle.flow_engine.specs.EngineView.{EngineView}
 use Rattle.flow_engine.specs.OpenIssues.{ArePut, OpenIssues}
 use Rattle.flow_engine.specs.declared.puts.Puts.{Puts}

@@ -3,7 +3,7 @@ use Rattle.std.proofs.Common.{◌≡◌, ◌⊎◌, inl, inr, ℕ, List, [], ◌
 use Rattle.std.proofs.lemmas.List.{append_assoc, length-append}
 use Rattle.run_records.specs.declared.record.Record.{Record}
 use Rattle.run_records.specs.declared.act.Act.{Act}
-use Rattle.flow_engine_history.specs.HistoryView.{HistoryView}
+use Rattle.flow_engine.specs.HistoryView.{HistoryView}
 use Rattle.flow_engine.specs.EngineView.{EngineView}
 use Rattle.slpf_actuator.specs.ActuatorView.{act_for}
 use Rattle.flow_world_steps.specs.Appends.{Tries}

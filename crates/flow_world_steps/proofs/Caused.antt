@@ -9,11 +9,11 @@ use Rattle.cacao_site.specs.declared.parcel.Parcel.{Parcel}
 use Rattle.run_records.specs.Ranges.{last_moment}
 use Rattle.run_records.specs.declared.act.Act.{Act}
 use Rattle.run_records.specs.declared.record.Record.{Record}
-use Rattle.flow_core.specs.declared.flow_errors.LimitKind.{LimitKind}
-use Rattle.flow_core.specs.declared.flow_errors.LimitKind.TheVariants as limit
-use Rattle.flow_core.specs.Views.{is_long_command, is_makes, most_tasks, passed}
-use Rattle.flow_engine_history.specs.HistoryCalls.{Is, PassesLimit, limit_of}
-use Rattle.flow_engine_history.specs.HistoryView.{HistoryView, length_with}
+use Rattle.flow_engine.specs.LimitKind.{LimitKind}
+use Rattle.flow_engine.specs.LimitKind.TheVariants as limit
+use Rattle.flow_engine.specs.Views.{is_long_command, is_makes, most_tasks, passed}
+use Rattle.flow_engine.specs.HistoryCalls.{Is, PassesLimit, limit_of}
+use Rattle.flow_engine.specs.HistoryView.{HistoryView, length_with}
 use Rattle.flow_engine.specs.EngineView.{EngineView}
 use Rattle.flow_core_rules.specs.Edits.{Edit}
 use Rattle.flow_core_rules.specs.Moves.{due}

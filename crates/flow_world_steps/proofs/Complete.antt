@@ -21,8 +21,8 @@ use Rattle.flow_core_rules.proofs.CanEndLemmas.{ended_is_all_over}
 use Rattle.flow_core_rules.proofs.IssueLemmas.{issues_have_records}
 use Rattle.flow_core_rules.proofs.SaneRuns.{runs_are_sane}
 use Rattle.flow_core_setup.proofs.SetupRunnable.{accepted_is_runnable}
-use Rattle.flow_engine_history.specs.HistoryView.{HistoryView}
-use Rattle.flow_engine_history.specs.Histories.{IsHistory, IsSoFar}
+use Rattle.flow_engine.specs.HistoryView.{HistoryView}
+use Rattle.flow_engine.specs.Histories.{IsHistory, IsSoFar}
 use Rattle.flow_engine.specs.EngineView.{EngineView}
 use Rattle.flow_laws.proofs.Basics.{same_some}
 use Rattle.flow_world_steps.specs.Appends.{Tries}

@@ -11,7 +11,7 @@ use Rattle.flow_core_rules.specs.Runs.{shown_after}
 use Rattle.flow_core_rules.specs.State.{Shown}
 use Rattle.flow_core_rules.specs.declared.issues.Issue.{Issue}
 use Rattle.flow_laws.proofs.Basics.{same_or_not, same_some}
-use Rattle.flow_engine_history.specs.HistoryView.{HistoryView}
+use Rattle.flow_engine.specs.HistoryView.{HistoryView}
 use Rattle.flow_engine.specs.EngineView.{EngineView}
 use Rattle.flow_engine.specs.OpenIssues.{ArePut, IsNextPut, OpenIssues, count_of, most_puts, puts_of, resend_of, with_put, without_ended}
 use Rattle.flow_engine.specs.declared.puts.Puts.{Puts}

@@ -17,11 +17,11 @@ use Rattle.flow_core_rules.specs.declared.phases.Phase.TheVariants as phase
 use Rattle.flow_core_rules.specs.declared.tasks.Task.{Task}
 use Rattle.flow_core_rules.proofs.NotStuck.{no-move}
 use Rattle.flow_core_rules.proofs.SaneRuns.{runs_are_sane}
-use Rattle.flow_core.specs.SetupLaws.{AcceptedIsRunnable}
+use Rattle.flow_engine.specs.SetupLaws.{AcceptedIsRunnable}
 use Rattle.base_dues.specs.Pairs.{IsFirstBy, is_by}
 use Rattle.flow_laws.proofs.Basics.{same_some}
-use Rattle.flow_engine_history.specs.HistoryView.{HistoryView}
-use Rattle.flow_engine_history.specs.Histories.{IsHistory}
+use Rattle.flow_engine.specs.HistoryView.{HistoryView}
+use Rattle.flow_engine.specs.Histories.{IsHistory}
 use Rattle.flow_engine.specs.EngineCalls.{put_deadline}
 use Rattle.flow_engine.specs.EngineView.{EngineView}
 use Rattle.flow_engine.specs.OpenIssues.{puts_of}

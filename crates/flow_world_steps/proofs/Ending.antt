@@ -3,9 +3,9 @@ use Rattle.std.proofs.Common.{◌≡◌, ℕ, ◌≤◌, Bool, true, false, List
 use Rattle.std.specs.Prelude.{nat_lt, if◌then◌else◌}
 use Rattle.run_records.specs.Ranges.{last_moment}
 use Rattle.run_records.specs.declared.record.Record.{Record}
-use Rattle.flow_core.specs.SetupLaws.{AcceptedIsRunnable}
-use Rattle.flow_core.specs.declared.flow_errors.LimitKind.TheVariants as limit
-use Rattle.flow_engine_answers.specs.declared.answers.OperatorAnswer.{OperatorAnswer}
+use Rattle.flow_engine.specs.SetupLaws.{AcceptedIsRunnable}
+use Rattle.flow_engine.specs.LimitKind.TheVariants as limit
+use Rattle.flow_engine.specs.OperatorAnswer.{OperatorAnswer}
 use Rattle.flow_core_rules.specs.Givens.{Given}
 use Rattle.flow_world_steps.specs.Appends.{Tries}
 use Rattle.flow_world_steps.specs.Appends.Tries.{done, failed, limited}

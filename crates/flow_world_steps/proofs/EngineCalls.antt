@@ -23,9 +23,9 @@ use Rattle.flow_laws.specs.Images.{IsRecords}
 use Rattle.flow_laws.specs.Journals.{IsShownBefore as ShowsBefore}
 use Rattle.flow_laws.proofs.Calls.{since_command, since_line, since_record}
 use Rattle.flow_laws.proofs.OneList.{records_of_layout}
-use Rattle.flow_engine_history.specs.HistoryCalls.{Offers}
-use Rattle.flow_engine_history.specs.HistoryView.{HistoryView}
-use Rattle.flow_engine_history.specs.Histories.{IsHistory, IsLineAt, IsShownBefore}
+use Rattle.flow_engine.specs.HistoryCalls.{Offers}
+use Rattle.flow_engine.specs.HistoryView.{HistoryView}
+use Rattle.flow_engine.specs.Histories.{IsHistory, IsLineAt, IsShownBefore}
 use Rattle.flow_engine.specs.EngineCalls.{IsOpen, Sends, command_of}
 use Rattle.flow_engine.specs.EngineView.{EngineView}
 use Rattle.flow_world_steps.specs.Sides.{IsUp, IsWhole}

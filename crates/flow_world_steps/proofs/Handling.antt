@@ -15,7 +15,7 @@ use Rattle.flow_core_rules.specs.Moves.{record_of}
 use Rattle.flow_core_rules.specs.State.{Shown}
 use Rattle.flow_core_rules.specs.declared.moves.Move.{Move}
 use Rattle.flow_core_rules.specs.declared.moves.Move.TheVariants as move
-use Rattle.flow_engine_history.specs.HistoryView.{HistoryView}
+use Rattle.flow_engine.specs.HistoryView.{HistoryView}
 use Rattle.flow_engine.specs.EngineCalls.{IsReply}
 use Rattle.flow_engine.specs.EngineView.{EngineView}
 use Rattle.slpf_actuator.specs.ActuatorView.{ActuatorView, act_for}

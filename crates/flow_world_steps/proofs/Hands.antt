@@ -3,7 +3,7 @@ use Rattle.std.proofs.Common.{◌≡◌, ℕ, ◌≤◌, Bool, true, false, List
 use Rattle.std.specs.Prelude.{nat_lt, if◌then◌else◌}
 use Rattle.cacao_site.specs.declared.parcel.Parcel.{Parcel}
 use Rattle.run_records.specs.Ranges.{last_moment}
-use Rattle.flow_core.specs.declared.flow_errors.LimitKind.TheVariants as limit
+use Rattle.flow_engine.specs.LimitKind.TheVariants as limit
 use Rattle.flow_world_steps.specs.Handled.{IsAtHand}
 use Rattle.flow_world_steps.specs.Steps.{after_reach}
 use Rattle.flow_world_steps.specs.Worlds.{Phase, Cause, opened, rests, looked, owes, holds, waits, refused, past}

@@ -27,10 +27,10 @@ use Rattle.flow_core_rules.specs.declared.issues.IssuePhase.TheVariants as issue
 use Rattle.flow_core_rules.proofs.KeepLemmas.{records_keep_issues}
 use Rattle.flow_core_rules.proofs.PlacedLemmas.{records_shown}
 use Rattle.flow_laws.proofs.Basics.{same_or_not, same_some}
-use Rattle.flow_engine_history.specs.HistoryCalls.{MayCome}
-use Rattle.flow_engine_history.specs.HistoryView.{HistoryView, flow_of}
-use Rattle.flow_engine_history.specs.Histories.{IsHistory, IsSoFar}
-use Rattle.flow_engine_history.proofs.SoFarLemmas.{leads_placed}
+use Rattle.flow_engine.specs.HistoryCalls.{MayCome}
+use Rattle.flow_engine.specs.HistoryView.{HistoryView, flow_of}
+use Rattle.flow_engine.specs.Histories.{IsHistory, IsSoFar}
+use Rattle.flow_engine.proofs.SoFarLemmas.{leads_placed}
 use Rattle.flow_engine.specs.OpenIssues.{ArePut, IsPut, OpenIssues, count_of, most_puts, puts_of, with_put, without_ended}
 use Rattle.flow_engine.specs.declared.puts.Puts.{Puts}
 use Rattle.flow_world_steps.proofs.Records.{so_far_begun, taken_next}

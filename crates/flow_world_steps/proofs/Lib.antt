@@ -42,3 +42,5 @@ pub mod Waiting
 pub mod Whole
 pub mod Without
 pub mod Written
+pub use Rattle.flow_laws.proofs.Basics
+pub use Rattle.flow_engine.proofs.SoFarLemmas

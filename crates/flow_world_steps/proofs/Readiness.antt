@@ -7,8 +7,8 @@ use Rattle.cacao_site.specs.declared.parcel.Parcel.{Parcel}
 use Rattle.cacao_site.proofs.Beats.{each-now, goes_on-refl, goes_on-trans, stays-trans}
 use Rattle.run_journal.specs.Durable.{IsImage}
 use Rattle.run_records.specs.declared.record.Record.{Record}
-use Rattle.flow_engine_history.specs.HistoryView.{HistoryView, entries_of}
-use Rattle.flow_engine_history.specs.Histories.{IsHistory}
+use Rattle.flow_engine.specs.HistoryView.{HistoryView, entries_of}
+use Rattle.flow_engine.specs.Histories.{IsHistory}
 use Rattle.flow_engine.specs.EngineView.{EngineView}
 use Rattle.flow_engine.specs.OpenIssues.{ArePut, OpenIssues}
 use Rattle.slpf_actuator.specs.ActuatorCalls.{MayHaveDone}

@@ -15,7 +15,7 @@ use Rattle.flow_core_rules.specs.Runs.{after, begin_of}
 use Rattle.flow_core_rules.specs.State.{Shown}
 use Rattle.flow_core_rules.specs.declared.moves.Move.{Move}
 use Rattle.flow_core_rules.specs.declared.moves.Move.TheVariants as move
-use Rattle.flow_core.specs.Views.{View, begins, taken}
+use Rattle.flow_engine.specs.Views.{View, begins, taken}
 use Rattle.flow_laws.specs.Acts.{ReadsAs}
 use Rattle.flow_laws.specs.Beats.{IsBacked, IsFurther}
 use Rattle.flow_laws.specs.Fresh.{IsFresh}
@@ -24,10 +24,10 @@ use Rattle.flow_laws.specs.Images.{IsRecords}
 use Rattle.flow_laws.specs.Journals.{IsJournalRun, IsNextStep, run_of}
 use Rattle.flow_laws.proofs.Basics.{same_some}
 use Rattle.flow_laws.proofs.OneList.{records_of_layout, stands_empty}
-use Rattle.flow_engine_history.specs.HistoryCalls.{Is, MayCome}
-use Rattle.flow_engine_history.specs.HistoryView.{HistoryView, flow_of}
-use Rattle.flow_engine_history.specs.Histories.{IsHistory, IsShownAfter, IsSoFar}
-use Rattle.flow_engine_history.proofs.SoFarLemmas.{begin_is, so_far_more}
+use Rattle.flow_engine.specs.HistoryCalls.{Is, MayCome}
+use Rattle.flow_engine.specs.HistoryView.{HistoryView, flow_of}
+use Rattle.flow_engine.specs.Histories.{IsHistory, IsShownAfter, IsSoFar}
+use Rattle.flow_engine.proofs.SoFarLemmas.{begin_is, so_far_more}
 use Rattle.flow_engine.specs.EngineCalls.{IsMove}
 use Rattle.flow_engine.specs.EngineView.{EngineView}
 use Rattle.flow_world_steps.specs.Sides.{IsUp, IsWhole}

@@ -6,7 +6,7 @@ use Rattle.std.proofs.lemmas.Bool.{cases_lt}
 use Rattle.std.proofs.lemmas.Option.{none-some}
 use Rattle.run_records.specs.Ranges.{last_moment}
 use Rattle.run_records.specs.declared.record.Record.{Record}
-use Rattle.flow_core.specs.declared.flow_errors.LimitKind.TheVariants as limit
+use Rattle.flow_engine.specs.LimitKind.TheVariants as limit
 use Rattle.flow_core_rules.specs.Moves.{due}
 use Rattle.flow_core_rules.specs.State.{Shown}
 use Rattle.flow_laws.proofs.Basics.{same_or_not, same_some}

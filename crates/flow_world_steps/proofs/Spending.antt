@@ -14,10 +14,10 @@ use Rattle.run_records.specs.Ranges.{last_moment}
 use Rattle.run_records.specs.declared.record.Record.{Record}
 use Rattle.flow_core_rules.specs.Laws.{ended_by}
 use Rattle.flow_core_rules.specs.State.{Shown}
-use Rattle.flow_core.specs.declared.flow_errors.LimitKind.TheVariants as limit
-use Rattle.flow_core.specs.SetupLaws.{AcceptedIsRunnable}
+use Rattle.flow_engine.specs.LimitKind.TheVariants as limit
+use Rattle.flow_engine.specs.SetupLaws.{AcceptedIsRunnable}
 use Rattle.flow_laws.proofs.Basics.{same_some}
-use Rattle.flow_engine_history.specs.HistoryView.{HistoryView}
+use Rattle.flow_engine.specs.HistoryView.{HistoryView}
 use Rattle.flow_engine.specs.EngineView.{EngineView}
 use Rattle.flow_engine.specs.OpenIssues.{ArePut, IsNextPut, OpenIssues, count_of, most_puts, puts_of, resend_of, with_put, without_ended}
 use Rattle.flow_engine.specs.declared.puts.Puts.{Puts}

@@ -7,11 +7,11 @@ use Rattle.cacao_site.specs.View.{SiteView, LinkView}
 use Rattle.cacao_site.specs.declared.parcel.Parcel.{Parcel}
 use Rattle.run_records.specs.Ranges.{last_moment}
 use Rattle.run_records.specs.declared.record.Record.{Record}
-use Rattle.flow_core.specs.declared.flow_errors.LimitKind.TheVariants as limit
+use Rattle.flow_engine.specs.LimitKind.TheVariants as limit
 use Rattle.flow_core_rules.specs.Givens.{Given}
 use Rattle.flow_laws.proofs.Basics.{get_more}
-use Rattle.flow_engine_history.specs.HistoryView.{HistoryView}
-use Rattle.flow_engine_history.specs.Histories.{IsLineAt, IsShownBefore}
+use Rattle.flow_engine.specs.HistoryView.{HistoryView}
+use Rattle.flow_engine.specs.Histories.{IsLineAt, IsShownBefore}
 use Rattle.flow_engine.specs.EngineView.{EngineView}
 use Rattle.flow_engine.specs.OpenIssues.{OpenIssues}
 use Rattle.slpf_actuator.specs.ActuatorCalls.{MayHaveDone}

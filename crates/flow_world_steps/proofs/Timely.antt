@@ -7,8 +7,8 @@ use Rattle.run_records.specs.Ranges.{last_moment}
 use Rattle.run_records.specs.declared.record.Record.{Record}
 use Rattle.flow_core_rules.specs.Changes.{is_in_time, moment_of}
 use Rattle.flow_core_rules.specs.State.{Shown}
-use Rattle.flow_core.specs.declared.flow_errors.LimitKind.TheVariants as limit
-use Rattle.flow_engine_history.specs.HistoryView.{HistoryView}
+use Rattle.flow_engine.specs.LimitKind.TheVariants as limit
+use Rattle.flow_engine.specs.HistoryView.{HistoryView}
 use Rattle.flow_engine.specs.EngineCalls.{Appends}
 use Rattle.flow_engine.specs.EngineView.{EngineView}
 use Rattle.flow_world_steps.specs.Appends.{Tries}

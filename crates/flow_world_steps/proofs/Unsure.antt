@@ -7,8 +7,8 @@ use Rattle.cacao_site.specs.View.{SiteView}
 use Rattle.run_records.specs.declared.act.Act.{Act}
 use Rattle.run_records.specs.declared.record.Record.{Record}
 use Rattle.flow_core_rules.specs.Changes.{moment_of}
-use Rattle.flow_engine_history.specs.HistoryCalls.{Is, Offers}
-use Rattle.flow_engine_history.specs.HistoryView.{HistoryView}
+use Rattle.flow_engine.specs.HistoryCalls.{Is, Offers}
+use Rattle.flow_engine.specs.HistoryView.{HistoryView}
 use Rattle.flow_engine.specs.EngineView.{EngineView}
 use Rattle.flow_laws.proofs.Basics.{same_some}
 use Rattle.slpf_actuator.specs.ActuatorView.{ActuatorView}

@@ -18,8 +18,8 @@ use Rattle.flow_core_rules.specs.Runs.{shown_after}
 use Rattle.flow_core_rules.specs.State.{Shown}
 use Rattle.flow_core_rules.specs.declared.issues.Issue.{Issue}
 use Rattle.base_dues.specs.Pairs.{is_by}
-use Rattle.flow_engine_history.specs.HistoryView.{HistoryView}
-use Rattle.flow_engine_history.specs.Histories.{IsHistory}
+use Rattle.flow_engine.specs.HistoryView.{HistoryView}
+use Rattle.flow_engine.specs.Histories.{IsHistory}
 use Rattle.flow_engine.specs.EngineCalls.{IsReply, IsReplyTo, IsWaiting, put_deadline}
 use Rattle.flow_engine.specs.EngineView.{EngineView}
 use Rattle.flow_engine.specs.OpenIssues.{ArePut, OpenIssues, puts_of, with_put}

@@ -5,7 +5,7 @@ use Rattle.run_journal.specs.Durable.{header_bytes, header_calls}
 use Rattle.run_records.specs.declared.record.Record.{Record}
 use Rattle.flow_engine.specs.OpenIssues.{OpenIssues, count_of}
 use Rattle.flow_core_rules.specs.Givens.{Given}
-use Rattle.flow_engine_answers.specs.declared.answers.OperatorAnswer.{OperatorAnswer}
+use Rattle.flow_engine.specs.OperatorAnswer.{OperatorAnswer}
 use Rattle.slpf_actuator.specs.ActuatorView.{ActuatorView}
 use Rattle.flow_world_steps.specs.Handled.{IsAtHand}
 use Rattle.flow_world_steps.specs.Link.{PutsAreCounted}

@@ -1,8 +1,8 @@
 -- Promise: A call of the engine that appends a record, and what becomes of it.
 use Rattle.std.specs.Prelude.{◌≡◌, ◌-◌, false, Some}
 use Rattle.run_records.specs.declared.record.Record.{Record}
-use Rattle.flow_core.specs.declared.flow_errors.LimitKind.{LimitKind}
-use Rattle.flow_engine_history.specs.declared.error.EngineError.TheVariants as error
+use Rattle.flow_engine.specs.LimitKind.{LimitKind}
+use Rattle.flow_engine.specs.EngineError.TheVariants as error
 use Rattle.flow_engine.specs.EngineCalls.{Appends, Refused}
 use Rattle.flow_world_steps.specs.Sides.{IsEngine}
 use Rattle.flow_world_steps.specs.Worlds.{World, owes, refused, disk_failed, past}

@@ -5,11 +5,11 @@ use Rattle.cacao_site.specs.declared.parcel.Parcel.{Parcel}
 use Rattle.run_records.specs.Ranges.{last_moment}
 use Rattle.run_records.specs.declared.act.Act.{Act}
 use Rattle.run_records.specs.declared.record.Record.{Record}
-use Rattle.flow_core.specs.declared.flow_errors.LimitKind.{LimitKind}
-use Rattle.flow_core.specs.declared.flow_errors.LimitKind.TheVariants as limit
+use Rattle.flow_engine.specs.LimitKind.{LimitKind}
+use Rattle.flow_engine.specs.LimitKind.TheVariants as limit
 use Rattle.flow_core_rules.specs.Moves.{due}
 use Rattle.flow_core_rules.specs.declared.issues.Issue.{Issue}
-use Rattle.flow_engine_history.specs.HistoryCalls.{Is, PassesLimit}
+use Rattle.flow_engine.specs.HistoryCalls.{Is, PassesLimit}
 use Rattle.flow_engine.specs.EngineCalls.{IsWaiting}
 use Rattle.flow_engine.specs.OpenIssues.{resend_after}
 use Rattle.slpf_actuator.specs.ActuatorCalls.{Overflows}

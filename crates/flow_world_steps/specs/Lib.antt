@@ -18,3 +18,16 @@ pub mod UnderWay
 pub mod Whole
 pub mod Worlds
 pub mod Written
+pub use Rattle.flow_engine.specs.LimitKind
+pub use Rattle.flow_core_setup.specs.SetupLaws
+pub use Rattle.flow_engine.specs.EngineError
+pub use Rattle.flow_engine.specs.HistoryView
+pub use Rattle.flow_engine.specs.Histories
+pub use Rattle.flow_engine.specs.Openings
+pub use Rattle.flow_engine.specs.HistoryCalls
+pub use Rattle.flow_engine.specs.OpenIssues
+pub use Rattle.flow_engine.specs.EngineCalls
+pub use Rattle.flow_engine.specs.EngineView
+pub use Rattle.flow_engine.specs.declared.puts.Puts
+pub use Rattle.flow_laws.specs.Images
+pub use Rattle.flow_engine.specs.Views

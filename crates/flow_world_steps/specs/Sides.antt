@@ -2,8 +2,8 @@
 use Rattle.std.specs.Prelude.{◌≡◌, ◌≢◌, ◌⊎◌, ℕ, ◌≤◌, suc, false, List, [], ◌∷◌, ◌++◌, length, Option, Some, None, slice_get, nat_eq, ◌+◌, if◌then◌else◌}
 use Rattle.cacao_site.specs.View.{SiteView}
 use Rattle.run_records.specs.declared.record.Record.{Record}
-use Rattle.flow_engine_history.specs.HistoryView.{HoldsRecords, IsReady}
-use Rattle.flow_engine_history.specs.Histories.{IsHistory}
+use Rattle.flow_engine.specs.HistoryView.{HoldsRecords, IsReady}
+use Rattle.flow_engine.specs.Histories.{IsHistory}
 use Rattle.flow_engine.specs.EngineCalls.{IsWaiting}
 use Rattle.flow_engine.specs.EngineView.{EngineView}
 use Rattle.flow_engine.specs.OpenIssues.{ArePut, puts_of}

@@ -1,7 +1,7 @@
 -- Promise: What a session uses up, so that it ends.
 use Rattle.std.specs.Prelude.{ℕ, suc, ◌+◌, ◌*◌, ◌<◌, ◌≤◌, List, length}
 use Rattle.run_records.specs.Ranges.{last_moment}
-use Rattle.flow_engine_answers.specs.declared.answers.OperatorAnswer.{OperatorAnswer}
+use Rattle.flow_engine.specs.OperatorAnswer.{OperatorAnswer}
 use Rattle.flow_engine.specs.OpenIssues.{OpenIssues}
 use Rattle.flow_engine.specs.declared.puts.Puts.{Puts}
 use Rattle.flow_core_rules.specs.Givens.{Given}

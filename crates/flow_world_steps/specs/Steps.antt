@@ -10,10 +10,10 @@ use Rattle.oc2_msg.specs.declared.answers.Answer.{Answer}
 use Rattle.run_records.specs.Ranges.{last_moment}
 use Rattle.run_records.specs.declared.act.Act.{Act}
 use Rattle.run_records.specs.declared.record.Record.TheVariants as entry
-use Rattle.flow_core.specs.declared.flow_errors.LimitKind.TheVariants as limit
-use Rattle.flow_engine_history.specs.HistoryCalls.{Is}
-use Rattle.flow_engine_history.specs.Histories.{IsLineAt}
-use Rattle.flow_engine_answers.specs.declared.answers.OperatorAnswer.{OperatorAnswer}
+use Rattle.flow_engine.specs.LimitKind.TheVariants as limit
+use Rattle.flow_engine.specs.HistoryCalls.{Is}
+use Rattle.flow_engine.specs.Histories.{IsLineAt}
+use Rattle.flow_engine.specs.OperatorAnswer.{OperatorAnswer}
 use Rattle.flow_engine.specs.EngineCalls.{IsBeginning, IsMove, IsReply, IsReplyTo, IsWaiting, Sends}
 use Rattle.flow_engine.specs.EngineView.{EngineView}
 use Rattle.flow_engine.specs.OpenIssues.{puts_of}

@@ -6,7 +6,7 @@ use Rattle.run_journal.specs.Durable.{header_calls}
 use Rattle.run_records.specs.declared.record.Record.{Record}
 use Rattle.run_records.specs.Ranges.{last_moment}
 use Rattle.flow_core_rules.specs.Changes.{moment_of}
-use Rattle.flow_engine_history.specs.Histories.{IsLineAt}
+use Rattle.flow_engine.specs.Histories.{IsLineAt}
 use Rattle.slpf_actuator.specs.ActuatorView.{ActuatorView}
 use Rattle.flow_world_steps.specs.Steps.{Step, Steps}
 use Rattle.flow_world_steps.specs.Turns.{ComesNext, most_ignored}

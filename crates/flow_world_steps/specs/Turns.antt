@@ -6,7 +6,7 @@ use Rattle.flow_core_rules.specs.Changes.{is_waiting, outcome}
 use Rattle.flow_core_rules.specs.Moves.{due, enabled_move}
 use Rattle.flow_core_rules.specs.declared.issues.Issue.{Issue}
 use Rattle.base_dues.specs.Pairs.{IsFirstBy}
-use Rattle.flow_engine_answers.specs.declared.answers.OperatorAnswer.{OperatorAnswer}
+use Rattle.flow_engine.specs.OperatorAnswer.{OperatorAnswer}
 use Rattle.flow_engine.specs.EngineCalls.{put_deadline}
 use Rattle.flow_engine.specs.OpenIssues.{IsNextPut}
 use Rattle.flow_world_steps.specs.Sides.{AllPut, IsUp}

@@ -4,7 +4,7 @@ use Rattle.cacao_site.specs.Counts.{DidNotRise}
 use Rattle.cacao_site.specs.declared.parcel.Parcel.{Parcel}
 use Rattle.oc2_msg.specs.declared.answers.Answer.{Answer}
 use Rattle.flow_core_rules.specs.declared.issues.Issue.{Issue}
-use Rattle.flow_engine_history.specs.HistoryView.{HistoryView}
+use Rattle.flow_engine.specs.HistoryView.{HistoryView}
 use Rattle.flow_engine.specs.EngineCalls.{IsReplyTo, IsWaiting, command_of}
 use Rattle.flow_engine.specs.OpenIssues.{puts_of}
 use Rattle.flow_world_steps.specs.Steps.{Expires, IsAddressed, Steps}

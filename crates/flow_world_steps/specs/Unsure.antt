@@ -4,7 +4,7 @@ use Rattle.cacao_site.specs.declared.parcel.Parcel.{Parcel}
 use Rattle.run_records.specs.declared.act.Act.{Act}
 use Rattle.run_records.specs.declared.record.Record.{Record}
 use Rattle.flow_core_rules.specs.Changes.{moment_of}
-use Rattle.flow_engine_history.specs.HistoryCalls.{Is, Offers}
+use Rattle.flow_engine.specs.HistoryCalls.{Is, Offers}
 use Rattle.slpf_actuator.specs.ActuatorView.{ActuatorView, act_for}
 use Rattle.slpf_actuator.specs.declared.error.ActError.{ActError}
 use Rattle.flow_world_steps.specs.Steps.{FailsToAct, MayHaveActed, Step, Steps}

@@ -3,7 +3,7 @@ use Rattle.std.specs.Prelude.{◌≡◌, ℕ, ◌+◌, ◌*◌, ◌≤◌, List,
 use Rattle.cacao_site.specs.Counts.{DidNotRise}
 use Rattle.cacao_site.specs.View.{device_calls}
 use Rattle.flow_core_rules.specs.Givens.{Given}
-use Rattle.flow_engine_answers.specs.declared.answers.OperatorAnswer.{OperatorAnswer}
+use Rattle.flow_engine.specs.OperatorAnswer.{OperatorAnswer}
 use Rattle.flow_world_steps.specs.Complete.{IsComplete}
 use Rattle.flow_world_steps.specs.Grown.{FiltersGrow}
 use Rattle.flow_world_steps.specs.Handled.{Handles, HasItsAct, IsCommand}

@@ -3,7 +3,7 @@
 ghost use Rattle.flow_world_steps.specs.Spent.{EachEnds, EachSpends, StepSpends};
 ghost use Rattle.flow_world_steps.specs.Stands.{EachAllPut, EachInTime, EachStands, EachUp};
 
-use flow_core::accepted_is_runnable;
+use flow_engine::accepted_is_runnable;
 
 /// What stands at each world of a session that goes on. The function does nothing; its contract is the law.
 pub fn going_laws()

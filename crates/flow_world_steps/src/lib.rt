@@ -17,6 +17,8 @@ ghost use Rattle.flow_world_steps.specs.Written.{EachWritesFew};
 
 mod going;
 
+pub use flow_core_setup::{Setup, accepted_is_runnable};
+pub use flow_engine::{Engine, EngineError, LimitKind};
 pub use going::{going_laws, spending_laws};
 
 /// What holds of all that happens in a session, whatever it answers. The function does nothing; its contract is the law.

@@ -7,8 +7,8 @@ use Rattle.cacao_cli_ends.specs.Asked.{runs}
 use Rattle.cacao_cli_ends.specs.Told.{end_of}
 use Rattle.cacao_cli_ends.specs.Files.{ShelfCall}
 use Rattle.cacao_cli_session.specs.Holding.{HoldsSession}
-use Rattle.cacao_cli_starts.specs.ReadyRuns.{IsReady}
-use Rattle.cacao_cli_starts.proofs.ReadyLemmas.{not-ready-performed, ready-performed}
+use Rattle.cacao_cli_peers.specs.ReadyRuns.{IsReady}
+use Rattle.cacao_cli_peers.proofs.ReadyLemmas.{not-ready-performed, ready-performed}
 use Rattle.cacao_cli.proofs.run.run.Goals as goal
 
 pub returns-in-Ok-clause-performed : goal.returns-in-Ok-clause-performed

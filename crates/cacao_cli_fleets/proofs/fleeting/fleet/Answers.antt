@@ -39,6 +39,7 @@ returns-in-Ok-set_up-clause-performed g c =
       roots = c.in-Ok-set_up.ensures.ok.roots;
       trees = c.in-Ok-set_up.ensures.ok.trees;
       runs = c.in-Ok-set_up.runs;
+      are = c.law.ensures;
       ready = c.in-Ok-set_up.ensures.ok.ready;
       holds = c.hold.ensures;
       sound = g.met.R.Disk.sound c.hold.new.rack;

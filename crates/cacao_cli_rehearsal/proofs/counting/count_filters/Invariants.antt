@@ -2,7 +2,7 @@ use Rattle.std.proofs.Common.{◌≡◌, ◌+◌, ◌-◌, ◌*◌, ◌≤◌, L
 use Rattle.slpf_actuator.specs.ActuatorView.{ActuatorView}
 use Rattle.flow_world_steps.specs.Sides.{AreFilters}
 use Rattle.flow_world_steps.specs.Spent.{all_acts}
-use Rattle.flow_world_parts.specs.Openings.{blocks_to}
+use Rattle.flow_world.specs.Openings.{blocks_to}
 use Rattle.cacao_cli_rehearsal.specs.Counts.{KeepsImages, all_rules}
 use Rattle.cacao_cli_rehearsal.proofs.counting.count_filters.Given as goal
 

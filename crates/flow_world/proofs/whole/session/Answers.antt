@@ -1,5 +1,5 @@
 use Rattle.std.proofs.Common.{Err, ap, inl}
-use Rattle.flow_world_steps.specs.Whole.{blank_notes}
+use Rattle.flow_world_parts.specs.Whole.{blank_notes}
 use Rattle.flow_world_parts.specs.declared.error.WorldError.{WorldError}
 use Rattle.flow_world_parts.proofs.OpenSteps.{ready_after, whole_after}
 use Rattle.flow_world.proofs.Quiet.{refused_agrees}

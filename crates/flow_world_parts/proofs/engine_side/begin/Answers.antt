@@ -1,6 +1,6 @@
 use Rattle.std.proofs.Common.{ℕ, subst, sym, refl}
 use Rattle.run_records.specs.declared.record.Record.{Record}
-use Rattle.flow_engine.specs.EngineCalls.{Appends, IsBeginning, Refused}
+use Rattle.flow_world_steps.specs.EngineCalls.{Appends, IsBeginning, Refused}
 use Rattle.flow_world_steps.specs.Worlds.{rests}
 use Rattle.flow_world_parts.specs.Leads.{EngineRefuses, MayAppend}
 use Rattle.flow_world_parts.specs.declared.error.WorldError.{WorldError}

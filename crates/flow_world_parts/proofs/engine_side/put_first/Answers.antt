@@ -1,5 +1,5 @@
 use Rattle.std.proofs.Common.{ℕ, subst, sym}
-use Rattle.flow_engine.specs.EngineCalls.{Sends}
+use Rattle.flow_world_steps.specs.EngineCalls.{Sends}
 use Rattle.flow_world_steps.specs.Worlds.{rests}
 use Rattle.flow_world_parts.specs.Leads.{AnyNotes, EngineRefuses}
 use Rattle.flow_world_parts.specs.declared.error.WorldError.{WorldError}

@@ -1,5 +1,5 @@
 use Rattle.std.proofs.Common.{◌≡◌, length, refl, ◌∙◌, ap, arith}
-use Rattle.flow_engine_history.specs.HistoryView.{HistoryView}
+use Rattle.flow_world_steps.specs.HistoryView.{HistoryView}
 use Rattle.flow_core_rules.specs.State.{Shown}
 use Rattle.flow_world_steps.specs.Worlds.{rests}
 use Rattle.flow_world_parts.specs.Leads.{AnyNotes}

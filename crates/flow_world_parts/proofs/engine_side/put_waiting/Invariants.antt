@@ -1,5 +1,5 @@
 use Rattle.std.proofs.Common.{◌≡◌, ℕ, ◌≤◌, None}
-use Rattle.flow_engine.specs.OpenIssues.{puts_of}
+use Rattle.flow_world_steps.specs.OpenIssues.{puts_of}
 use Rattle.flow_world_steps.specs.Worlds.{rests}
 use Rattle.flow_world_parts.specs.Leads.{AnyNotes, ArePutBelow, EngineGoes, IsAtWork}
 use Rattle.flow_world_parts.proofs.engine_side.put_waiting.Given as goal

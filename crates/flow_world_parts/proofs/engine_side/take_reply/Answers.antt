@@ -1,5 +1,5 @@
 use Rattle.std.proofs.Common.{ℕ, ◌∙◌, Ok, subst, sym, refl, ap}
-use Rattle.flow_engine.specs.EngineCalls.{Appends, IsReply, Refused}
+use Rattle.flow_world_steps.specs.EngineCalls.{Appends, IsReply, Refused}
 use Rattle.flow_world_steps.specs.Worlds.{holds}
 use Rattle.flow_world_steps.proofs.AllPuts.{put_after_reply}
 use Rattle.flow_world_parts.specs.Leads.{EngineRefuses, MayAppend}

@@ -1,7 +1,7 @@
 use Rattle.std.proofs.Common.{refl}
 use Rattle.std.specs.Prelude.{Ok, Err}
 use Rattle.run_records.specs.declared.record.Record.TheVariants as entry
-use Rattle.flow_engine_history.specs.HistoryCalls.{Is}
+use Rattle.flow_world_steps.specs.HistoryCalls.{Is}
 use Rattle.flow_world_steps.proofs.AllPuts.{put_after_expire}
 use Rattle.flow_world_parts.proofs.MoveSteps.{appended_then, on_time_of, refused_so, try_expire}
 use Rattle.flow_world_parts.proofs.moves.expire.Goals as goal

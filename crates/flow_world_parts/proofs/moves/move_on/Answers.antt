@@ -1,6 +1,6 @@
 use Rattle.std.proofs.Common.{◌∙◌, ap}
 use Rattle.std.specs.Prelude.{Ok, Err}
-use Rattle.flow_engine.specs.EngineCalls.{IsMove}
+use Rattle.flow_world_steps.specs.EngineCalls.{IsMove}
 use Rattle.flow_world_steps.specs.Sides.{IsEngine}
 use Rattle.flow_world_steps.proofs.Adding.{moves_now}
 use Rattle.flow_world_parts.proofs.MoveSteps.{appended_then, at_work_after, below_after, issues_are, moved_then, ok_true, put_then, refused_so, try_move, unput_after}

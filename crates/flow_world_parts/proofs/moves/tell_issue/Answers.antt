@@ -1,5 +1,5 @@
 use Rattle.run_records.specs.declared.record.Record.TheVariants as entry
-use Rattle.flow_engine_history.specs.HistoryCalls.{Is}
+use Rattle.flow_world_steps.specs.HistoryCalls.{Is}
 use Rattle.flow_world_steps.proofs.AllPuts.{put_after_told}
 use Rattle.flow_world_parts.proofs.MoveSteps.{appended_then, on_ok, refused_so, try_told}
 use Rattle.flow_world_parts.proofs.moves.tell_issue.Goals as goal

@@ -1,5 +1,5 @@
 use Rattle.run_records.specs.declared.record.Record.TheVariants as entry
-use Rattle.flow_engine_history.specs.HistoryCalls.{Is}
+use Rattle.flow_world_steps.specs.HistoryCalls.{Is}
 use Rattle.flow_world_parts.proofs.MoveSteps.{appended_then, refused_so, try_upgrade}
 use Rattle.flow_world_parts.proofs.moves.upgrade.Goals as goal
 use Rattle.flow_world_parts.proofs.Standing.{filters_beside, keeps_if}

@@ -1,6 +1,6 @@
 use Rattle.std.proofs.Common.{◌∙◌, ◌+◌, ◌-◌, Ok, [], refl, sym, ap, subst, arith}
 use Rattle.oc2_msg.specs.declared.answers.Answer.{Answer}
-use Rattle.flow_engine.specs.EngineCalls.{IsReplyTo}
+use Rattle.flow_world_steps.specs.EngineCalls.{IsReplyTo}
 use Rattle.flow_world_steps.specs.Worlds.{holds, rests}
 use Rattle.flow_world_parts.specs.Leads.{EngineTried, MayAppend}
 use Rattle.flow_world_parts.proofs.SessionSteps.{engine_goes, may_append, reply_none}
