@@ -11,9 +11,9 @@
 //   HOSTILE_TELL=FILE      at the end the numbers of requests and of calls are written to FILE
 //   HOSTILE_ONLY=WORD      all this in a process whose first word is WORD, and not in those that it starts or that started it
 //
-// Calls to the outside are open, read, write, lseek, fsync, fdatasync, ftruncate, statx and close; those of a socket: socket, bind, listen,
-// accept, getsockname, connect, send and recv; and those of a process: pipe, posix_spawn, kill, waitid and waitpid. They are counted together
-// from 1.
+// Calls to the outside are open, read, pread, write, pwrite, lseek, fsync, fdatasync, ftruncate, statx and close; those of a socket: socket,
+// bind, listen, accept, getsockname, connect, send and recv; and those of a process: pipe, posix_spawn, kill, waitid and waitpid. They are
+// counted together from 1.
 #define _GNU_SOURCE
 #include <dlfcn.h>
 #include <errno.h>
@@ -110,10 +110,10 @@ static void tear(int file) {
     if (choice == 0)
         return;
     if (choice == 1 && at < before)
-        pwrite(file, unsynced[file].was, unsynced[file].count < KEPT ? unsynced[file].count : KEPT, at);
+        REAL(pwrite)(file, unsynced[file].was, unsynced[file].count < KEPT ? unsynced[file].count : KEPT, at);
     for (off_t place = at; choice == 3 && place < end; place++) {
         unsigned char byte = (unsigned char)draw();
-        pwrite(file, &byte, 1, place);
+        REAL(pwrite)(file, &byte, 1, place);
     }
     if (end > before)
         REAL(ftruncate)(file, choice == 1 ? before : before + (off_t)(draw() % (unsigned)(end - before + 1)));
@@ -145,16 +145,15 @@ static size_t moved(size_t count) { return calls == shortened && count > 1 ? 1 :
 // Whether the program opened it to write.
 static int is_ours(int file) { return file >= 0 && file < FILES && writable[file]; }
 
-static void note(int file, size_t count) {
+static void note(int file, size_t count, off_t at) {
     struct stat told;
-    off_t at = lseek(file, 0, SEEK_CUR);
     if (!is_ours(file) || fstat(file, &told))
         return;
     unsynced[file].held = 1;
     unsynced[file].at = at;
     unsynced[file].before = told.st_size;
     unsynced[file].count = count;
-    pread(file, unsynced[file].was, KEPT, at);
+    REAL(pread)(file, unsynced[file].was, KEPT, at);
 }
 
 static void forget(int file) {
@@ -203,16 +202,21 @@ ssize_t write(int file, const void *bytes, size_t count) {
     if (fails())
         return -1;
     if (seed)
-        note(file, moved(count));
+        note(file, moved(count), REAL(lseek)(file, 0, SEEK_CUR));
     return REAL(write)(file, bytes, moved(count));
 }
 
-off_t lseek(int file, off_t at, int whence) {
-    // `note` asks for the place, which is no call of the program.
-    if (whence == SEEK_CUR && at == 0)
-        return REAL(lseek)(file, at, whence);
-    return fails() ? -1 : REAL(lseek)(file, at, whence);
+ssize_t pread(int file, void *into, size_t count, off_t at) { return fails() ? -1 : REAL(pread)(file, into, moved(count), at); }
+
+ssize_t pwrite(int file, const void *bytes, size_t count, off_t at) {
+    if (fails())
+        return -1;
+    if (seed)
+        note(file, moved(count), at);
+    return REAL(pwrite)(file, bytes, moved(count), at);
 }
+
+off_t lseek(int file, off_t at, int whence) { return fails() ? -1 : REAL(lseek)(file, at, whence); }
 
 int fsync(int file) {
     if (fails())

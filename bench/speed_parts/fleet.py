@@ -18,8 +18,10 @@ def tool(bench, name, runs, records, book, folder):
 
 def measure(bench):
     book = bench.write("loop.json", endless(0))
-    with tempfile.TemporaryDirectory(dir="/dev/shm" if os.path.isdir("/dev/shm") else None) as memory:
-        for where, folder, records in (("files in memory", memory, 400 if bench.small else 40_000), ("on the disk", bench.folder, 100 if bench.small else 2_000)):
+    # A folder of its own on the disk too: other rows leave the acts of a run, whose number would then be used.
+    shared = "/dev/shm" if os.path.isdir("/dev/shm") else None
+    with tempfile.TemporaryDirectory(dir=shared) as memory, tempfile.TemporaryDirectory(dir=bench.folder) as disk:
+        for where, folder, records in (("files in memory", memory, 400 if bench.small else 40_000), ("on the disk", disk, 100 if bench.small else 2_000)):
             tools = [tool(bench, "fleet of 16 runs", RUNS, records, book, folder), tool(bench, "fleet of one run", 1, records, book, folder)]
             figures = in_turn(tools, min(bench.rounds, 5))
             bench.report.figures(f"{records} records of a loop, {where}", figures)

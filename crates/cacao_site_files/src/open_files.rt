@@ -5,7 +5,8 @@ ghost use Rattle.cacao_site_files.specs.Holding.{IsHeld, KeepsHeld};
 use crate::locks;
 use crate::locks::Locks;
 use std::fs::{File, OpenFile, OpenOptions};
-use std::io::{Read, Seek, SeekFrom, Write};
+use std::io::{Seek, SeekFrom};
+use std::os::unix::fs::FileExt;
 use std::rt::Files;
 use std::{array, fs, io};
 
@@ -166,7 +167,8 @@ impl<'a, R: Files<File = File>> OpenFiles<'a, R> {
 
     /// Fills the front of the buffer with what the file has from place `at` on, and answers how many bytes that is.
     ///
-    /// It needs no right to write. Where a file that is to be read alone ends, its entries are durable when this returns.
+    /// It needs no right to write. Where a file that is to be read alone ends, its entries are durable when this returns. Where
+    /// no byte is asked for, no call of the system is made but for the lock.
     pub fn read(&mut self, file: u8, at: u64, into: &mut [u8]) -> io::Result<usize>
         requires file { file ≤ 31 }
         requires size { length into.old ≤ 4_096 }
@@ -177,13 +179,15 @@ impl<'a, R: Files<File = File>> OpenFiles<'a, R> {
         ensures reads { self.old.locks ≡ None → self.new.locks ≡ None }
     {
         self.hold(file)?;
+        if into.is_empty() {
+            return Ok(0);
+        }
         self.open_to_read(file)?;
         let (rt, is_written) = (self.rt, self.locks.is_some());
         let Some(one) = &mut self.slots[file as usize] else {
             return Ok(0);
         };
-        one.file.seek(SeekFrom::Start(at))?;
-        let count = fill(&mut one.file, into)?;
+        let count = fill(&one.file, at, into)?;
         let end = at.saturating_add(count as u64);
         if !is_written && (count < into.len() || end >= MOST_BYTES) {
             settle(rt, &mut one.file, file, end)?;
@@ -205,17 +209,17 @@ impl<'a, R: Files<File = File>> OpenFiles<'a, R> {
             return Err(io::Error::from(io::ErrorKind::Unsupported));
         }
         self.hold(file)?;
-        if let Some(one) = &mut self.slots[file as usize] {
+        if let Some(one) = &self.slots[file as usize] {
             if one.writable {
-                return write_at(&mut one.file, at, bytes);
+                return put(&one.file, at, bytes);
             }
         }
-        let mut opened = OpenOptions::new()
+        let opened = OpenOptions::new()
             .read(true)
             .write(true)
             .create(true)
             .open(self.rt, NAMES[file as usize])?;
-        let done = write_at(&mut opened, at, bytes);
+        let done = put(&opened, at, bytes);
         self.slots[file as usize] = Some(OneFile {
             file: opened,
             writable: true,
@@ -289,12 +293,11 @@ impl<'a, R: Files<File = File>> OpenFiles<'a, R> {
 }
 
 /// Writes the bytes at place `at`. Where there is no byte, it makes the file at least that long.
-fn write_at<F: Write + Seek + OpenFile>(file: &mut F, at: u64, bytes: &[u8]) -> io::Result<()> {
+fn put<F: FileExt + OpenFile>(file: &F, at: u64, bytes: &[u8]) -> io::Result<()> {
     if bytes.is_empty() && file.metadata()?.len() < at {
         return file.set_len(at);
     }
-    file.seek(SeekFrom::Start(at))?;
-    file.write_all(bytes)
+    file.write_all_at(bytes, at)
 }
 
 /// Sees to it that the entries that were read of the file of this number are durable, of which no byte came from place `end` on.
@@ -322,25 +325,25 @@ fn has_grown<F: Seek>(file: &mut F, end: u64) -> bool {
     false
 }
 
-/// Fills the front of the buffer with what the reader has, and answers how many bytes that is.
-fn fill<F: Read>(reader: &mut F, into: &mut [u8]) -> io::Result<usize>
+/// Fills the front of the buffer with what the file has from place `at` on, and answers how many bytes that is.
+fn fill<F: FileExt>(file: &F, at: u64, into: &mut [u8]) -> io::Result<usize>
     requires { length into.old ≤ 4_096 }
     ensures count { IfOk result (λ n. n ≤ length into.old) }
     ensures behind { IfOk result (λ n. drop n into.new ≡ drop n into.old) }
 {
     let mut block = [0u8; 4096];
-    let count = fill_whole(reader, &mut block[..into.len()])?;
+    let count = fill_whole(file, at, &mut block[..into.len()])?;
     into[..count].copy_from_slice(&block[..count]);
     Ok(count)
 }
 
 /// The same, where what lies behind may change.
-fn fill_whole<F: Read>(reader: &mut F, into: &mut [u8]) -> io::Result<usize>
+fn fill_whole<F: FileExt>(file: &F, at: u64, into: &mut [u8]) -> io::Result<usize>
     ensures { IfOk result (λ n. n ≤ length into.old) }
 {
     let mut count = 0usize;
     for _ in 0..into.len() {
-        let more = reader.read(&mut into[count..])?;
+        let more = file.read_at(&mut into[count..], at.saturating_add(count as u64))?;
         if more == 0 {
             break;
         }
