@@ -1,5 +1,5 @@
 -- What is told of a break, from its parts.
-use Rattle.std.proofs.Common.{◌≡◌, ◌∙◌, ap, ℕ, ◌≤◌, List, [], ◌∷◌, ◌++◌, length, map, append_assoc, Option, Some}
+use Rattle.std.proofs.Common.{◌≡◌, ◌∙◌, inl, inr, refl, true, ap, ℕ, List, [], ◌∷◌, ◌++◌, map, append_assoc, Option, Some}
 use Rattle.std.specs.Prelude.{option_map, slice_get}
 use Rattle.std.proofs.lemmas.Option.{slice_get-map}
 use Rattle.serde_json.specs.Data.{Data}
@@ -7,29 +7,40 @@ use Rattle.cacao_check.specs.declared.breaks.Break.{Break}
 use Rattle.cacao_cli_ends.specs.Files.{NamedText}
 use Rattle.cacao_view_words.specs.Rules.{book_lines}
 use Rattle.cacao_view_words.specs.Texts.{Text}
-use Rattle.cacao_view_faults.specs.Places.{Place, place_behind}
-use Rattle.cacao_view_explain.specs.Lines.{TellsPlace, place_line, pointer_line, step_lines, step_pointer}
+use Rattle.cacao_view_faults.specs.Stands.{LeadsOn, WordStands, stands}
+use Rattle.cacao_view_explain.specs.Lines.{BeginsWithName, TellsPart, pointer_line, step_lines, step_pointer, text_line, told_line}
+use Rattle.cacao_view_explain.specs.Naming.{SaysOfNames}
 use Rattle.cacao_view_explain.specs.Tells.{TellsBroken, TellsFault}
 
-pub tells_place : (text : NamedText) (at : ℕ) (what line : Text) (place : Place) → at ≤ length text.bytes → place ≡ place_behind text.bytes at → line ≡ place_line text.name place what
-    → TellsPlace text line
-tells_place text at what line place within is said =
-    record { at = at; within = within; what = what; is = said ∙ ap (λ (p : Place). place_line text.name p what) is }
-
-pub tells_fault : (text : NamedText) (root : Data) (step : Option Text) (part : Text) (steps lines : List Text) (pointer place : Text) → steps ≡ step_lines step root
-    → pointer ≡ pointer_line (step_pointer step ++ part) → TellsPlace text place → lines ≡ (steps ++ pointer ∷ []) ++ place ∷ [] → TellsFault text root step lines
-tells_fault text root step part steps lines pointer place steps_are pointer_is tells are = record {
+pub tells_fault : (text : NamedText) (root : Data) (step : Option Text) (what path part : Text) (steps lines : List Text) → steps ≡ step_lines step root → LeadsOn text.bytes (step_pointer step) path
+    → TellsPart text path what part → lines ≡ (steps ++ pointer_line path ∷ []) ++ part ∷ [] → TellsFault text root step what lines
+tells_fault text root step what path part steps lines steps_are leads tells are = record {
+  path = path;
+  leads = leads;
   part = part;
-  place = place;
   tells = tells;
-  are = are ∙ append_assoc steps (pointer ∷ []) (place ∷ []) ∙ ap (λ (l : List Text). l ++ (pointer ∷ place ∷ [])) steps_are ∙ ap (λ (p : Text). step_lines step root ++ (p ∷ place ∷ [])) pointer_is;
+  are = are ∙ append_assoc steps (pointer_line path ∷ []) (part ∷ []) ∙ ap (λ (l : List Text). l ++ (pointer_line path ∷ part ∷ [])) steps_are;
 }
+
+-- the value stands there, and the line tells where it begins
+pub tells_value : (text : NamedText) (path : Text) (from end : ℕ) (what line : Text) → stands text.bytes path from end ≡ true → line ≡ told_line text from what → TellsPart text path what line
+tells_value text path from end what line there is = inl (record { from = from; end = end; it_stands = there; at = from; there = inl refl; is = is })
+
+-- the words begin with a name, and the line tells where it stands in that value
+pub tells_name : (text : NamedText) (path : Text) (from end at : ℕ) (name what line : Text) → stands text.bytes path from end ≡ true → BeginsWithName what name → WordStands text.bytes from end at name
+    → line ≡ told_line text at what → TellsPart text path what line
+tells_name text path from end at name what line there begins here is =
+    inl (record { from = from; end = end; it_stands = there; at = at; there = inr (record { name = name; begins = begins; there = here }); is = is })
+
+-- no place is told
+pub tells_text : (text : NamedText) (path what line : Text) → line ≡ text_line text.name what → TellsPart text path what line
+tells_text text path what line is = inr is
 
 -- what is made of the item at a place
 pub mapped_at : {A B : Type 0} (f : A → B) (xs : List A) (n : ℕ) (x : A) → slice_get xs n ≡ Some x → slice_get (map f xs) n ≡ Some (f x)
 mapped_at f xs n x e = slice_get-map f xs n ∙ ap (option_map f) e
 
-pub tells_broken : (texts : List NamedText) (roots : List Data) (broken : Break) (text : NamedText) (root : Data) (fault lines : List Text) → slice_get texts broken.book ≡ Some text
-    → slice_get roots broken.book ≡ Some root → TellsFault text root broken.step fault → lines ≡ fault ++ book_lines broken.rule → TellsBroken texts roots broken lines
-tells_broken texts roots broken text root fault lines text_is root_is tells are =
-    record { text = text; text_is = text_is; root = root; root_is = root_is; fault = fault; tells = tells; are = are }
+pub tells_broken : (texts : List NamedText) (roots : List Data) (broken : Break) (text : NamedText) (root : Data) (what : Text) (fault lines : List Text) → slice_get texts broken.book ≡ Some text
+    → slice_get roots broken.book ≡ Some root → SaysOfNames root broken what → TellsFault text root broken.step what fault → lines ≡ fault ++ book_lines broken.rule → TellsBroken texts roots broken lines
+tells_broken texts roots broken text root what fault lines text_is root_is says tells are =
+    record { text = text; text_is = text_is; root = root; root_is = root_is; what = what; says = says; fault = fault; tells = tells; are = are }

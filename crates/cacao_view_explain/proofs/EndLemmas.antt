@@ -11,6 +11,7 @@ use Rattle.cacao_cli_looks.specs.Command.{IsJudgement}
 use Rattle.cacao_view_words.specs.Texts.{Text}
 use Rattle.cacao_view_explain.specs.Explains.{Explains, ExplainsOf, ExplainsTrees}
 use Rattle.cacao_view_explain.specs.Tells.{Tells, TellsBroken, TellsOf, TellsUnread, first_unread}
+use Rattle.cacao_view_explain.proofs.PlainLemmas.{none_plain, trees_plain, unread_plain}
 
 -- ---- memory was wanted
 
@@ -28,7 +29,7 @@ wanting_explains texts lines end none is =
 
 pub wanting_tells : (texts : List NamedText) (lines : List Text) (end : End) → lines ≡ [] → end ≡ no_memory → Tells texts lines end
 wanting_tells texts lines end none is =
-    subst (λ (l : List Text). Tells texts l end) (sym none) (subst (λ (e : End). Tells texts [] e) (sym is) (none_told (trees_of texts) texts))
+    (subst (λ (l : List Text). TellsOf (trees_of texts) texts l end) (sym none) (subst (λ (e : End). TellsOf (trees_of texts) texts [] e) (sym is) (none_told (trees_of texts) texts)), none_plain texts lines none)
 
 -- ---- judged playbooks
 
@@ -82,4 +83,11 @@ pub unread_explains : (texts : List NamedText) (lines : List Text) (end : End) �
 unread_explains texts lines end e = subst (λ (r : Result (List Data) End). ExplainsOf r lines end) (sym e) (inl refl)
 
 pub unread_tells : (texts : List NamedText) (lines : List Text) (end : End) → trees_of texts ≡ Err end → TellsUnread (first_unread texts) lines → Tells texts lines end
-unread_tells texts lines end e tells = subst (λ (r : Result (List Data) End). TellsOf r texts lines end) (sym e) (inl tells)
+unread_tells texts lines end e tells =
+    (subst (λ (r : Result (List Data) End). TellsOf r texts lines end) (sym e) (inl tells), unread_plain texts lines tells)
+
+-- ---- texts of which each gives a tree
+
+pub trees_tell : (texts : List NamedText) (roots : List Data) (lines : List Text) (end : End) → trees_of texts ≡ Ok roots → ExplainsTrees roots lines end → TellsOf (Ok roots) texts lines end → Tells texts lines end
+trees_tell texts roots lines end e explains tells =
+    (subst (λ (r : Result (List Data) End). TellsOf r texts lines end) (sym e) tells, trees_plain texts roots lines end explains tells)

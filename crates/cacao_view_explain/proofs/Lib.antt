@@ -1,3 +1,5 @@
 pub mod BreakLemmas
 pub mod EndLemmas
+pub mod NameLemmas
+pub mod PlainLemmas
 pub mod UnreadLemmas

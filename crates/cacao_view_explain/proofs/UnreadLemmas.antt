@@ -1,32 +1,45 @@
 -- What is told of the first text that has no tree, of texts of which the first one is tried.
-use Rattle.std.proofs.Common.{◌≡◌, ◌∙◌, sym, ap, subst, arith, ℕ, ◌+◌, ◌<◌, List, [], ◌∷◌, length, map, drop, get_or, drop-cons, Some, Ok, Err}
-use Rattle.std.specs.Prelude.{All}
-use Rattle.std.proofs.lemmas.List.Elements.{All-cons, All-nil}
+use Rattle.std.proofs.Common.{◌≡◌, ◌∙◌, inl, inr, sym, ap, subst, arith, ℕ, ◌+◌, ◌<◌, List, [], ◌∷◌, length, map, drop, get_or, drop-cons, Some, Ok, Err}
 use Rattle.serde_json.specs.Data.{Data}
 use Rattle.cacao_json.specs.Refusals.{IsAnswerOrMemory, answer}
 use Rattle.cacao_json.specs.declared.error.JsonError.{JsonError}
 use Rattle.cacao_json.specs.declared.error.JsonError.TheVariants.{NotJson, RepeatedName, NotWhole, Memory}
 use Rattle.cacao_cli_ends.specs.Files.{NamedText}
 use Rattle.cacao_view_words.specs.Texts.{Text}
-use Rattle.cacao_view_explain.specs.Lines.{TellsPlace}
-use Rattle.cacao_view_explain.specs.Reasons.{TellsReason}
+use Rattle.cacao_view_faults.specs.Kinds.{IsFaultAt}
+use Rattle.cacao_view_faults.specs.Tokens.{IsBrokenNumber, IsTwice}
+use Rattle.cacao_view_explain.specs.Lines.{text_line, told_line}
+use Rattle.cacao_view_explain.specs.Reasons.{TellsNoPlace, TellsReason}
 use Rattle.cacao_view_explain.specs.Tells.{TellsUnread, first_unread, unread_or}
 
 -- ---- lines
 
-pub one_told : (text : NamedText) (line : Text) (lines : List Text) → TellsPlace text line → lines ≡ line ∷ [] → All (TellsPlace text) lines × (0 < length lines)
-one_told text line lines tells are =
-    subst (λ (l : List Text). All (TellsPlace text) l × (0 < length l)) (sym are) (All-cons (TellsPlace text) line [] tells (All-nil (TellsPlace text)), omega arith)
+tells_no_place : (text : NamedText) (what : Text) (lines : List Text) → lines ≡ text_line text.name what ∷ [] → TellsNoPlace text lines
+tells_no_place text what lines are = record { what = what; are = are }
 
-pub two_told : (text : NamedText) (first second : Text) (lines : List Text) → TellsPlace text first → TellsPlace text second → lines ≡ first ∷ second ∷ []
-    → All (TellsPlace text) lines × (0 < length lines)
-two_told text first second lines here there are =
-    subst (λ (l : List Text). All (TellsPlace text) l × (0 < length l)) (sym are)
-    (All-cons (TellsPlace text) first (second ∷ []) here (All-cons (TellsPlace text) second [] there (All-nil (TellsPlace text))), omega arith)
+pub untold_not_json : (text : NamedText) (what : Text) (lines : List Text) → lines ≡ text_line text.name what ∷ [] → TellsReason text NotJson lines
+untold_not_json text what lines are = inr (tells_no_place text what lines are)
+
+pub untold_twice : (text : NamedText) (colons members : ℕ) (what : Text) (lines : List Text) → lines ≡ text_line text.name what ∷ [] → TellsReason text (RepeatedName colons members) lines
+untold_twice text colons members what lines are = inr (tells_no_place text what lines are)
+
+pub untold_number : (text : NamedText) (index : ℕ) (what : Text) (lines : List Text) → lines ≡ text_line text.name what ∷ [] → TellsReason text (NotWhole index) lines
+untold_number text index what lines are = inr (tells_no_place text what lines are)
+
+pub tells_fault_at : (text : NamedText) (at : ℕ) (what : Text) (lines : List Text) → IsFaultAt text.bytes at what → lines ≡ told_line text at what ∷ [] → TellsReason text NotJson lines
+tells_fault_at text at what lines fault are = inl (record { at = at; what = what; fault = fault; are = are })
+
+pub tells_number : (text : NamedText) (at index : ℕ) (what : Text) (lines : List Text) → IsBrokenNumber text.bytes at → lines ≡ told_line text at what ∷ [] → TellsReason text (NotWhole index) lines
+tells_number text at index what lines number are = inl (record { at = at; number = number; what = what; are = are })
+
+pub tells_twice : (text : NamedText) (first second colons members : ℕ) (here there : Text) (one : Text) (other : Text) (lines : List Text) → IsTwice text.bytes first second
+    → one ≡ told_line text first here → other ≡ told_line text second there → lines ≡ one ∷ other ∷ [] → TellsReason text (RepeatedName colons members) lines
+tells_twice text first second colons members here there one other lines twice one_is other_is are =
+    inl (record { first = first; second = second; twice = twice; here = here; there = there; are = are ∙ ap (λ (l : Text). l ∷ other ∷ []) one_is ∙ ap (λ (l : Text). told_line text first here ∷ l ∷ []) other_is })
 
 -- ---- texts
 
-unread_here : (text : NamedText) (texts : List NamedText) (why : JsonError) → answer text.bytes ≡ Err why → first_unread (text ∷ texts) ≡ Some text
+unread_here : (text : NamedText) (texts : List NamedText) (why : JsonError) → answer text.bytes ≡ Err why → first_unread (text ∷ texts) ≡ Some (text, why)
 unread_here text texts why e = ap (unread_or text (first_unread texts)) e
 
 read_here : (text : NamedText) (texts : List NamedText) (root : Data) → answer text.bytes ≡ Ok root → first_unread (text ∷ texts) ≡ first_unread texts

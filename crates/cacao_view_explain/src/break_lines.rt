@@ -1,47 +1,72 @@
 // What is told of the first break of playbooks.
-ghost use Rattle.std.specs.Prelude.{◌≡◌, ◌++◌, IfOk, OnOk, map, option_map, slice_get};
+ghost use Rattle.std.specs.Prelude.{◌≡◌, ◌++◌, ◌∷◌, [], IfOk, OnOk, map, option_map, slice_get, string_bytes};
 ghost use Rattle.std.specs.Option.{option_copied};
 ghost use Rattle.cacao_json.specs.Tree.{data_of};
 ghost use Rattle.cacao_cli_looks.specs.Command.{text_of};
 ghost use Rattle.cacao_view_words.specs.Rules.{book_lines};
+ghost use Rattle.cacao_view_faults.specs.Stands.{LeadsOn};
+ghost use Rattle.cacao_view_explain.specs.Lines.{step_pointer};
 ghost use Rattle.cacao_view_explain.specs.Tells.{TellsBroken, TellsFault};
 
-use crate::finding::finding_of;
-use crate::lines::{pointer_line, step_lines, told_place};
+use crate::finding::{finding_of, key_of};
+use crate::lines::{pointer_line, step_lines, step_pointer};
+use crate::part_line::part_line;
+use crate::spot::Finding;
 use cacao_check::Break;
 use cacao_cli_looks::FileText;
 use cacao_json::Tree;
+use cacao_view_faults::path_of;
 use cacao_view_report::Lines;
 use cacao_view_words::Rule;
 use std::alloc::{AllocError, Global};
 
-/// The key of the step whose rule is broken, if it is one's.
-fn key_of(broken: &Break) -> Option<&str>
-    ensures { option_map (λ text. text.now) result ≡ broken.now.step }
+/// The pointer to what is at fault: to the step with this key, to a part of it, or to the playbook.
+fn part_path(
+    alloc: Global,
+    text: &FileText<'_>,
+    key: Option<&str>,
+    finding: &Finding,
+) -> Result<String, AllocError>
+    ensures { IfOk result (λ path. LeadsOn (text_of text.now).bytes (step_pointer (option_map (λ text. text.now) key.entry)) (string_bytes path)) }
 {
-    match &broken.step {
-        Some(key) => Some(key.text()),
-        None => None,
+    let base = step_pointer(alloc, key)?;
+    match &finding.spot.part {
+        Some(part) => path_of(
+            alloc,
+            text.bytes.as_slice(),
+            base.as_str(),
+            Some(part.as_str()),
+        ),
+        None => path_of(alloc, text.bytes.as_slice(), base.as_str(), None),
     }
 }
 
-/// What is at fault, and where.
+/// Adds these two lines.
+fn add_two(first: Vec<u8>, second: Vec<u8>, lines: &mut Lines) -> Result<(), AllocError>
+    ensures { OnOk result (lines.new ≡ (lines.old ++ first.items ∷ []) ++ second.items ∷ []) }
+{
+    lines.push(first)?;
+    lines.push(second)?;
+    Ok(())
+}
+
+/// What is at fault, and where, as it was found.
 fn fault_lines(
     alloc: Global,
     text: &FileText<'_>,
-    trees: &[Tree],
     tree: &Tree,
     broken: &Break,
+    finding: &Finding,
 ) -> Result<Lines, AllocError>
-    ensures { IfOk result (TellsFault (text_of text.now) (data_of tree.now) broken.now.step) }
+    ensures { IfOk result (TellsFault (text_of text.now) (data_of tree.now) broken.now.step (string_bytes finding.now.what)) }
 {
     let key = key_of(broken);
-    let finding = finding_of(alloc, text.bytes.as_slice(), trees, tree, broken)?;
+    let path = part_path(alloc, text, key, finding)?;
+    let path = path.as_str();
     let mut lines = step_lines(alloc, tree, key)?;
-    let pointer = pointer_line(alloc, key, finding.spot.pointer.as_str())?;
-    let place = told_place(alloc, text, finding.spot.at, finding.what.as_str())?;
-    lines.push(pointer)?;
-    lines.push_text(place)?;
+    let pointer = pointer_line(alloc, path)?;
+    let part = part_line(alloc, text, path, finding)?;
+    add_two(pointer, part, &mut lines)?;
     Ok(lines)
 }
 
@@ -93,7 +118,8 @@ pub(crate) fn break_lines(
     let Some(tree) = tree_at(trees, broken.book) else {
         return Err(AllocError);
     };
-    let mut lines = fault_lines(alloc, text, trees, tree, broken)?;
+    let finding = finding_of(alloc, text.bytes.as_slice(), trees, tree, broken)?;
+    let mut lines = fault_lines(alloc, text, tree, broken, &finding)?;
     add_rule(alloc, broken.rule, &mut lines)?;
     Ok(lines)
 }

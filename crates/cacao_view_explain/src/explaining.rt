@@ -63,8 +63,9 @@ pub fn explain<'w>(alloc: Global, texts: &[FileText<'w>]) -> Report<'w>
 {
     match trees_of(alloc, texts) {
         Ok(trees) => {
-            let end = judge(alloc, trees.as_slice(), Mode::Read);
-            judged(alloc, texts, trees.as_slice(), end)
+            let roots = trees.as_slice();
+            let end = judge(alloc, roots, Mode::Read);
+            judged(alloc, texts, roots, end)
         }
         Err(end) => unread(alloc, texts, end),
     }

@@ -1,14 +1,21 @@
 //! The first break of playbooks as a person wants it: what is at fault, where it stands, and the rule.
 #![tactic(auto)]
 
+mod books;
 mod break_lines;
+mod call_faults;
 mod explaining;
 mod finding;
 mod lines;
+mod name_faults;
+mod name_findings;
+mod name_places;
+mod part_line;
 mod sense_faults;
 mod shape_faults;
+mod shape_parts;
 mod spot;
-mod step_tests;
+mod survey_findings;
 mod unread;
 mod wants;
 

@@ -1,9 +1,10 @@
 // The lines that tell what is at fault in a text.
-ghost use Rattle.std.specs.Prelude.{◌≡◌, ◌++◌, IfOk, option_map, string_bytes};
+ghost use Rattle.std.specs.Prelude.{◌≡◌, ◌≤◌, ◌++◌, codes, IfOk, length, option_map, string_bytes};
 ghost use Rattle.cacao_json.specs.Tree.{data_of};
 ghost use Rattle.cacao_cli_looks.specs.Command.{text_of};
 ghost use Rattle.cacao_view_faults.specs.PlaceBy.{place_by};
-ghost use Rattle.cacao_view_explain.specs.Lines.{TellsPlace, name_part, place_line, pointer_line, step_line, step_lines, step_name, step_pointer};
+ghost use Rattle.cacao_view_explain.specs.Lines.{file_front, name_part, named_words, place_line, place_words, pointer_line, step_line, step_lines, step_name, step_pointer, text_line, told_line};
+ghost use Rattle.cacao_view_explain.specs.Plain.{shown, shown_byte};
 
 use cacao_cli_looks::FileText;
 use cacao_json::{Text, Tree, member, text_of};
@@ -12,30 +13,100 @@ use cacao_view_faults::{Place, place_behind};
 use cacao_view_report::Lines;
 use std::alloc::{AllocError, Global};
 
+// ---- words
+
+/// The words as they are shown: with a blank for each control character.
+fn shown(alloc: Global, words: &[u8]) -> Result<Vec<u8>, AllocError>
+    ensures { IfOk result (λ made. made.items ≡ shown words.now) }
+{
+    let mut made = Vec::new(alloc);
+    for n in 0..words.len() {
+        made.push(shown_byte(words[n]))?;
+    }
+    Ok(made)
+}
+
+fn shown_byte(byte: u8) -> u8
+    ensures { result ≡ shown_byte byte }
+{
+    if byte < 32 { b' ' } else { byte }
+}
+
+/// The name in quotation marks, as canonical text.
+pub(crate) fn quoted(alloc: Global, name: &str) -> Result<String, AllocError> {
+    let canonical = canonical_string(alloc, name)?;
+    String::from_utf8_lossy(alloc, canonical.as_slice())
+}
+
 // ---- a place
 
-fn place_line(alloc: Global, name: &str, place: Place, what: &str) -> Result<String, AllocError>
-    ensures { IfOk result (λ line. string_bytes line ≡ place_line name.now (place_by place) what.now) }
+/// A line on a file: its name, these words as they are, and others as they are shown.
+fn file_line(alloc: Global, name: &str, front: &str, what: &str) -> Result<Vec<u8>, AllocError>
+    ensures { IfOk result (λ line. line.items ≡ file_front name.now ++ ((front.now ++ shown what.now) ++ codes "\n")) }
+{
+    let mut line = Vec::from_slice(alloc, b"file ")?;
+    line.extend_from_slice(name.as_bytes())?;
+    let words = words_line(alloc, front, what)?;
+    line.extend_from_slice(words.as_slice())?;
+    Ok(line)
+}
+
+/// These words, others as they are shown, and a line feed.
+fn words_line(alloc: Global, front: &str, what: &str) -> Result<Vec<u8>, AllocError>
+    ensures { IfOk result (λ line. line.items ≡ (front.now ++ shown what.now) ++ codes "\n") }
+{
+    let mut line = Vec::from_slice(alloc, front.as_bytes())?;
+    let words = shown(alloc, what.as_bytes())?;
+    line.extend_from_slice(words.as_slice())?;
+    line.push(b'\n')?;
+    Ok(line)
+}
+
+fn place_words(alloc: Global, place: Place) -> Result<String, AllocError>
+    ensures { IfOk result (λ words. string_bytes words ≡ place_words (place_by place)) }
 {
     let line = place.line;
     let column = place.column;
-    format!(in alloc; "file {name} line {line} column {column}: {what}\n")
+    format!(in alloc; " line {line} column {column}: ")
 }
 
-/// A line that tells something of a place of a file; a place behind its end is the end.
-pub(crate) fn told_place(
+fn place_line(alloc: Global, name: &str, place: Place, what: &str) -> Result<Vec<u8>, AllocError>
+    ensures { IfOk result (λ line. line.items ≡ place_line name.now (place_by place) what.now) }
+{
+    let words = place_words(alloc, place)?;
+    file_line(alloc, name, words.as_str(), what)
+}
+
+/// A line that tells something of a place of a file.
+pub(crate) fn told_line(
     alloc: Global,
     text: &FileText<'_>,
     at: usize,
     what: &str,
-) -> Result<String, AllocError>
-    ensures { IfOk result (λ line. TellsPlace (text_of text.now) (string_bytes line)) }
+) -> Result<Vec<u8>, AllocError>
+    requires { at ≤ length (text_of text.now).bytes }
+    ensures { IfOk result (λ line. line.items ≡ told_line (text_of text.now) at what.now) }
 {
-    let bytes = text.bytes.as_slice();
-    let at = at.min(bytes.len());
-    let place = place_behind(bytes, at);
-    let line = place_line(alloc, text.name, place, what)?;
-    Ok(line)
+    let place = place_behind(text.bytes.as_slice(), at);
+    place_line(alloc, text.name, place, what)
+}
+
+/// A line that tells something of a file, and no place in it.
+pub(crate) fn text_line(
+    alloc: Global,
+    text: &FileText<'_>,
+    what: &str,
+) -> Result<Vec<u8>, AllocError>
+    ensures { IfOk result (λ line. line.items ≡ text_line (text_of text.now).name what.now) }
+{
+    file_line(alloc, text.name, ": ", what)
+}
+
+/// What is said of a name.
+pub(crate) fn named_words(alloc: Global, name: &str, says: &str) -> Result<String, AllocError>
+    ensures { IfOk result (λ words. string_bytes words ≡ named_words name.now says.now) }
+{
+    format!(in alloc; "{name} {says}")
 }
 
 // ---- a step
@@ -68,8 +139,9 @@ fn step_line(alloc: Global, key: &str, name: Option<&Text>) -> Result<Vec<u8>, A
     ensures { IfOk result (λ line. line.items ≡ step_line key.now (option_map (λ text. text.now) name.entry)) }
 {
     let part = name_part(alloc, name)?;
+    let key = shown(alloc, key.as_bytes())?;
     let mut line = Vec::from_slice(alloc, b"step ")?;
-    line.extend_from_slice(key.as_bytes())?;
+    line.extend_from_slice(key.as_slice())?;
     line.extend_from_slice(part.as_slice())?;
     line.push(b'\n')?;
     Ok(line)
@@ -91,7 +163,7 @@ pub(crate) fn step_lines(alloc: Global, root: &Tree, key: Option<&str>) -> Resul
 // ---- a path
 
 /// The pointer to a step, or to the playbook.
-fn step_pointer(alloc: Global, key: Option<&str>) -> Result<String, AllocError>
+pub(crate) fn step_pointer(alloc: Global, key: Option<&str>) -> Result<String, AllocError>
     ensures { IfOk result (λ pointer. string_bytes pointer ≡ step_pointer (option_map (λ text. text.now) key.entry)) }
 {
     match key {
@@ -100,18 +172,11 @@ fn step_pointer(alloc: Global, key: Option<&str>) -> Result<String, AllocError>
     }
 }
 
-/// The line with the pointer to a part of a step, or of the playbook.
-pub(crate) fn pointer_line(
-    alloc: Global,
-    key: Option<&str>,
-    part: &str,
-) -> Result<Vec<u8>, AllocError>
-    ensures { IfOk result (λ line. line.items ≡ pointer_line (step_pointer (option_map (λ text. text.now) key.entry) ++ part.now)) }
+/// The line with a pointer.
+pub(crate) fn pointer_line(alloc: Global, path: &str) -> Result<Vec<u8>, AllocError>
+    ensures { IfOk result (λ line. line.items ≡ pointer_line path.now) }
 {
-    let base = step_pointer(alloc, key)?;
-    let base = base.as_str();
-    let pointer = format!(in alloc; "{base}{part}")?;
-    let quoted = canonical_string(alloc, pointer.as_str())?;
+    let quoted = canonical_string(alloc, path)?;
     let mut line = Vec::from_slice(alloc, b"at ")?;
     line.extend_from_slice(quoted.as_slice())?;
     line.push(b'\n')?;

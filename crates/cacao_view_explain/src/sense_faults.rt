@@ -1,13 +1,11 @@
-// What breaks a rule of sense, K13 to K25.
+// What breaks a rule of sense, K14 to K21. K13 and K18 ask nothing of playbooks that are read.
+use crate::call_faults::called_by;
 use crate::spot::{Finding, Spot};
-use crate::step_tests::{argument_misfit, has_fitting_value, misfit_of, name_at, unsendable};
 use cacao_book::{Book, Step, find_place};
-use cacao_check_steps::{
-    call_of, commands_of, in_args_of, is_action, out_args_of, subject_of, version_of,
-};
+use cacao_check::value_fits;
+use cacao_check_steps::{subject_of, version_of};
 use cacao_json::{Text, Tree, member};
-use cacao_vars::{Name, Vars};
-use cacao_view_faults::scan::{find_from, value_end};
+use cacao_vars::{Var, Vars};
 use std::alloc::{AllocError, Global};
 
 /// A playbook among others, in the text of its file.
@@ -26,6 +24,14 @@ const LINKS: &[&str] = &[
     "on_true",
     "on_false",
 ];
+
+/// Whether the value of a variable, if it has one, is of its kind.
+fn has_fitting_value(var: &Var) -> bool {
+    match &var.worth {
+        Some(worth) => value_fits(&var.kind, worth.text()),
+        None => true,
+    }
+}
 
 impl<'a> Suspect<'a> {
     fn names_step(&self, key: &str) -> bool {
@@ -102,26 +108,12 @@ impl<'a> Suspect<'a> {
         rule: u8,
     ) -> Result<Finding, AllocError> {
         match rule {
-            13 => self.command_fault(alloc, spot, step),
             16 => self.link_fault(alloc, object, spot),
             17 => self.agent_fault(alloc, object, spot),
-            18 => self.at_member(
-                alloc,
-                spot,
-                "playbook_id",
-                "no playbook that is given has this identifier",
-            ),
             19 => self.version_fault(alloc, spot, step),
             20 => self.value_fault(alloc, spot, "step_variables", &step.variables),
             21 => self.condition_fault(alloc, spot, step),
-            22 => self.name_fault(alloc, spot, step),
-            23 => self.result_fault(alloc, spot, step),
-            24 => self.argument_fault(alloc, spot, step),
-            _ => Finding::of(
-                alloc,
-                spot,
-                "no path that goes on from this step ends, or the step stands in a branch of itself",
-            ),
+            _ => Finding::of(alloc, spot, "a rule is broken here"),
         }
     }
 
@@ -146,19 +138,6 @@ impl<'a> Suspect<'a> {
             }
         }
         Finding::of(alloc, spot, "a value is not a text of its variable's type")
-    }
-
-    /// A command that can't be sent.
-    fn command_fault(&self, alloc: Global, spot: Spot, step: &Step) -> Result<Finding, AllocError> {
-        let commands = commands_of(&step.kind);
-        let spot = spot.member(alloc, self.bytes, "commands")?;
-        for (number, command) in commands.iter().enumerate() {
-            if let Some(what) = unsendable(alloc, command)? {
-                let spot = spot.item(alloc, self.bytes, number)?;
-                return Finding::of(alloc, spot, what);
-            }
-        }
-        Finding::of(alloc, spot, "a command can't be sent")
     }
 
     /// A link that leads to no step.
@@ -247,27 +226,20 @@ impl<'a> Suspect<'a> {
         Finding::of(alloc, spot, "an agent or a target is not defined")
     }
 
-    /// The playbook that a step calls, if it is given.
-    fn called(&self, step: &Step) -> Option<&'a Book> {
-        let id = call_of(&step.kind)?;
-        for book in self.books {
-            if book.id.text() == id.text() {
-                return Some(book);
-            }
-        }
-        None
-    }
-
     fn version_fault(&self, alloc: Global, spot: Spot, step: &Step) -> Result<Finding, AllocError> {
         if let Some(version) = version_of(&step.kind) {
-            if let Some(book) = self.called(step) {
+            if let Some(book) = called_by(self.books, step) {
                 if book.modified.text() != version.text() {
                     let modified = book.modified.text();
                     let spot = spot.member(alloc, self.bytes, "playbook_version")?;
                     let what = format!(in alloc;
                         "the playbook that is given is of another version: its modified is {modified}"
                     )?;
-                    return Ok(Finding { spot, what });
+                    return Ok(Finding {
+                        spot,
+                        named: None,
+                        what,
+                    });
                 }
             }
         }
@@ -299,123 +271,5 @@ impl<'a> Suspect<'a> {
                 "this is not exactly one reference to a variable, as `__name__:value`",
             ),
         }
-    }
-
-    /// Whether a variable of this name is declared by a step, or by the playbook.
-    fn is_declared(&self, name: &Name) -> bool {
-        if self.book.variables.declares(name) {
-            return true;
-        }
-        for step in self.book.steps.as_slice() {
-            if step.variables.declares(name) {
-                return true;
-            }
-        }
-        false
-    }
-
-    /// The finding at the place at which a name stands in a step.
-    fn at_name(
-        &self,
-        alloc: Global,
-        spot: Spot,
-        name: &Name,
-        says: &str,
-    ) -> Result<Finding, AllocError> {
-        let end = value_end(self.bytes, spot.at);
-        let at = find_from(self.bytes, spot.at, end, name.text().as_bytes()).unwrap_or(spot.at);
-        let name = name.text();
-        let what = format!(in alloc; "{name} {says}")?;
-        Ok(Finding {
-            spot: spot.moved(at),
-            what,
-        })
-    }
-
-    /// A name that is not declared, or not wherever the step stands.
-    fn name_fault(&self, alloc: Global, spot: Spot, step: &Step) -> Result<Finding, AllocError> {
-        let end = value_end(self.bytes, spot.at);
-        let mut local = None;
-        for at in spot.at..end {
-            let Some(name) = name_at(alloc, self.bytes, at, end)? else {
-                continue;
-            };
-            if !self.is_declared(&name) {
-                return self.at_name(alloc, spot, &name, "is declared nowhere");
-            }
-            if !self.book.variables.declares(&name) && !step.variables.declares(&name) {
-                local = Some(name);
-            }
-        }
-        match local {
-            Some(name) => self.at_name(
-                alloc,
-                spot,
-                &name,
-                "is declared by other steps, and by none that encloses this one on each path",
-            ),
-            None => Finding::of(
-                alloc,
-                spot,
-                "a name that the step uses is not declared wherever it stands",
-            ),
-        }
-    }
-
-    /// Why a result is not written to the variable of this name; nothing where it is.
-    fn result_misfit(&self, step: &Step, name: &Name, number: usize) -> Option<&'static str> {
-        if let Some(var) = step.variables.find(name) {
-            return misfit_of(var, is_action(&step.kind), number);
-        }
-        if let Some(var) = self.book.variables.find(name) {
-            return misfit_of(var, is_action(&step.kind), number);
-        }
-        for other in self.book.steps.as_slice() {
-            if let Some(var) = other.variables.find(name) {
-                return misfit_of(var, is_action(&step.kind), number);
-            }
-        }
-        None
-    }
-
-    /// A result that is written to a constant, or to a variable of another kind.
-    fn result_fault(&self, alloc: Global, spot: Spot, step: &Step) -> Result<Finding, AllocError> {
-        for (number, name) in out_args_of(&step.kind).iter().enumerate() {
-            if let Some(says) = self.result_misfit(step, name, number) {
-                return self.at_name(alloc, spot, name, says);
-            }
-        }
-        Finding::of(
-            alloc,
-            spot,
-            "a variable in out_args is a constant, or of another type, where the step also stands",
-        )
-    }
-
-    /// An argument that the called playbook does not declare alike.
-    fn argument_fault(
-        &self,
-        alloc: Global,
-        spot: Spot,
-        step: &Step,
-    ) -> Result<Finding, AllocError> {
-        let Some(book) = self.called(step) else {
-            return Finding::of(alloc, spot, "the playbook that is called is not given");
-        };
-        for name in in_args_of(&step.kind) {
-            if let Some(says) = argument_misfit(book, name) {
-                return self.at_name(alloc, spot, name, says);
-            }
-        }
-        for name in out_args_of(&step.kind) {
-            if !book.variables.declares(name) {
-                return self.at_name(alloc, spot, name, "is not declared by the called playbook");
-            }
-        }
-        Finding::of(
-            alloc,
-            spot,
-            "an argument is of another type in the called playbook",
-        )
     }
 }

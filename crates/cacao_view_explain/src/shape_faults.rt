@@ -1,9 +1,9 @@
 // What breaks a rule of shape, K1 to K12.
+use crate::shape_parts::part_fault;
 use crate::spot::{Finding, Spot};
-use crate::wants::{Wants, has_content, is_argument, is_command, is_declaration, items_of};
+use crate::wants::Wants;
 use cacao_book_shape::some_text;
 use cacao_json::{Tree, member};
-use cacao_vars::Name;
 use std::alloc::{AllocError, Global};
 
 const K1: &[(&str, Wants)] = &[("type", Wants::Playbook), ("spec_version", Wants::Version)];
@@ -100,71 +100,14 @@ fn wanted_of_control(kind: &str) -> &'static [(&'static str, Wants)] {
     SWITCH
 }
 
-/// Goes from a value to the part of it that is at fault, if that is told apart.
-fn part_of(
-    alloc: Global,
-    bytes: &[u8],
-    spot: Spot,
-    value: &Tree,
-    wants: Wants,
-) -> Result<Spot, AllocError> {
-    match wants {
-        Wants::Variables => part_of_variables(alloc, bytes, spot, value),
-        Wants::Commands | Wants::Contents => part_of_commands(alloc, bytes, spot, value),
-        Wants::InArgs | Wants::OutArgs => part_of_arguments(alloc, bytes, spot, value),
-        _ => Ok(spot),
-    }
-}
-
-fn part_of_variables(
-    alloc: Global,
-    bytes: &[u8],
-    spot: Spot,
-    value: &Tree,
-) -> Result<Spot, AllocError> {
-    let Tree::Members(pairs) = value else {
-        return Ok(spot);
-    };
-    for pair in pairs.as_slice() {
-        if !Name::fits(pair.name.text()) || !is_declaration(&pair.tree) {
-            return spot.member(alloc, bytes, pair.name.text());
-        }
-    }
-    Ok(spot)
-}
-
-fn part_of_commands(
-    alloc: Global,
-    bytes: &[u8],
-    spot: Spot,
-    value: &Tree,
-) -> Result<Spot, AllocError> {
-    for (number, command) in items_of(value).iter().enumerate() {
-        if !is_command(command) || !has_content(alloc, command)? {
-            return spot.item(alloc, bytes, number);
-        }
-    }
-    Ok(spot)
-}
-
-fn part_of_arguments(
-    alloc: Global,
-    bytes: &[u8],
-    spot: Spot,
-    value: &Tree,
-) -> Result<Spot, AllocError> {
-    for (number, item) in items_of(value).iter().enumerate() {
-        if !is_argument(item) {
-            return spot.item(alloc, bytes, number);
-        }
-    }
-    Ok(spot)
-}
-
 /// What is said of a member that is not there.
 fn missing(alloc: Global, spot: Spot, name: &str, says: &str) -> Result<Finding, AllocError> {
     let what = format!(in alloc; "there is no member {name}: {says}")?;
-    Ok(Finding { spot, what })
+    Ok(Finding {
+        spot,
+        named: None,
+        what,
+    })
 }
 
 /// The finding at a member, if it is not as it is wanted.
@@ -180,19 +123,14 @@ fn misfit(
         if wants.may_be_absent() {
             return Ok(None);
         }
-        let here = Spot {
-            pointer: spot.pointer.clone()?,
-            at: spot.at,
-        };
-        let finding = missing(alloc, here, name, wants.says())?;
+        let finding = missing(alloc, spot.again(alloc)?, name, wants.says())?;
         return Ok(Some(finding));
     };
     if wants.fits(alloc, value)? {
         return Ok(None);
     }
     let spot = spot.member(alloc, bytes, name)?;
-    let spot = part_of(alloc, bytes, spot, value, wants)?;
-    let finding = Finding::of(alloc, spot, wants.says())?;
+    let finding = part_fault(alloc, bytes, spot, value, wants)?;
     Ok(Some(finding))
 }
 

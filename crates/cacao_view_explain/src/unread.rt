@@ -1,67 +1,181 @@
 // What is wrong in a text that has no tree.
-ghost use Rattle.std.specs.Prelude.{◌<◌, All, IfOk, length, map};
+ghost use Rattle.std.specs.Prelude.{◌≡◌, ◌≤◌, ℕ, ◌∷◌, [], IfOk, length, map};
+ghost use Rattle.cacao_json.specs.declared.error.JsonError.TheVariants.{NotJson, NotWhole, RepeatedName};
 ghost use Rattle.cacao_cli_looks.specs.Command.{text_of};
-ghost use Rattle.cacao_view_explain.specs.Tells.{TellsUnread, first_unread};
+ghost use Rattle.cacao_view_faults.specs.Kinds.{IsFaultAt};
+ghost use Rattle.cacao_view_faults.specs.Tokens.{IsBrokenNumber, IsTwice};
+ghost use Rattle.cacao_view_explain.specs.Lines.{text_line, told_line};
 ghost use Rattle.cacao_view_explain.specs.Reasons.{TellsReason};
-ghost use Rattle.cacao_view_explain.specs.Lines.{TellsPlace};
+ghost use Rattle.cacao_view_explain.specs.Tells.{TellsUnread, first_unread};
 
-use crate::lines::told_place;
+use crate::lines::{named_words, quoted, text_line, told_line};
 use cacao_cli_looks::FileText;
-use cacao_json::{JsonError, read_tree};
-use cacao_view_faults::{Twice, fault_in, name_twice, number_not_whole};
+use cacao_json::{JsonError, find_tree, read_tree, text_of};
+use cacao_view_faults::scan::string_end;
+use cacao_view_faults::{
+    Told, Twice, is_broken_number, is_twice, name_twice, number_not_whole, told_fault,
+};
 use cacao_view_report::Lines;
 use std::alloc::{AllocError, Global};
 
-/// What is said of a text where two names are one, and are not written alike.
-const TWICE: &str = "a name stands twice in one object, once with an escape: each name stands once";
+/// What is said of a text in which two names are one, where they are not found.
+const TWICE: &str =
+    "a name stands twice in one object, once with an escape perhaps: each name stands once";
+
+const TWICE_HERE: &str = "stands here, and once more in the same object:";
+
+const TWICE_THERE: &str = "here; each name stands once";
 
 const NOT_WHOLE: &str =
     "a number that is not whole, or past 9007199254740991: no fraction, no exponent and no -0 stand in a playbook";
 
+/// One line that tells something of a text, and no place in it.
+fn one_text(alloc: Global, text: &FileText<'_>, what: &str) -> Result<Lines, AllocError>
+    ensures { IfOk result (λ lines. lines ≡ text_line (text_of text.now).name what.now ∷ []) }
+{
+    let line = text_line(alloc, text, what)?;
+    let mut lines = Lines::new(alloc);
+    lines.push(line)?;
+    Ok(lines)
+}
+
+/// What is told where no place is known.
+fn no_place(alloc: Global, text: &FileText<'_>, what: &str) -> Result<Lines, AllocError>
+    ensures not_json { IfOk result (TellsReason (text_of text.now) NotJson) }
+    ensures repeated { (colons members : ℕ) → IfOk result (TellsReason (text_of text.now) (RepeatedName colons members)) }
+    ensures number { (index : ℕ) → IfOk result (TellsReason (text_of text.now) (NotWhole index)) }
+{
+    one_text(alloc, text, what)
+}
+
 /// One line that tells something of a place of a text.
 fn one_place(alloc: Global, text: &FileText<'_>, at: usize, what: &str) -> Result<Lines, AllocError>
-    ensures { IfOk result (λ lines. All (TellsPlace (text_of text.now)) lines × (0 < length lines)) }
+    requires { at ≤ length (text_of text.now).bytes }
+    ensures { IfOk result (λ lines. lines ≡ told_line (text_of text.now) at what.now ∷ []) }
 {
-    let line = told_place(alloc, text, at, what)?;
+    let line = told_line(alloc, text, at, what)?;
     let mut lines = Lines::new(alloc);
-    lines.push_text(line)?;
+    lines.push(line)?;
+    Ok(lines)
+}
+
+/// The line that tells where a text is not JSON, and what stands there.
+fn fault_line(alloc: Global, text: &FileText<'_>, told: Told) -> Result<Lines, AllocError>
+    requires { IsFaultAt (text_of text.now).bytes told.fault.at told.fault.what.now }
+    ensures { IfOk result (TellsReason (text_of text.now) NotJson) }
+{
+    one_place(alloc, text, told.fault.at, told.fault.what)
+}
+
+/// What is told of a text that is not JSON.
+fn not_json(alloc: Global, text: &FileText<'_>) -> Result<Lines, AllocError>
+    ensures { IfOk result (TellsReason (text_of text.now) NotJson) }
+{
+    let told = told_fault(alloc, text.bytes.as_slice())?;
+    if !told.placed {
+        return no_place(alloc, text, told.fault.what);
+    }
+    fault_line(alloc, text, told)
+}
+
+fn two_lines(alloc: Global, first: Vec<u8>, second: Vec<u8>) -> Result<Lines, AllocError>
+    ensures { IfOk result (λ lines. lines ≡ first.items ∷ second.items ∷ []) }
+{
+    let mut lines = Lines::new(alloc);
+    lines.push(first)?;
+    lines.push(second)?;
     Ok(lines)
 }
 
 /// The lines that tell where a name stands, and stands again.
-fn two_places(alloc: Global, text: &FileText<'_>, twice: Twice) -> Result<Lines, AllocError>
-    ensures { IfOk result (λ lines. All (TellsPlace (text_of text.now)) lines × (0 < length lines)) }
+fn two_places(
+    alloc: Global,
+    text: &FileText<'_>,
+    twice: Twice,
+    here: &str,
+    there: &str,
+) -> Result<Lines, AllocError>
+    requires first { twice.first ≤ length (text_of text.now).bytes }
+    requires second { twice.second ≤ length (text_of text.now).bytes }
+    requires twice { IsTwice (text_of text.now).bytes twice.first twice.second }
+    ensures { (colons members : ℕ) → IfOk result (TellsReason (text_of text.now) (RepeatedName colons members)) }
 {
-    let first = told_place(
-        alloc,
-        text,
-        twice.first,
-        "a name stands here, and once more in the same object:",
-    )?;
-    let second = told_place(alloc, text, twice.second, "here; each name stands once")?;
-    let mut lines = Lines::new(alloc);
-    lines.push_text(first)?;
-    lines.push_text(second)?;
+    let first = told_line(alloc, text, twice.first, here)?;
+    let second = told_line(alloc, text, twice.second, there)?;
+    let lines = two_lines(alloc, first, second)?;
     Ok(lines)
+}
+
+/// The name that stands at a place of a text, in quotation marks.
+fn name_in(alloc: Global, bytes: &[u8], at: usize) -> Result<String, AllocError> {
+    let end = string_end(bytes, at.saturating_add(1));
+    let Some(name) = bytes.get(at..end) else {
+        return String::from_str(alloc, "a name");
+    };
+    let Some(tree) = find_tree(alloc, name)? else {
+        return String::from_str(alloc, "a name");
+    };
+    match text_of(&tree) {
+        Some(name) => quoted(alloc, name.text()),
+        None => String::from_str(alloc, "a name"),
+    }
+}
+
+/// What is told of a text in which a name stands twice in one object.
+fn repeated(
+    alloc: Global,
+    text: &FileText<'_>,
+    colons: u32,
+    members: u32,
+) -> Result<Lines, AllocError>
+    ensures { IfOk result (TellsReason (text_of text.now) (RepeatedName colons members)) }
+{
+    let Some(twice) = name_twice(alloc, text.bytes.as_slice())? else {
+        return no_place(alloc, text, TWICE);
+    };
+    if !is_twice(alloc, text.bytes.as_slice(), twice)? {
+        return no_place(alloc, text, TWICE);
+    }
+    let name = name_in(alloc, text.bytes.as_slice(), twice.first)?;
+    let here = named_words(alloc, name.as_str(), TWICE_HERE)?;
+    two_places(alloc, text, twice, here.as_str(), TWICE_THERE)
+}
+
+/// The line that tells where a number stands that is not whole.
+fn number_line(
+    alloc: Global,
+    text: &FileText<'_>,
+    at: usize,
+    what: &str,
+) -> Result<Lines, AllocError>
+    requires within { at ≤ length (text_of text.now).bytes }
+    requires number { IsBrokenNumber (text_of text.now).bytes at }
+    ensures { (index : ℕ) → IfOk result (TellsReason (text_of text.now) (NotWhole index)) }
+{
+    one_place(alloc, text, at, what)
+}
+
+/// What is told of a text with a number that is not whole.
+fn not_whole(alloc: Global, text: &FileText<'_>, index: u32) -> Result<Lines, AllocError>
+    ensures { IfOk result (TellsReason (text_of text.now) (NotWhole index)) }
+{
+    let Some(at) = number_not_whole(text.bytes.as_slice()) else {
+        return no_place(alloc, text, NOT_WHOLE);
+    };
+    if !is_broken_number(alloc, text.bytes.as_slice(), at)? {
+        return no_place(alloc, text, NOT_WHOLE);
+    }
+    number_line(alloc, text, at, NOT_WHOLE)
 }
 
 /// What is wrong in a text that has no tree for this reason.
 fn reason_lines(alloc: Global, text: &FileText<'_>, error: JsonError) -> Result<Lines, AllocError>
     ensures { IfOk result (TellsReason (text_of text.now) error) }
 {
-    let bytes = text.bytes.as_slice();
     match error {
-        JsonError::NotJson => {
-            let fault = fault_in(alloc, bytes)?;
-            one_place(alloc, text, fault.at, fault.what)
-        }
-        JsonError::RepeatedName { .. } => match name_twice(alloc, bytes)? {
-            Some(twice) => two_places(alloc, text, twice),
-            None => one_place(alloc, text, 0, TWICE),
-        },
-        JsonError::NotWhole { .. } => {
-            one_place(alloc, text, number_not_whole(bytes).unwrap_or(0), NOT_WHOLE)
-        }
+        JsonError::NotJson => not_json(alloc, text),
+        JsonError::RepeatedName { colons, members } => repeated(alloc, text, colons, members),
+        JsonError::NotWhole { index } => not_whole(alloc, text, index),
         JsonError::Memory => Err(AllocError),
     }
 }

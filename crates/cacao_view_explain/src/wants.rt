@@ -116,7 +116,8 @@ fn is_short(tree: &Tree, most: usize) -> bool {
     }
 }
 
-fn is_id_text(alloc: Global, text: &str) -> Result<bool, AllocError> {
+/// Whether the text is an identifier.
+pub(crate) fn is_id_text(alloc: Global, text: &str) -> Result<bool, AllocError> {
     let id = Id::read(alloc, text)?;
     Ok(id.is_some())
 }

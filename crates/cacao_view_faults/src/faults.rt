@@ -2,9 +2,9 @@
 ghost use Rattle.std.specs.Prelude.{◌≡◌, ◌≤◌, ◌<◌, ◌+◌, ℕ, IfOk, IfSome, length};
 ghost use Rattle.cacao_view_faults.specs.Nexts.{IsWithin};
 
+use crate::kinds::{COMMENT, CONTROL, ESCAPE, SINGLE_QUOTE, TRAILING_COMMA};
 use crate::scan::{byte_at, skip_space, stands_at, string_end, word_end};
 use std::alloc::{AllocError, Global};
-use std::str;
 
 /// The most levels of a text.
 const MOST_LEVELS: usize = 127;
@@ -131,16 +131,10 @@ fn string_fault(bytes: &[u8], from: usize, end: usize) -> Option<Fault>
     for at in from..end {
         let byte = byte_at(bytes, at);
         if escaped && !is_escape(bytes, at) {
-            return Some(Fault {
-                at,
-                what: "no escape begins so: \\\" \\\\ \\/ \\b \\f \\n \\r \\t and \\u with four hexadecimal digits do",
-            });
+            return Some(Fault { at, what: ESCAPE });
         }
         if byte < 32 {
-            return Some(Fault {
-                at,
-                what: "a line break or another control character stands within a text: write \\n for a line break",
-            });
+            return Some(Fault { at, what: CONTROL });
         }
         closed = !escaped && byte == b'"';
         escaped = !escaped && byte == b'\\';
@@ -155,7 +149,7 @@ fn string_fault(bytes: &[u8], from: usize, end: usize) -> Option<Fault>
     }
 }
 
-fn is_digit(byte: u8) -> bool {
+pub(crate) fn is_digit(byte: u8) -> bool {
     byte >= b'0' && byte <= b'9'
 }
 
@@ -230,7 +224,7 @@ fn word_fault(bytes: &[u8], at: usize, end: usize) -> Option<Fault>
     }
     let byte = byte_at(bytes, at);
     let what = if byte == b'\'' {
-        "single quotes: a text stands in double quotes"
+        SINGLE_QUOTE
     } else if byte == b'-' || byte == b'+' || byte == b'.' || is_digit(byte) {
         "no number is written so: it has no + before it, no leading zero, and digits on both sides of a point"
     } else if byte == b'T' || byte == b'F' || byte == b'N' {
@@ -347,15 +341,12 @@ fn step(
 {
     let byte = byte_at(bytes, at);
     if byte == b'/' || byte == b'#' {
-        return Ok(stops(at, "a comment: JSON has none"));
+        return Ok(stops(at, COMMENT));
     }
     match expected {
         Expected::Value => {
             if byte == b']' && last_open(stack.as_slice()) == b'[' {
-                return Ok(stops(
-                    at,
-                    "a trailing comma: a value was expected behind the last comma",
-                ));
+                return Ok(stops(at, TRAILING_COMMA));
             }
             value(bytes, at, expected, stack)
         }
@@ -367,10 +358,7 @@ fn step(
         }
         Expected::Name => {
             if byte == b'}' {
-                return Ok(stops(
-                    at,
-                    "a trailing comma: a name was expected behind the last comma",
-                ));
+                return Ok(stops(at, TRAILING_COMMA));
             }
             Ok(name(bytes, at, expected))
         }
@@ -392,7 +380,7 @@ fn step(
 }
 
 /// The first thing that is wrong in a text in UTF-8, as JSON; nothing where none is found.
-fn syntax_fault(alloc: Global, bytes: &[u8]) -> Result<Option<Fault>, AllocError>
+pub(crate) fn syntax_fault(alloc: Global, bytes: &[u8]) -> Result<Option<Fault>, AllocError>
     ensures { IfOk result (λ found. IfSome found (λ fault. fault.at ≤ length bytes.now)) }
 {
     let mut stack = Vec::new(alloc);
@@ -421,51 +409,4 @@ fn syntax_fault(alloc: Global, bytes: &[u8]) -> Result<Option<Fault>, AllocError
         }
     }
     Ok(None)
-}
-
-/// What is wrong with how the text is encoded.
-fn encoding_fault(bytes: &[u8]) -> Option<Fault>
-    ensures { IfSome result (λ fault. fault.at ≤ length bytes.now) }
-{
-    let first = byte_at(bytes, 0);
-    let second = byte_at(bytes, 1);
-    if stands_at(bytes, 0, b"\xef\xbb\xbf") {
-        return Some(Fault {
-            at: 0,
-            what: "a byte-order mark stands before the text: save it as UTF-8 without one",
-        });
-    }
-    if (first == 254 && second == 255) || (first == 255 && second == 254) {
-        return Some(Fault {
-            at: 0,
-            what: "the text is in UTF-16: save it as UTF-8",
-        });
-    }
-    if bytes.len() >= 2 && (first == 0 || second == 0) {
-        return Some(Fault {
-            at: 0,
-            what: "the text is in UTF-16 or UTF-32: save it as UTF-8",
-        });
-    }
-    match str::from_utf8(bytes) {
-        Ok(_) => None,
-        Err(error) => Some(Fault {
-            at: error.valid_up_to(),
-            what: "a byte that is not of UTF-8 stands here: save the text as UTF-8",
-        }),
-    }
-}
-
-/// What is wrong in a text that is not JSON: the first thing that is found. Its place is counted in bytes, and stands within the text or at its end.
-pub fn fault_in(alloc: Global, bytes: &[u8]) -> Result<Fault, AllocError>
-    ensures { IfOk result (λ fault. fault.at ≤ length bytes.now) }
-{
-    if let Some(fault) = encoding_fault(bytes) {
-        return Ok(fault);
-    }
-    let found = syntax_fault(alloc, bytes)?;
-    Ok(found.unwrap_or(Fault {
-        at: 0,
-        what: "the text has an escape of half a character, or a number that is too large",
-    }))
 }

@@ -1,13 +1,22 @@
-// Where parts of a JSON text stand. No call here takes memory.
-ghost use Rattle.std.specs.Prelude.{◌≤◌, ◌<◌, IfSome, length};
+// Where parts of a JSON text stand.
+ghost use Rattle.std.specs.Prelude.{◌≡◌, ◌≤◌, IfOk, IfSome, length};
+ghost use Rattle.cacao_view_faults.specs.Kinds.{is_of_word};
+ghost use Rattle.cacao_view_faults.specs.Stands.{byte_at, is_space};
+
+use cacao_json::{find_tree, text_of};
+use std::alloc::{AllocError, Global};
 
 /// White space of JSON.
-pub fn is_space(byte: u8) -> bool {
+pub fn is_space(byte: u8) -> bool
+    ensures { result ≡ is_space byte }
+{
     byte == b' ' || byte == b'\t' || byte == b'\n' || byte == b'\r'
 }
 
 /// The byte at a place; 0 past the end.
-pub fn byte_at(bytes: &[u8], at: usize) -> u8 {
+pub fn byte_at(bytes: &[u8], at: usize) -> u8
+    ensures { result ≡ byte_at bytes.now at }
+{
     match bytes.get(at) {
         Some(byte) => *byte,
         None => 0,
@@ -41,9 +50,18 @@ pub fn string_end(bytes: &[u8], from: usize) -> usize
     bytes.len()
 }
 
-/// Whether the byte ends a word or a number.
-fn ends_word(byte: u8) -> bool {
-    is_space(byte) || byte == b',' || byte == b':' || byte == b'}' || byte == b']'
+/// Whether the byte is one of a word or a number: no white space, and none that begins, ends or parts other values.
+pub fn is_of_word(byte: u8) -> bool
+    ensures { result ≡ is_of_word byte }
+{
+    !(is_space(byte)
+        || byte == b'"'
+        || byte == b','
+        || byte == b':'
+        || byte == b'['
+        || byte == b']'
+        || byte == b'{'
+        || byte == b'}')
 }
 
 /// The place behind the word or number that begins at this place.
@@ -51,7 +69,7 @@ pub fn word_end(bytes: &[u8], from: usize) -> usize
     ensures { result ≤ length bytes.now }
 {
     for at in from..bytes.len() {
-        if ends_word(bytes[at]) {
+        if !is_of_word(bytes[at]) {
             return at;
         }
     }
@@ -111,34 +129,61 @@ fn next_part(bytes: &[u8], value: usize) -> Option<usize>
     }
 }
 
-/// Whether these bytes, which stand between quotation marks, are this name as it is.
-fn is_name(bytes: &[u8], from: usize, end: usize, name: &str) -> bool {
-    match bytes.get(from..end) {
-        Some(found) => found == name.as_bytes(),
-        None => false,
+/// Whether the string that stands from a place on and before another, with its quotation marks, is this name.
+fn is_name(
+    alloc: Global,
+    bytes: &[u8],
+    from: usize,
+    end: usize,
+    name: &str,
+) -> Result<bool, AllocError> {
+    let Some(found) = bytes.get(from.saturating_add(1)..end.saturating_sub(1)) else {
+        return Ok(false);
+    };
+    if found == name.as_bytes() {
+        return Ok(true);
+    }
+    if !found.iter().any(|byte| *byte == b'\\') {
+        return Ok(false);
+    }
+    let Some(quoted) = bytes.get(from..end) else {
+        return Ok(false);
+    };
+    let Some(tree) = find_tree(alloc, quoted)? else {
+        return Ok(false);
+    };
+    match text_of(&tree) {
+        Some(text) => Ok(text.text() == name),
+        None => Ok(false),
     }
 }
 
-/// The place of the value of the member with this name, of the object that begins at a place. A name that is written with escapes is
-/// not found.
-pub fn member_at(bytes: &[u8], object: usize, name: &str) -> Option<usize>
-    ensures { IfSome result (λ at. at ≤ length bytes.now) }
+/// The place of the value of the member with this name, of the object that begins at a place.
+pub fn member_at(
+    alloc: Global,
+    bytes: &[u8],
+    object: usize,
+    name: &str,
+) -> Result<Option<usize>, AllocError>
+    ensures { IfOk result (λ found. IfSome found (λ at. at ≤ length bytes.now)) }
 {
     let mut at = skip_space(bytes, object.saturating_add(1));
     for _ in 0..bytes.len() {
         if byte_at(bytes, at) != b'"' {
-            return None;
+            return Ok(None);
         }
-        let begin = at.saturating_add(1);
-        let end = string_end(bytes, begin);
+        let end = string_end(bytes, at.saturating_add(1));
         let colon = skip_space(bytes, end);
         let value = skip_space(bytes, colon.saturating_add(1));
-        if is_name(bytes, begin, end.saturating_sub(1), name) {
-            return Some(value);
+        if is_name(alloc, bytes, at, end, name)? {
+            return Ok(Some(value));
         }
-        at = next_part(bytes, value)?;
+        at = match next_part(bytes, value) {
+            Some(next) => next,
+            None => return Ok(None),
+        };
     }
-    None
+    Ok(None)
 }
 
 /// The place of an item, by its number, of the array that begins at a place.
@@ -152,22 +197,27 @@ pub fn item_at(bytes: &[u8], array: usize, number: usize) -> Option<usize>
     Some(at)
 }
 
+/// The place of the name, with its quotation marks, of the member whose value begins at a place, of the object that begins at another.
+pub fn name_at(bytes: &[u8], object: usize, wanted: usize) -> Option<usize> {
+    let mut at = skip_space(bytes, object.saturating_add(1));
+    for _ in 0..bytes.len() {
+        if byte_at(bytes, at) != b'"' {
+            return None;
+        }
+        let colon = skip_space(bytes, string_end(bytes, at.saturating_add(1)));
+        let value = skip_space(bytes, colon.saturating_add(1));
+        if value == wanted {
+            return Some(at);
+        }
+        at = next_part(bytes, value)?;
+    }
+    None
+}
+
 /// Whether these bytes stand at a place.
 pub fn stands_at(bytes: &[u8], at: usize, word: &[u8]) -> bool {
     match bytes.get(at..at.saturating_add(word.len())) {
         Some(found) => found == word,
         None => false,
     }
-}
-
-/// The first place from one on, and before another, at which these bytes stand.
-pub fn find_from(bytes: &[u8], from: usize, end: usize, word: &[u8]) -> Option<usize>
-    ensures { IfSome result (λ at. at < end) }
-{
-    for at in from..end {
-        if stands_at(bytes, at, word) {
-            return Some(at);
-        }
-    }
-    None
 }

@@ -3,6 +3,7 @@ ghost use Rattle.std.specs.Prelude.{◌≤◌, IfOk, IfSome, length};
 
 use crate::scan::{byte_at, is_space, skip_space, string_end, word_end};
 use std::alloc::{AllocError, Global};
+use std::collections::BTreeMap;
 
 /// Where a name stands: the place of its text, and the place behind it.
 #[derive(Clone, Copy)]
@@ -26,30 +27,17 @@ fn text_of(bytes: &[u8], span: Span) -> &[u8] {
     }
 }
 
-/// The span among these with the same bytes.
-fn same_in(bytes: &[u8], spans: &[Span], span: Span) -> Option<Span> {
-    let text = text_of(bytes, span);
-    for other in spans {
-        if other.end.wrapping_sub(other.from) == span.end.wrapping_sub(span.from) {
-            if text_of(bytes, *other) == text {
-                return Some(*other);
-            }
-        }
-    }
-    None
-}
-
-/// The names of the objects that are open, each list those of one object or array.
+/// The names of the objects that are open, each map those of one object or array, with the places of their texts.
 #[derive(Drop)]
-struct Levels {
-    levels: Vec<Vec<Span>>,
+struct Levels<'a> {
+    levels: Vec<BTreeMap<&'a [u8], usize>>,
 }
 
-impl Levels {
+impl<'a> Levels<'a> {
     /// Takes the brackets along.
     fn bracket(&mut self, alloc: Global, byte: u8) -> Result<(), AllocError> {
         if byte == b'{' || byte == b'[' {
-            self.levels.push(Vec::new(alloc))?;
+            self.levels.push(BTreeMap::new(alloc))?;
         }
         if byte == b'}' || byte == b']' {
             let _ = self.levels.pop();
@@ -57,14 +45,13 @@ impl Levels {
         Ok(())
     }
 
-    /// Takes a name along; the span with the same bytes in its object, if there is one.
-    fn name(&mut self, bytes: &[u8], span: Span) -> Result<Option<Span>, AllocError> {
-        let Some(mut spans) = self.levels.pop() else {
+    /// Takes a name along; the place of the same bytes in its object, if they stand there.
+    fn name(&mut self, bytes: &'a [u8], span: Span) -> Result<Option<usize>, AllocError> {
+        let Some(mut names) = self.levels.pop() else {
             return Ok(None);
         };
-        let same = same_in(bytes, spans.as_slice(), span);
-        spans.push(span)?;
-        self.levels.push(spans)?;
+        let same = names.insert(text_of(bytes, span), span.from)?;
+        self.levels.push(names)?;
         Ok(same)
     }
 }
@@ -95,7 +82,7 @@ pub fn name_twice(alloc: Global, bytes: &[u8]) -> Result<Option<Twice>, AllocErr
         if byte_at(bytes, skip_space(bytes, behind)) == b':' {
             if let Some(first) = levels.name(bytes, span)? {
                 return Ok(Some(Twice {
-                    first: first.from.saturating_sub(1).min(at),
+                    first: first.saturating_sub(1).min(at),
                     second: at,
                 }));
             }

@@ -4,11 +4,10 @@ use Rattle.std.proofs.lemmas.List.{drop_all}
 use Rattle.std.proofs.lemmas.Result.{IfOk-weaker}
 use Rattle.cacao_json.specs.Refusals.{IsAnswerOrMemory, answer}
 use Rattle.cacao_json.specs.Tree.{data_of}
-use Rattle.cacao_cli_ends.specs.Files.{NamedText}
 use Rattle.cacao_cli_looks.specs.Command.{text_of}
 use Rattle.cacao_cli_looks.specs.declared.file_text.FileText.{FileText}
 use Rattle.cacao_view_explain.specs.Reasons.{TellsReason}
-use Rattle.cacao_view_explain.specs.Tells.{TellsUnread, first_unread}
+use Rattle.cacao_view_explain.specs.Tells.{TellsUnread, Unread, first_unread}
 use Rattle.cacao_view_explain.proofs.UnreadLemmas.{read_at, unread_at}
 use Rattle.cacao_view_explain.proofs.unread.unread_lines.Goals as goal
 
@@ -32,4 +31,4 @@ returns c =
     let texts : List FileText = c.args.texts.now in
     let past : drop c.loop-text.text-index texts ≡ [] = drop_all c.loop-text.text-index texts c.loop-text-test.false in
     let none : first_unread (map text_of texts) ≡ None = sym c.loop-text.invariant ∙ ap (λ (l : List FileText). first_unread (map text_of l)) past in
-    subst (λ (o : Option NamedText). TellsUnread o c.new.result) (sym none) c.new.ensures
+    subst (λ (o : Option Unread). TellsUnread o c.new.result) (sym none) c.new.ensures

@@ -1,0 +1,11 @@
+use Rattle.std.proofs.lemmas.Result.{IfOk-weaker}
+use Rattle.cacao_json.specs.declared.error.JsonError.TheVariants.{NotWhole}
+use Rattle.cacao_cli_looks.specs.Command.{text_of}
+use Rattle.cacao_view_explain.specs.Reasons.{TellsReason}
+use Rattle.cacao_view_explain.proofs.UnreadLemmas.{tells_number}
+use Rattle.cacao_view_explain.proofs.unread.number_line.Goals as goal
+
+pub returns : goal.returns
+returns c = λ index.
+    IfOk-weaker c.one_place.result _ (TellsReason (text_of c.args.text.now) (NotWhole index))
+    (λ lines are. tells_number (text_of c.args.text.now) c.args.at index c.args.what.now lines c.requires.number are) c.one_place.ensures
