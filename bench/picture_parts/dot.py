@@ -18,10 +18,12 @@ NEXT = ("on_completion", "on_success", "on_failure")
 
 
 def shown(character):
-    """Of a control character but the line feed its symbol."""
+    """Of a control character but the line feed its symbol; of U+FFFE and U+FFFF, which XML has not, U+FFFD."""
     code = ord(character)
     if code == 127:
         return "\u2421"
+    if code in (0xFFFE, 0xFFFF):
+        return "\ufffd"
     return chr(0x2400 + code) if code < 32 and code != 10 else character
 
 

@@ -6,7 +6,8 @@ KINDS = ("action", "parallel", "if-condition", "while-condition", "switch-condit
 HOSTILE = [
     '"', "\\", "\\\\", '\\"', "\\N", "\\G\\E\\L", "&", "&amp;", "&#34;", "&lt;b&gt;", "<b>bold</b>", "<", ">", "]", "[", "}", "{", ";", "|",
     "->", "--", "\n", "\r", "\r\n", "\t", "\0", "\x01", "\x1b[31m", "\x7f", "\u00e9", "\u20ac", "\U0001f600", "\u202e", "\ufeff", "\u2028",
-    "\ud7ff", "strict", "digraph {", "subgraph", '"]; evil [label="', "// x", "/* x */", "# x", " ", "%s%n", "label=x", "\\l\\r", "a" * 300,
+    "\ud7ff", "\ufffe", "\uffff", "\ufffd", "\uffef\u10ff", "strict", "digraph {", "subgraph", '"]; evil [label="', "// x", "/* x */", "# x",
+    " ", "%s%n", "label=x", "\\l\\r", "a" * 300,
 ]
 
 

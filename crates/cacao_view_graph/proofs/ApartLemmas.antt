@@ -52,23 +52,23 @@ rising_found : (o : Option Members) → IsRising (option_map_or (λ ms. in_order
 rising_found None = tt
 rising_found (Some ms) = rising_fold [] (members_in ms) tt
 
-rising_steps : (t : Data) → IsRising (workflow t)
+pub rising_steps : (t : Data) → IsRising (workflow t)
 rising_steps t = rising_found (option_and_then as_object (get (codes "workflow") t))
 
 -- ---- steps are apart
 
-unlike_both : (x : Place) (xs ys : List Place) → AllByRecursion (λ (y : Place). x ≢ y) xs → AllByRecursion (λ (y : Place). x ≢ y) ys → AllByRecursion (λ (y : Place). x ≢ y) (xs ++ ys)
+unlike_both : {A : Type 0} (x : A) (xs ys : List A) → AllByRecursion (λ (y : A). x ≢ y) xs → AllByRecursion (λ (y : A). x ≢ y) ys → AllByRecursion (λ (y : A). x ≢ y) (xs ++ ys)
 unlike_both x [] ys h k = k
 unlike_both x (z ∷ zs) ys h k = (h.0, unlike_both x zs ys h.1 k)
 
-apart_append : (xs ys : List Place) → AreApart xs → AreApart ys → AllByRecursion (λ (x : Place). AllByRecursion (λ (y : Place). x ≢ y) ys) xs → AreApart (xs ++ ys)
+pub apart_append : {A : Type 0} (xs ys : List A) → AreApart xs → AreApart ys → AllByRecursion (λ (x : A). AllByRecursion (λ (y : A). x ≢ y) ys) xs → AreApart (xs ++ ys)
 apart_append [] ys h k between = k
 apart_append (x ∷ xs) ys h k between = (unlike_both x xs ys h.0 between.0, apart_append xs ys h.1 k between.1)
 
 less_unlike : Less ≡ Equal → ⊥
 less_unlike e = cc
 
-before_unlike : (a b : List ℕ) → IsBefore a b → a ≢ b
+pub before_unlike : (a b : List ℕ) → IsBefore a b → a ≢ b
 before_unlike a b before same =
     let tied : slice_cmp nat_cmp a a ≡ Equal = tied_itself nat_list_cmp_total a in
     let less : slice_cmp nat_cmp a a ≡ Less = subst (λ c. slice_cmp nat_cmp a c ≡ Less) (sym same) before in
@@ -88,11 +88,11 @@ keys_apart : (number : ℕ) (ms : List (List ℕ × Data)) → IsRising ms → A
 keys_apart number [] h = tt
 keys_apart number (m ∷ ms) h = (key_apart number m.0 ms h.0, keys_apart number ms h.1)
 
--- the steps of later playbooks
-abbrev FromOn : ℕ → List Place → Type 0
-FromOn number ps = AllByRecursion (λ (p : Place). number ≤ p.0) ps
+-- what is of later playbooks
+abbrev pub FromOn : {A : Type 0} → ℕ → List (ℕ × A) → Type 0
+FromOn {A} number ps = AllByRecursion (λ (p : ℕ × A). number ≤ p.0) ps
 
-weaker : (number : ℕ) (ps : List Place) → FromOn (suc number) ps → FromOn number ps
+pub weaker : {A : Type 0} (number : ℕ) (ps : List (ℕ × A)) → FromOn (suc number) ps → FromOn number ps
 weaker number [] h = tt
 weaker number (p ∷ ps) h = (omega (arith, h.0), weaker number ps h.1)
 
@@ -104,16 +104,16 @@ later_numbers : (number : ℕ) (ts : List Data) → FromOn number (steps_from nu
 later_numbers number [] = tt
 later_numbers number (t ∷ ts) = own_number number (workflow t) (steps_from (suc number) ts) (weaker number (steps_from (suc number) ts) (later_numbers (suc number) ts))
 
-other_number : (number : ℕ) (key : List ℕ) (p : Place) → suc number ≤ p.0 → place_at number key ≢ p
-other_number number key p more e = let same : number ≡ p.0 = ap (λ (q : Place). q.0) e in omega (arith, more)
+other_number : {A : Type 0} (x p : ℕ × A) → suc x.0 ≤ p.0 → x ≢ p
+other_number {A} x p more e = let same : x.0 ≡ p.0 = ap (λ (q : ℕ × A). q.0) e in omega (arith, more)
 
-number_apart : (number : ℕ) (key : List ℕ) (ps : List Place) → FromOn (suc number) ps → AllByRecursion (λ (y : Place). place_at number key ≢ y) ps
-number_apart number key [] h = tt
-number_apart number key (p ∷ ps) h = (other_number number key p h.0, number_apart number key ps h.1)
+pub number_apart : {A : Type 0} (x : ℕ × A) (ps : List (ℕ × A)) → FromOn (suc x.0) ps → AllByRecursion (λ (y : ℕ × A). x ≢ y) ps
+number_apart x [] h = tt
+number_apart x (p ∷ ps) h = (other_number x p h.0, number_apart x ps h.1)
 
 numbers_apart : (number : ℕ) (ms : List (List ℕ × Data)) (ps : List Place) → FromOn (suc number) ps → AllByRecursion (λ (x : Place). AllByRecursion (λ (y : Place). x ≢ y) ps) (keyed number ms)
 numbers_apart number [] ps h = tt
-numbers_apart number (m ∷ ms) ps h = (number_apart number m.0 ps h, numbers_apart number ms ps h)
+numbers_apart number (m ∷ ms) ps h = (number_apart (place_at number m.0) ps h, numbers_apart number ms ps h)
 
 steps_apart : (number : ℕ) (ts : List Data) → AreApart (steps_from number ts)
 steps_apart number [] = tt
@@ -126,7 +126,7 @@ nodes_apart trees = steps_apart 0 trees
 
 -- ---- and so are their names
 
-abbrev IsSolid : List ℕ → Type 0
+abbrev pub IsSolid : List ℕ → Type 0
 IsSolid bytes = All (λ b. b ≢ 32) bytes
 
 one_digit : (n : ℕ) → n < 10 → IsSolid ((48 + n) ∷ [])
@@ -135,13 +135,13 @@ one_digit n lt = All-cons (λ b. b ≢ 32) (48 + n) [] (λ e. omega (arith, e)) 
 more_digits : (n : ℕ) (ds : List ℕ) → 10 ≤ n → IsSolid ds → IsSolid (ds ++ ((48 + n % 10) ∷ []))
 more_digits n ds low h = All-append (λ b. b ≢ 32) ds ((48 + n % 10) ∷ []) h (All-cons (λ b. b ≢ 32) (48 + n % 10) [] (λ e. omega (arith, e)) (All-nil (λ b. b ≢ 32)))
 
-solid_number : (n : ℕ) → n < 2 ^ 64 → IsSolid (decimal n)
+pub solid_number : (n : ℕ) → n < 2 ^ 64 → IsSolid (decimal n)
 solid_number n small = decimal_by_steps (λ _ ds. IsSolid ds) one_digit more_digits n small
 
-same_head : (a b : ℕ) (k l : List ℕ) → a ∷ k ≡ b ∷ l → a ≡ b
+pub same_head : (a b : ℕ) (k l : List ℕ) → a ∷ k ≡ b ∷ l → a ≡ b
 same_head a b k l e = cc
 
-same_tail : (a b : ℕ) (k l : List ℕ) → a ∷ k ≡ b ∷ l → k ≡ l
+pub same_tail : (a b : ℕ) (k l : List ℕ) → a ∷ k ≡ b ∷ l → k ≡ l
 same_tail a b k l e = cc
 
 same_list : (a b : ℕ) (k l : List ℕ) → a ≡ b → k ≡ l → a ∷ k ≡ b ∷ l

@@ -15,6 +15,7 @@ use Rattle.cacao_view_graph.specs.Pictures.{picture_of}
 use Rattle.cacao_view_graph.specs.Quoting.{quoted}
 use Rattle.cacao_view_graph.specs.Statements.{Place, Statement, cluster, cluster_text, edge, edge_text, frame, head_text, inside_text, line_of, node, node_text, pale_text, place_text, within}
 use Rattle.cacao_view_graph.proofs.ApartLemmas.{names_apart, nodes_apart}
+use Rattle.cacao_view_graph.proofs.AreaLemmas.{areas_apart, areas_named_apart}
 use Rattle.cacao_view_graph.proofs.DrawLemmas.{clusters_are, edges_are, nodes_are}
 use Rattle.cacao_view_graph.proofs.JoinLemmas.{edges_join}
 use Rattle.cacao_view_graph.proofs.QuoteLemmas.{IsClean, clean_append, clean_quoted, clean_test, quoted_read, shown_plain}
@@ -151,6 +152,8 @@ picture_law = record {
   clusters = clusters_are;
   apart = nodes_apart;
   named_apart = names_apart;
+  areas_apart = areas_apart;
+  areas_named_apart = areas_named_apart;
   joined = edges_join;
   read = quoted_read;
   plain = shown_plain;

@@ -1,4 +1,5 @@
 pub mod ApartLemmas
+pub mod AreaLemmas
 pub mod DrawLemmas
 pub mod HomeLemmas
 pub mod JoinLemmas

@@ -1,9 +1,13 @@
 -- Lines that are added one after another.
-use Rattle.std.proofs.Common.{◌≡◌, ◌∙◌, ℕ, suc, ◌+◌, ◌<◌, ◌≤◌, List, [], ◌∷◌, ◌++◌, length, get_or, drop, map, refl, sym, ap, append_assoc, append-nil, arith}
+use Rattle.std.proofs.Common.{◌≡◌, ◌∙◌, Bool, Some, true, ℕ, suc, ◌+◌, ◌<◌, ◌≤◌, List, [], ◌∷◌, ◌++◌, length, get_or, drop, map, refl, sym, ap, append_assoc, append-nil, arith}
+use Rattle.std.specs.Prelude.{codes, if◌then◌else◌}
 use Rattle.std.proofs.lemmas.List.{drop_all, drop_more, map-append}
+use Rattle.serde_json.specs.Data.{Data}
+use Rattle.cacao_book.specs.Books.{step_of}
 use Rattle.cacao_book.specs.declared.books.Book.{Book}
-use Rattle.cacao_view_graph.specs.Drawings.{DrawnBook, book_statements, books_statements}
-use Rattle.cacao_view_graph.specs.Statements.{Statement, line_of}
+use Rattle.cacao_view_graph.specs.Drawings.{DrawnBook, book_statements, books_statements, branches, region_clusters}
+use Rattle.cacao_view_graph.specs.Labels.{title}
+use Rattle.cacao_view_graph.specs.Statements.{Statement, cluster, line_of}
 
 -- ---- one thing after another
 
@@ -23,8 +27,15 @@ added_all F xs i old total none over before =
 -- ---- lines of statements
 
 pub lines_then : (old mid new : List (List ℕ)) (xs ys : List Statement) → mid ≡ old ++ map line_of xs → new ≡ mid ++ map line_of ys → new ≡ old ++ map line_of (xs ++ ys)
-lines_then old mid new xs ys first then =
-    then ∙ ap (λ l. l ++ map line_of ys) first ∙ append_assoc old (map line_of xs) (map line_of ys) ∙ ap (λ l. old ++ l) (sym (map-append line_of xs ys))
+lines_then old mid new xs ys first second =
+    second ∙ ap (λ l. l ++ map line_of ys) first ∙ append_assoc old (map line_of xs) (map line_of ys) ∙ ap (λ l. old ++ l) (sym (map-append line_of xs ys))
+
+-- the cluster of a region alone
+pub region_lines : (old new : List (List ℕ)) (number : ℕ) (m : List ℕ × Data) (key label line : List ℕ) → branches (step_of m).kind ≡ true → key ≡ m.0 → label ≡ codes "region of " ++ title m
+    → line ≡ line_of (cluster number (Some key) label) → new ≡ old ++ line ∷ [] → new ≡ old ++ map line_of (region_clusters number m)
+region_lines old new number m key label line control at words is pushed =
+    pushed ∙ ap (λ (l : List ℕ). old ++ l ∷ []) (is ∙ ap (λ (k : List ℕ). line_of (cluster number (Some k) label)) at ∙ ap (λ (l : List ℕ). line_of (cluster number (Some m.0) l)) words)
+    ∙ ap (λ (b : Bool). old ++ map line_of (if b then cluster number (Some m.0) (codes "region of " ++ title m) ∷ [] else [])) (sym control)
 
 -- the cluster of a region, a step and its links
 pub step_lines : (old r n e : List (List ℕ)) (regions more : List Statement) (one : Statement) → r ≡ old ++ map line_of regions → n ≡ r ++ line_of one ∷ [] → e ≡ n ++ map line_of more → e ≡ old ++ map line_of (regions ++ one ∷ more)

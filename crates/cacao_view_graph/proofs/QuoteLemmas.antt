@@ -1,10 +1,10 @@
 -- How DOT reads what is quoted.
-use Rattle.std.proofs.Common.{◌≡◌, ◌≢◌, ◌∙◌, ℕ, ◌+◌, ◌<◌, ◌≤◌, ◌==◌, ◌&&◌, Bool, true, false, not, List, [], ◌∷◌, ◌++◌, refl, sym, ap, subst, arith, append_assoc, cond}
+use Rattle.std.proofs.Common.{◌≡◌, ◌≢◌, ◌∙◌, ℕ, ◌+◌, ◌<◌, ◌≤◌, ◌==◌, ◌&&◌, ◌||◌, Bool, true, false, not, List, [], ◌∷◌, ◌++◌, refl, sym, ap, subst, arith, append_assoc, cond}
 use Rattle.std.specs.Prelude.{All, flat_map, codes, IsTrue, if◌then◌else◌}
 use Rattle.std.specs.List.{list_all}
 use Rattle.std.proofs.lemmas.Bool.{and_parts, eqb-true, eqb-false}
 use Rattle.std.proofs.lemmas.List.Elements.{All-append, All-cons, All-nil}
-use Rattle.cacao_view_graph.specs.Quoting.{IsLabel, IsPlain, IsRead, closed, quote, backslash, new_line, ampersand, plain, is_control, quoted, quoted_byte, shown, shown_byte, symbol}
+use Rattle.cacao_view_graph.specs.Quoting.{IsLabel, IsPlain, IsRead, closed, quote, backslash, new_line, ampersand, plain, ends_barred, has_barred, is_control, quoted, quoted_byte, replaced, shown, shown_byte, symbol}
 
 -- ---- what is read
 
@@ -44,14 +44,15 @@ at_10 : (b : ℕ) (rest text : List ℕ) (t : Bool) → (b == 10) ≡ t → IsLa
 at_10 b rest text true e h = subst (λ c. IsLabel (92 ∷ 110 ∷ rest) (shown_byte c ++ text)) (sym (eqb-true b 10 e)) (new_line h)
 at_10 b rest text false e h = at_34 b rest text (b == 34) refl (eqb-false b 10 e) h
 
-label_read : (text : List ℕ) → IsLabel (flat_map quoted_byte text ++ 34 ∷ []) (shown text)
+label_read : (text : List ℕ) → IsLabel (flat_map quoted_byte text ++ 34 ∷ []) (flat_map shown_byte text)
 label_read [] = closed
 label_read (b ∷ bs) =
     let rest = flat_map quoted_byte bs in
-    subst (λ l. IsLabel l (shown_byte b ++ shown bs)) (sym (append_assoc (quoted_byte b) rest (34 ∷ []))) (at_10 b (rest ++ 34 ∷ []) (shown bs) (b == 10) refl (label_read bs))
+    let more = flat_map shown_byte bs in
+    subst (λ l. IsLabel l (shown_byte b ++ more)) (sym (append_assoc (quoted_byte b) rest (34 ∷ []))) (at_10 b (rest ++ 34 ∷ []) more (b == 10) refl (label_read bs))
 
 pub quoted_read : (text : List ℕ) → IsRead (quoted text) (shown text)
-quoted_read text = (flat_map quoted_byte text ++ 34 ∷ [], refl, label_read text)
+quoted_read text = (flat_map quoted_byte (replaced 0 0 text) ++ 34 ∷ [], refl, label_read (replaced 0 0 text))
 
 -- ---- texts without control characters
 
@@ -59,11 +60,23 @@ shown_same : (b : ℕ) (t : Bool) → not t ≡ true → (if t then symbol b els
 shown_same b true h = absurd cc
 shown_same b false h = refl
 
-pub shown_plain : (text : List ℕ) → IsTrue (list_all (λ b. not (is_control b)) text) → shown text ≡ text
-shown_plain [] h = refl
-shown_plain (b ∷ bs) h =
+bytes_plain : (text : List ℕ) → IsTrue (list_all (λ b. not (is_control b)) text) → flat_map shown_byte text ≡ text
+bytes_plain [] h = refl
+bytes_plain (b ∷ bs) h =
     let p = and_parts (not (is_control b)) (list_all (λ c. not (is_control c)) bs) h in
-    ap (λ l. l ++ shown bs) (shown_same b (is_control b) p.0) ∙ ap (λ l. b ∷ l) (shown_plain bs p.1)
+    ap (λ l. l ++ flat_map shown_byte bs) (shown_same b (is_control b) p.0) ∙ ap (λ l. b ∷ l) (bytes_plain bs p.1)
+
+none_replaced : (first second b : ℕ) (bs more : List ℕ) (t u : Bool) → t || u ≡ false → (u ≡ false → more ≡ bs) → (if t then 189 else b) ∷ more ≡ b ∷ bs
+none_replaced first second b bs more true u e h = absurd cc
+none_replaced first second b bs more false u e h = ap (λ l. b ∷ l) (h e)
+
+replaced_same : (first second : ℕ) (text : List ℕ) → has_barred first second text ≡ false → replaced first second text ≡ text
+replaced_same first second [] e = refl
+replaced_same first second (b ∷ bs) e =
+    none_replaced first second b bs (replaced second b bs) (ends_barred first second b) (has_barred second b bs) e (λ none. replaced_same second b bs none)
+
+pub shown_plain : (text : List ℕ) → IsTrue (list_all (λ b. not (is_control b)) text) → has_barred 0 0 text ≡ false → shown text ≡ text
+shown_plain text h e = ap (flat_map shown_byte) (replaced_same 0 0 text e) ∙ bytes_plain text h
 
 -- ---- no line feed
 
@@ -109,5 +122,6 @@ clean_bytes (b ∷ bs) = clean_append (quoted_byte b) (flat_map quoted_byte bs) 
 
 pub clean_quoted : (text : List ℕ) → IsClean (quoted text)
 clean_quoted text =
-    clean_append (34 ∷ []) (flat_map quoted_byte text ++ 34 ∷ []) (clean_test (34 ∷ []) refl)
-    (clean_append (flat_map quoted_byte text) (34 ∷ []) (clean_bytes text) (clean_test (34 ∷ []) refl))
+    let bytes : List ℕ = replaced 0 0 text in
+    clean_append (34 ∷ []) (flat_map quoted_byte bytes ++ 34 ∷ []) (clean_test (34 ∷ []) refl)
+    (clean_append (flat_map quoted_byte bytes) (34 ∷ []) (clean_bytes bytes) (clean_test (34 ∷ []) refl))

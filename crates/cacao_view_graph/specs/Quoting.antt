@@ -1,5 +1,5 @@
 -- Promise: Texts in DOT, the language of Graphviz: how a text is quoted, and how DOT reads a quoted label.
-use Rattle.std.specs.Prelude.{◌≡◌, ◌≢◌, ℕ, ◌+◌, ◌==◌, nat_lt, ◌&&◌, ◌||◌, not, Bool, List, [], ◌∷◌, ◌++◌, flat_map, codes, if◌then◌else◌}
+use Rattle.std.specs.Prelude.{◌≡◌, ◌≢◌, ℕ, ◌+◌, ◌==◌, nat_lt, ◌&&◌, ◌||◌, not, Bool, false, List, [], ◌∷◌, ◌++◌, flat_map, codes, if◌then◌else◌}
 
 -- a control character but the line feed, which no picture can show
 abbrev pub is_control : ℕ → Bool
@@ -9,12 +9,27 @@ is_control b = (nat_lt b 32 && not (b == 10)) || (b == 127)
 abbrev pub symbol : ℕ → List ℕ
 symbol b = 226 ∷ 144 ∷ (if b == 127 then 161 else 128 + b) ∷ []
 
--- what is shown of a byte of a text, and of a text
+-- what is shown of a byte of a text
 abbrev pub shown_byte : ℕ → List ℕ
 shown_byte b = if is_control b then symbol b else b ∷ []
 
+-- U+FFFE and U+FFFF, which XML has not, and so no picture in SVG: 239 191 190 and 239 191 191 in UTF-8. This is the last byte of one, behind
+-- the two bytes before it.
+abbrev pub ends_barred : ℕ → ℕ → ℕ → Bool
+ends_barred first second b = (first == 239) && ((second == 191) && ((b == 190) || (b == 191)))
+
+abbrev pub has_barred : ℕ → ℕ → List ℕ → Bool
+has_barred first second [] = false
+has_barred first second (b ∷ bs) = ends_barred first second b || has_barred second b bs
+
+-- the text behind two bytes with U+FFFD in the place of each, 239 191 189
+abbrev pub replaced : ℕ → ℕ → List ℕ → List ℕ
+replaced first second [] = []
+replaced first second (b ∷ bs) = (if ends_barred first second b then 189 else b) ∷ replaced second b bs
+
+-- what is shown of a text
 abbrev pub shown : List ℕ → List ℕ
-shown text = flat_map shown_byte text
+shown text = flat_map shown_byte (replaced 0 0 text)
 
 -- what stands in a quoted label for a byte of its text
 abbrev pub quoted_byte : ℕ → List ℕ
@@ -25,7 +40,7 @@ quoted_byte b =
     (if b == 92 then 92 ∷ 92 ∷ [] else shown_byte b)))
 
 abbrev pub quoted : List ℕ → List ℕ
-quoted text = 34 ∷ (flat_map quoted_byte text ++ 34 ∷ [])
+quoted text = 34 ∷ (flat_map quoted_byte (replaced 0 0 text) ++ 34 ∷ [])
 
 -- ---- how DOT reads a label
 

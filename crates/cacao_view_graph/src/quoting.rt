@@ -1,6 +1,6 @@
 // Texts, added to what is written, as they are or quoted.
-ghost use Rattle.std.specs.Prelude.{◌≡◌, ◌<◌, ◌∷◌, ◌++◌, [], OnOk, decimal, flat_map};
-ghost use Rattle.cacao_view_graph.specs.Quoting.{is_control, quoted, quoted_byte, shown_byte, symbol};
+ghost use Rattle.std.specs.Prelude.{◌≡◌, ◌<◌, ◌∷◌, ◌++◌, [], OnOk, decimal, flat_map, if◌then◌else◌};
+ghost use Rattle.cacao_view_graph.specs.Quoting.{ends_barred, is_control, quoted, quoted_byte, replaced, shown_byte, symbol};
 
 use itoa::Buffer;
 use std::alloc::AllocError;
@@ -78,12 +78,28 @@ fn add_byte(out: &mut Vec<u8>, byte: u8) -> Result<(), AllocError>
     add_shown(out, byte)
 }
 
+/// A byte of a text behind two others; of U+FFFE and U+FFFF, which XML has not, the last byte of U+FFFD (XML 1.0, section 2.2).
+fn replaced(first: u8, second: u8, byte: u8) -> u8
+    ensures { result ≡ (if ends_barred first second byte then 189 else byte) }
+{
+    if first == 239 && second == 191 && (byte == 190 || byte == 191) {
+        189
+    } else {
+        byte
+    }
+}
+
 /// Adds what stands in a quoted label for each byte of a text.
 fn add_bytes(out: &mut Vec<u8>, text: &[u8]) -> Result<(), AllocError>
-    ensures { OnOk result (out.new.items ≡ out.old.items ++ flat_map quoted_byte text.now) }
+    ensures { OnOk result (out.new.items ≡ out.old.items ++ flat_map quoted_byte (replaced 0 0 text.now)) }
 {
+    let mut first = 0;
+    let mut second = 0;
     for byte in text {
-        add_byte(out, *byte)?;
+        let shown = replaced(first, second, *byte);
+        add_byte(out, shown)?;
+        first = second;
+        second = *byte;
     }
     Ok(())
 }

@@ -1,19 +1,22 @@
 -- The laws of lines and of objects.
-use Rattle.std.proofs.Common.{◌≡◌, ℕ, zero, suc, ◌<◌, ◌^◌, Bool, true, false, cond, List, [], ◌∷◌, length, map, Option, Some, arith, refl, ap, sym, ◌∙◌}
+use Rattle.std.proofs.Common.{◌≡◌, ℕ, zero, suc, ◌<◌, ◌^◌, Bool, true, false, cond, List, [], ◌∷◌, length, map, Option, Some, None, arith, refl, ap, sym, ◌∙◌}
 use Rattle.std.specs.Prelude.{decimal, nat_le, slice_get}
 use Rattle.std.specs.Str.{is_utf8}
 use Rattle.base_decimals.proofs.Signed.{numbers_read_back}
-use Rattle.serde_json.specs.Data.{string}
-use Rattle.cacao_json.specs.Tree.{items_of}
+use Rattle.serde_json.specs.Data.{object, string}
+use Rattle.cacao_json.specs.Tree.{items_of, members_of}
 use Rattle.oc2_msg_targets.specs.Parts.{whole_data}
 use Rattle.run_records.specs.Fields.{◌>>=◌}
+use Rattle.run_records.specs.Ranges.{RepliesInRange, TellsInRange}
 use Rattle.run_records.specs.declared.record.Record.TheVariants as entry
+use Rattle.flow_core_rules.specs.State.{Shown}
 use Rattle.flow_engine_history.proofs.HistoryLemmas.{get_within}
 use Rattle.cacao_view_log.specs.Laws.{LinesAreSaid, ObjectsReadBack}
 use Rattle.cacao_view_log.specs.Logs.{IsToldAt}
-use Rattle.cacao_view_log.specs.Objects.{bytes_data, most_whole, number_data, text_data}
-use Rattle.cacao_view_log.specs.ReadBack.{all_texts, bytes_in, number_in, text_in}
+use Rattle.cacao_view_log.specs.Objects.{bytes_data, expire_members, most_whole, number_data, reply_members, text_data, told_members}
+use Rattle.cacao_view_log.specs.ReadBack.{all_texts, bytes_in, number_in, record_in, text_in}
 use Rattle.cacao_view_log.specs.declared.form.Form.TheVariants as form
+use Rattle.cacao_view_log.specs.declared.sender.Sender.{Sender}
 use Rattle.cacao_view_log.proofs.LogLemmas.{inner}
 
 -- ---- lines
@@ -75,25 +78,46 @@ moment_from o moment f x e g = rw e g
 text_from : {A : Type 0} (o : Option (List ℕ)) (text : List ℕ) (f : List ℕ → Option A) (x : A) → o ≡ Some text → f text ≡ Some x → (o >>= f) ≡ Some x
 text_from o text f x e g = rw e g
 
-pub objects_read_back : ObjectsReadBack
-objects_read_back run before n (entry.Begin held moment books bind) h =
-    begin_from (number_in (number_data held)) (number_in (number_data moment)) (all_texts (items_of (map text_data books))) (text_in (text_data bind)) held moment books bind
-    (number_back held h.run_fits) (number_back moment h.moment_fits) (texts_back books) (text_back bind)
-objects_read_back run before n (entry.Walk task moment) h =
-    moment_from (number_in (number_data moment)) moment (λ m. Some (entry.Walk task m)) (entry.Walk task moment) (number_back moment h.1) refl
-objects_read_back run before n (entry.Send task issue agent moment bytes) h =
-    moment_from (number_in (number_data moment)) moment (λ m. text_in (text_data bytes) >>= λ t. Some (entry.Send task issue agent m t)) (entry.Send task issue agent moment bytes) (number_back moment h.moment_fits)
-    (text_from (text_in (text_data bytes)) bytes (λ t. Some (entry.Send task issue agent moment t)) (entry.Send task issue agent moment bytes) (text_back bytes) refl)
-objects_read_back run before n (entry.Reply issue moment status rule text) h =
+-- whoever sent or asked
+reply_back : (run : ℕ) (before : Shown) (n : ℕ) (sender : Option Sender) (issue moment status rule : ℕ) (text : List ℕ) → RepliesInRange issue moment status rule text
+    → record_in (object (members_of (reply_members run before n sender issue moment status rule text))) ≡ Some (entry.Reply issue moment status rule text)
+reply_back run before n None issue moment status rule text h =
     moment_from (number_in (number_data moment)) moment (λ m. text_in (text_data text) >>= λ t. Some (entry.Reply issue m status rule t)) (entry.Reply issue moment status rule text) (number_back moment h.moment_fits)
     (text_from (text_in (text_data text)) text (λ t. Some (entry.Reply issue moment status rule t)) (entry.Reply issue moment status rule text) (text_back text) refl)
-objects_read_back run before n (entry.Expire issue moment) h =
-    moment_from (number_in (number_data moment)) moment (λ m. Some (entry.Expire issue m)) (entry.Expire issue moment) (number_back moment h.1) refl
-objects_read_back run before n (entry.Upgrade version moment) h =
-    moment_from (number_in (number_data moment)) moment (λ m. Some (entry.Upgrade version m)) (entry.Upgrade version moment) (number_back moment h.1) refl
-objects_read_back run before n (entry.Ask task issue moment bytes) h =
-    moment_from (number_in (number_data moment)) moment (λ m. text_in (text_data bytes) >>= λ t. Some (entry.Ask task issue m t)) (entry.Ask task issue moment bytes) (number_back moment h.moment_fits)
-    (text_from (text_in (text_data bytes)) bytes (λ t. Some (entry.Ask task issue moment t)) (entry.Ask task issue moment bytes) (text_back bytes) refl)
-objects_read_back run before n (entry.Told issue moment status text) h =
+reply_back run before n (Some sender) issue moment status rule text h =
+    moment_from (number_in (number_data moment)) moment (λ m. text_in (text_data text) >>= λ t. Some (entry.Reply issue m status rule t)) (entry.Reply issue moment status rule text) (number_back moment h.moment_fits)
+    (text_from (text_in (text_data text)) text (λ t. Some (entry.Reply issue moment status rule t)) (entry.Reply issue moment status rule text) (text_back text) refl)
+
+expire_back : (run : ℕ) (before : Shown) (n : ℕ) (sender : Option Sender) (issue moment : ℕ) → moment < 2 ^ 64
+    → record_in (object (members_of (expire_members run before n sender issue moment))) ≡ Some (entry.Expire issue moment)
+expire_back run before n None issue moment lt =
+    moment_from (number_in (number_data moment)) moment (λ m. Some (entry.Expire issue m)) (entry.Expire issue moment) (number_back moment lt) refl
+expire_back run before n (Some sender) issue moment lt =
+    moment_from (number_in (number_data moment)) moment (λ m. Some (entry.Expire issue m)) (entry.Expire issue moment) (number_back moment lt) refl
+
+told_back : (run : ℕ) (before : Shown) (n : ℕ) (sender : Option Sender) (issue moment status : ℕ) (text : List ℕ) → TellsInRange issue moment status text
+    → record_in (object (members_of (told_members run before n sender issue moment status text))) ≡ Some (entry.Told issue moment status text)
+told_back run before n None issue moment status text h =
     moment_from (number_in (number_data moment)) moment (λ m. text_in (text_data text) >>= λ t. Some (entry.Told issue m status t)) (entry.Told issue moment status text) (number_back moment h.moment_fits)
     (text_from (text_in (text_data text)) text (λ t. Some (entry.Told issue moment status t)) (entry.Told issue moment status text) (text_back text) refl)
+told_back run before n (Some sender) issue moment status text h =
+    moment_from (number_in (number_data moment)) moment (λ m. text_in (text_data text) >>= λ t. Some (entry.Told issue m status t)) (entry.Told issue moment status text) (number_back moment h.moment_fits)
+    (text_from (text_in (text_data text)) text (λ t. Some (entry.Told issue moment status t)) (entry.Told issue moment status text) (text_back text) refl)
+
+pub objects_read_back : ObjectsReadBack
+objects_read_back run before sent n (entry.Begin held moment books bind) h =
+    begin_from (number_in (number_data held)) (number_in (number_data moment)) (all_texts (items_of (map text_data books))) (text_in (text_data bind)) held moment books bind
+    (number_back held h.run_fits) (number_back moment h.moment_fits) (texts_back books) (text_back bind)
+objects_read_back run before sent n (entry.Walk task moment) h =
+    moment_from (number_in (number_data moment)) moment (λ m. Some (entry.Walk task m)) (entry.Walk task moment) (number_back moment h.1) refl
+objects_read_back run before sent n (entry.Send task issue agent moment bytes) h =
+    moment_from (number_in (number_data moment)) moment (λ m. text_in (text_data bytes) >>= λ t. Some (entry.Send task issue agent m t)) (entry.Send task issue agent moment bytes) (number_back moment h.moment_fits)
+    (text_from (text_in (text_data bytes)) bytes (λ t. Some (entry.Send task issue agent moment t)) (entry.Send task issue agent moment bytes) (text_back bytes) refl)
+objects_read_back run before sent n (entry.Reply issue moment status rule text) h = reply_back run before n (slice_get sent issue) issue moment status rule text h
+objects_read_back run before sent n (entry.Expire issue moment) h = expire_back run before n (slice_get sent issue) issue moment h.1
+objects_read_back run before sent n (entry.Upgrade version moment) h =
+    moment_from (number_in (number_data moment)) moment (λ m. Some (entry.Upgrade version m)) (entry.Upgrade version moment) (number_back moment h.1) refl
+objects_read_back run before sent n (entry.Ask task issue moment bytes) h =
+    moment_from (number_in (number_data moment)) moment (λ m. text_in (text_data bytes) >>= λ t. Some (entry.Ask task issue m t)) (entry.Ask task issue moment bytes) (number_back moment h.moment_fits)
+    (text_from (text_in (text_data bytes)) bytes (λ t. Some (entry.Ask task issue moment t)) (entry.Ask task issue moment bytes) (text_back bytes) refl)
+objects_read_back run before sent n (entry.Told issue moment status text) h = told_back run before n (slice_get sent issue) issue moment status text h

@@ -1,6 +1,7 @@
 -- Objects are trees that their canonical text has.
-use Rattle.std.proofs.Common.{◌≡◌, ℕ, ◌<◌, ◌≤◌, ◌^◌, Bool, true, false, ◌&&◌, cond, List, [], ◌∷◌, map, codes, Some, Ordering, Less, Equal, Greater, nat_cmp, arith, refl, ap, subst}
-use Rattle.std.specs.Prelude.{decimal, nat_le}
+use Rattle.std.proofs.Common.{◌≡◌, ℕ, zero, suc, ◌<◌, ◌≤◌, ◌^◌, Bool, true, false, ◌&&◌, cond, List, [], ◌∷◌, map, codes, Option, Some, None, Ordering, Less, Equal, Greater, nat_cmp, arith, refl, ap, subst}
+use Rattle.std.specs.Prelude.{IfSome, decimal, nat_le, slice_get}
+use Rattle.std.specs.Option.{option_map_or}
 use Rattle.std.specs.List.{AllByRecursion, list_all}
 use Rattle.std.specs.Ordering.{is_lt}
 use Rattle.std.specs.Cmp.Lexicographic.{slice_cmp}
@@ -14,10 +15,15 @@ use Rattle.cacao_text.proofs.LawLemmas.{tree-canon}
 use Rattle.oc2_msg_targets.specs.Parts.{present, whole_data}
 use Rattle.oc2_msg_targets.proofs.PresentLemmas.{AreAbove, ArePartsOf, Part, IsFormed-object_of, depth-object_of}
 use Rattle.oc2_msg_targets.proofs.ValueLemmas.{IsFormed-whole_data, IsUtf8-word, is_ascii_text}
+use Rattle.run_records.specs.Ranges.{InRange, RepliesInRange, TellsInRange}
+use Rattle.run_records.specs.declared.record.Record.{Record}
 use Rattle.run_records.specs.declared.record.Record.TheVariants as entry
 use Rattle.flow_core_rules.specs.Lines.{key_of}
+use Rattle.flow_core_rules.specs.State.{Shown}
 use Rattle.cacao_view_log.specs.Laws.{ObjectsHaveTrees}
-use Rattle.cacao_view_log.specs.Objects.{bytes_data, members, most_whole, number_data, record_object, text_data}
+use Rattle.cacao_view_log.specs.Objects.{bytes_data, expire_members, members, most_whole, number_data, record_object, reply_members, text_data, told_members}
+use Rattle.cacao_view_log.specs.Senders.{sender_task, senders}
+use Rattle.cacao_view_log.specs.declared.sender.Sender.{Sender}
 
 -- ---- names that rise
 
@@ -115,29 +121,159 @@ texts_formed (t ∷ ts) h =
 
 -- ---- objects
 
+abbrev IsSmall : Sender → Type 0
+IsSmall s = (s.task ≤ most_whole) × (s.agent ≤ most_whole)
+
+small_senders : (earlier : List Record) → AllByRecursion InRange earlier → AllByRecursion IsSmall (senders earlier)
+small_senders [] h = tt
+small_senders (entry.Send task issue agent moment bytes ∷ rs) h = ((omega (arith, (h.0).task_fits), omega (arith, (h.0).last_agent)), small_senders rs h.1)
+small_senders (entry.Ask task issue moment bytes ∷ rs) h = ((omega (arith, (h.0).task_fits), omega arith), small_senders rs h.1)
+small_senders (entry.Begin run moment books bind ∷ rs) h = small_senders rs h.1
+small_senders (entry.Walk task moment ∷ rs) h = small_senders rs h.1
+small_senders (entry.Reply issue moment status rule text ∷ rs) h = small_senders rs h.1
+small_senders (entry.Expire issue moment ∷ rs) h = small_senders rs h.1
+small_senders (entry.Upgrade version moment ∷ rs) h = small_senders rs h.1
+small_senders (entry.Told issue moment status text ∷ rs) h = small_senders rs h.1
+
+small_at : (sent : List Sender) (n : ℕ) → AllByRecursion IsSmall sent → IfSome (slice_get sent n) IsSmall
+small_at [] n h = tt
+small_at (s ∷ sent) zero h = h.0
+small_at (s ∷ sent) (suc n) h = small_at sent n h.1
+
+sender_at : (earlier : List Record) (issue : ℕ) → AllByRecursion InRange earlier → IfSome (slice_get (senders earlier) issue) IsSmall
+sender_at earlier issue ranges = small_at (senders earlier) issue (small_senders earlier ranges)
+
+-- the key of the step at which the task of who sent or asked stands
+abbrev key_by : Shown → Option Sender → List ℕ
+key_by before sender = option_map_or (key_of before) (sender_task sender) []
+
+reply_tree : (run : ℕ) (before : Shown) (n : ℕ) (sender : Option Sender) (issue moment status rule : ℕ) (told : List ℕ) → RepliesInRange issue moment status rule told → run < 2 ^ 64 → n ≤ most_whole
+    → IfSome sender IsSmall → IsUtf8 (key_by before sender) → IsTree (object (members_of (reply_members run before n sender issue moment status rule told)))
+reply_tree run before n None issue moment status rule told r run_fits small by key =
+    fine_object (reply_members run before n None issue moment status rule told) refl
+    (whole issue (omega (arith, r.issue_fits)), (word (codes "reply") refl, (number moment r.moment_fits, (whole n small, (whole rule (omega (arith, r.rule_fits)), (number run run_fits, (whole status (omega (arith, r.status_fits)), (text_fine told r.text_is_utf8, tt))))))))
+reply_tree run before n (Some s) issue moment status rule told r run_fits small by key =
+    fine_object (reply_members run before n (Some s) issue moment status rule told) refl (
+      whole s.agent by.1,
+      (
+        whole issue (omega (arith, r.issue_fits)),
+        (
+          word (codes "reply") refl,
+          (
+            number moment r.moment_fits,
+            (
+              whole n small,
+              (
+                whole rule (omega (arith, r.rule_fits)),
+                (
+                  number run run_fits,
+                  (whole status (omega (arith, r.status_fits)), (plain (key_of before s.task) key, (whole s.task by.0, (text_fine told r.text_is_utf8, tt)))),
+                ),
+              ),
+            ),
+          ),
+        ),
+      ),
+    )
+
+expire_tree : (run : ℕ) (before : Shown) (n : ℕ) (sender : Option Sender) (issue moment : ℕ) → (issue < 2 ^ 32) × (moment < 2 ^ 64) → run < 2 ^ 64 → n ≤ most_whole
+    → IfSome sender IsSmall → IsUtf8 (key_by before sender) → IsTree (object (members_of (expire_members run before n sender issue moment)))
+expire_tree run before n None issue moment r run_fits small by key =
+    fine_object (expire_members run before n None issue moment) refl
+    (whole issue (omega (arith, r.0)), (word (codes "expire") refl, (number moment r.1, (whole n small, (number run run_fits, tt)))))
+expire_tree run before n (Some s) issue moment r run_fits small by key =
+    fine_object (expire_members run before n (Some s) issue moment) refl
+    (whole s.agent by.1, (whole issue (omega (arith, r.0)), (word (codes "expire") refl, (number moment r.1, (whole n small, (number run run_fits, (plain (key_of before s.task) key, (whole s.task by.0, tt))))))))
+
+told_tree : (run : ℕ) (before : Shown) (n : ℕ) (sender : Option Sender) (issue moment status : ℕ) (answer : List ℕ) → TellsInRange issue moment status answer → run < 2 ^ 64 → n ≤ most_whole
+    → IfSome sender IsSmall → IsUtf8 (key_by before sender) → IsTree (object (members_of (told_members run before n sender issue moment status answer)))
+told_tree run before n None issue moment status answer r run_fits small by key =
+    fine_object (told_members run before n None issue moment status answer) refl
+    (text_fine answer r.text_is_utf8, (whole issue (omega (arith, r.issue_fits)), (word (codes "told") refl, (number moment r.moment_fits, (whole n small, (number run run_fits, (whole status (omega (arith, r.status_fits)), tt)))))))
+told_tree run before n (Some s) issue moment status answer r run_fits small by key =
+    fine_object (told_members run before n (Some s) issue moment status answer) refl (
+      text_fine answer r.text_is_utf8,
+      (
+        whole issue (omega (arith, r.issue_fits)),
+        (
+          word (codes "told") refl,
+          (
+            number moment r.moment_fits,
+            (
+              whole n small,
+              (
+                number run run_fits,
+                (
+                  whole status (omega (arith, r.status_fits)),
+                  (plain (key_of before s.task) key, (whole s.task by.0, tt)),
+                ),
+              ),
+            ),
+          ),
+        ),
+      ),
+    )
+
 pub objects_have_trees : ObjectsHaveTrees
-objects_have_trees run before n (entry.Begin held moment books bind) r run_fits small texts =
+objects_have_trees run before earlier n (entry.Begin held moment books bind) ranges r run_fits small texts key =
     let each = texts_formed books texts.0 in
-    tree-canon (record_object run before n (entry.Begin held moment books bind)) (fine_object (members run before n (entry.Begin held moment books bind)) refl
+    tree-canon (record_object run before (senders earlier) n (entry.Begin held moment books bind)) (fine_object (members run before (senders earlier) n (entry.Begin held moment books bind)) refl
     (text_fine bind texts.1, ((each.0, omega (arith, each.1)), (word (codes "begin") refl, (number moment r.moment_fits, (whole n small, (number held r.run_fits, tt)))))))
-objects_have_trees run before n (entry.Walk task moment) r run_fits small texts =
-    tree-canon (record_object run before n (entry.Walk task moment)) (fine_object (members run before n (entry.Walk task moment)) refl
-    (word (codes "walk") refl, (number moment r.1, (whole n small, (number run run_fits, (plain (key_of before task) texts, (whole task (omega (arith, r.0)), tt)))))))
-objects_have_trees run before n (entry.Send task issue agent moment command) r run_fits small texts =
-    tree-canon (record_object run before n (entry.Send task issue agent moment command)) (fine_object (members run before n (entry.Send task issue agent moment command)) refl
-    (whole agent (omega (arith, r.last_agent)), (text_fine command texts, (whole issue (omega (arith, r.issue_fits)), (word (codes "send") refl, (number moment r.moment_fits, (whole n small, (number run run_fits, (whole task (omega (arith, r.task_fits)), tt)))))))))
-objects_have_trees run before n (entry.Reply issue moment status rule told) r run_fits small texts =
-    tree-canon (record_object run before n (entry.Reply issue moment status rule told)) (fine_object (members run before n (entry.Reply issue moment status rule told)) refl
-    (whole issue (omega (arith, r.issue_fits)), (word (codes "reply") refl, (number moment r.moment_fits, (whole n small, (whole rule (omega (arith, r.rule_fits)), (number run run_fits, (whole status (omega (arith, r.status_fits)), (text_fine told r.text_is_utf8, tt)))))))))
-objects_have_trees run before n (entry.Expire issue moment) r run_fits small texts =
-    tree-canon (record_object run before n (entry.Expire issue moment)) (fine_object (members run before n (entry.Expire issue moment)) refl
-    (whole issue (omega (arith, r.0)), (word (codes "expire") refl, (number moment r.1, (whole n small, (number run run_fits, tt))))))
-objects_have_trees run before n (entry.Upgrade version moment) r run_fits small texts =
-    tree-canon (record_object run before n (entry.Upgrade version moment)) (fine_object (members run before n (entry.Upgrade version moment)) refl
+objects_have_trees run before earlier n (entry.Walk task moment) ranges r run_fits small texts key =
+    tree-canon (record_object run before (senders earlier) n (entry.Walk task moment)) (fine_object (members run before (senders earlier) n (entry.Walk task moment)) refl
+    (word (codes "walk") refl, (number moment r.1, (whole n small, (number run run_fits, (plain (key_of before task) key, (whole task (omega (arith, r.0)), tt)))))))
+objects_have_trees run before earlier n (entry.Send task issue agent moment command) ranges r run_fits small texts key =
+    tree-canon (record_object run before (senders earlier) n (entry.Send task issue agent moment command)) (fine_object (members run before (senders earlier) n (entry.Send task issue agent moment command)) refl (
+      whole agent (omega (arith, r.last_agent)),
+      (
+        text_fine command texts,
+        (
+          whole issue (omega (arith, r.issue_fits)),
+          (
+            word (codes "send") refl,
+            (
+              number moment r.moment_fits,
+              (
+                whole n small,
+                (
+                  number run run_fits,
+                  (plain (key_of before task) key, (whole task (omega (arith, r.task_fits)), tt)),
+                ),
+              ),
+            ),
+          ),
+        ),
+      ),
+    ))
+objects_have_trees run before earlier n (entry.Reply issue moment status rule told) ranges r run_fits small texts key =
+    tree-canon (record_object run before (senders earlier) n (entry.Reply issue moment status rule told))
+    (reply_tree run before n (slice_get (senders earlier) issue) issue moment status rule told r run_fits small (sender_at earlier issue ranges) key)
+objects_have_trees run before earlier n (entry.Expire issue moment) ranges r run_fits small texts key =
+    tree-canon (record_object run before (senders earlier) n (entry.Expire issue moment))
+    (expire_tree run before n (slice_get (senders earlier) issue) issue moment r run_fits small (sender_at earlier issue ranges) key)
+objects_have_trees run before earlier n (entry.Upgrade version moment) ranges r run_fits small texts key =
+    tree-canon (record_object run before (senders earlier) n (entry.Upgrade version moment)) (fine_object (members run before (senders earlier) n (entry.Upgrade version moment)) refl
     (word (codes "upgrade") refl, (number moment r.1, (whole n small, (number run run_fits, (whole version (omega (arith, r.0)), tt))))))
-objects_have_trees run before n (entry.Ask task issue moment question) r run_fits small texts =
-    tree-canon (record_object run before n (entry.Ask task issue moment question)) (fine_object (members run before n (entry.Ask task issue moment question)) refl
-    (whole issue (omega (arith, r.issue_fits)), (word (codes "ask") refl, (number moment r.moment_fits, (whole n small, (text_fine question r.text_is_utf8, (number run run_fits, (whole task (omega (arith, r.task_fits)), tt))))))))
-objects_have_trees run before n (entry.Told issue moment status answer) r run_fits small texts =
-    tree-canon (record_object run before n (entry.Told issue moment status answer)) (fine_object (members run before n (entry.Told issue moment status answer)) refl
-    (text_fine answer r.text_is_utf8, (whole issue (omega (arith, r.issue_fits)), (word (codes "told") refl, (number moment r.moment_fits, (whole n small, (number run run_fits, (whole status (omega (arith, r.status_fits)), tt))))))))
+objects_have_trees run before earlier n (entry.Ask task issue moment question) ranges r run_fits small texts key =
+    tree-canon (record_object run before (senders earlier) n (entry.Ask task issue moment question)) (fine_object (members run before (senders earlier) n (entry.Ask task issue moment question)) refl (
+      whole issue (omega (arith, r.issue_fits)),
+      (
+        word (codes "ask") refl,
+        (
+          number moment r.moment_fits,
+          (
+            whole n small,
+            (
+              text_fine question r.text_is_utf8,
+              (
+                number run run_fits,
+                (plain (key_of before task) key, (whole task (omega (arith, r.task_fits)), tt)),
+              ),
+            ),
+          ),
+        ),
+      ),
+    ))
+objects_have_trees run before earlier n (entry.Told issue moment status answer) ranges r run_fits small texts key =
+    tree-canon (record_object run before (senders earlier) n (entry.Told issue moment status answer))
+    (told_tree run before n (slice_get (senders earlier) issue) issue moment status answer r run_fits small (sender_at earlier issue ranges) key)

@@ -6,15 +6,16 @@ use Rattle.flow_core_rules.specs.Givens.{Given}
 use Rattle.flow_core_rules.specs.State.{Shown}
 use Rattle.flow_engine_history.specs.Histories.{IsShownBefore}
 use Rattle.flow_engine_reports.specs.RunFiles.{TellsRun}
+use Rattle.cacao_view_log.specs.Senders.{senders}
 use Rattle.cacao_view_log.specs.Texts.{record_text}
 use Rattle.cacao_view_log.specs.declared.form.Form.{Form}
 
--- the text with this number tells the record with it, by what was shown before that
+-- the text with this number tells the record with it, by what was shown before that, and by the records before it
 pub record IsToldAt (form : Form) (given : Given) (run : ℕ) (records : List Record) (texts : List (List ℕ)) (n : ℕ)
     (r : Record) : Type 0 where
   pub before : Shown
   pub shows : IsShownBefore given run (take n records) before
-  pub told : slice_get texts n ≡ Some (record_text form run before n r)
+  pub told : slice_get texts n ≡ Some (record_text form run before (senders (take n records)) n r)
 
 -- the texts tell the records, one a record
 pub record AreTold (form : Form) (given : Given) (run : ℕ) (records : List Record) (texts : List (List ℕ)) : Type 0 where

@@ -9,6 +9,7 @@ mod line;
 mod logging;
 mod members;
 mod object;
+mod sender;
 pub mod source;
 mod telling;
 mod told_run;

@@ -9,8 +9,9 @@ ghost use Rattle.cacao_view_log.specs.Telling.{BeginsLog, IsLogged, TellsFlow};
 
 use crate::beginning::begun;
 use crate::form::Form;
+use crate::sender::Sender;
 use crate::source::Source;
-use crate::telling::{next_text, tell_next};
+use crate::telling::{tell_next, tell_record};
 use crate::told_run::ToldRun;
 use cacao_site::Bytes;
 use flow_core::Flow;
@@ -47,12 +48,13 @@ fn log_run(alloc: Global, source: &Source<'_>, form: Form) -> Result<ToldRun, Re
     ensures tasks { IsErrOf result ReportError.TooManyTasks → Overgrows (items_of source.now) }
 {
     let mut texts = Vec::new(alloc);
-    let mut flow = match begin(alloc, form, source.entry(0), &mut texts) {
+    let mut senders = Vec::new(alloc);
+    let mut flow = match begin(alloc, form, source.entry(0), &mut texts, &mut senders) {
         Ok(Some(flow)) => flow,
         Ok(None) => return Err(ReportError::Damaged { place: FIRST_GATE }),
         Err(_) => return Err(ReportError::Memory),
     };
-    match tell_others(alloc, source, form, &mut flow, &mut texts) {
+    match tell_others(alloc, source, form, &mut flow, &mut texts, &mut senders) {
         Ok(()) => {}
         Err(error) => return Err(error),
     }
@@ -66,9 +68,11 @@ fn begin(
     form: Form,
     entry: &[u8],
     texts: &mut Vec<Bytes>,
+    senders: &mut Vec<Sender>,
 ) -> Result<Option<Flow>, AllocError>
-    requires { texts.old.items ≡ [] }
-    ensures { IfOk result (λ o. MatchOption o (IsNotBegun entry.now) (BeginsLog form entry.now texts.new.items)) }
+    requires texts { texts.old.items ≡ [] }
+    requires senders { senders.old.items ≡ [] }
+    ensures { IfOk result (λ o. MatchOption o (IsNotBegun entry.now) (BeginsLog form entry.now texts.new.items senders.new.items)) }
 {
     let Some(item) = read_record(alloc, entry)? else {
         return Ok(None);
@@ -76,7 +80,7 @@ fn begin(
     let Some(flow) = begun(alloc, &item)? else {
         return Ok(None);
     };
-    let text = next_text(alloc, form, 0, &flow, &item)?;
+    let text = tell_record(alloc, form, 0, &flow, senders, &item)?;
     texts.push(text)?;
     Ok(Some(flow))
 }
@@ -88,16 +92,17 @@ fn tell_others(
     form: Form,
     flow: &mut Flow,
     texts: &mut Vec<Bytes>,
+    senders: &mut Vec<Sender>,
 ) -> Result<(), ReportError>
     requires whole { IsWhole source.now }
     requires some { 1 ≤ length (items_of source.now) }
-    requires begun { IsLogged form flow.old.seen.given flow.old.seen.run (take 1 (items_of source.now)) flow.old texts.old.items }
-    ensures ok { OnOk result (IsLogged form flow.old.seen.given flow.old.seen.run (items_of source.now) flow.new texts.new.items) }
+    requires begun { IsLogged form flow.old.seen.given flow.old.seen.run (take 1 (items_of source.now)) flow.old texts.old.items senders.old.items }
+    ensures ok { OnOk result (IsLogged form flow.old.seen.given flow.old.seen.run (items_of source.now) flow.new texts.new.items senders.new.items) }
     ensures refused { IfErr result (StopsReplay flow.old.seen.given flow.old.seen.run (items_of source.now)) }
 {
     for n in 1..source.count() {
         flow.law();
-        match tell_next(alloc, form, n, flow, source.entry(n), texts) {
+        match tell_next(alloc, form, n, flow, source.entry(n), texts, senders) {
             Ok(true) => {}
             Ok(false) => {
                 return Err(ReportError::Damaged {

@@ -1,10 +1,12 @@
 // The members of the objects.
-ghost use Rattle.std.specs.Prelude.{◌≡◌, IfOk, OnOk};
+ghost use Rattle.std.specs.Prelude.{◌≡◌, codes, IfOk, OnOk};
 ghost use Rattle.serde_json.specs.Data.{put, string};
 ghost use Rattle.cacao_json.specs.Tree.{data_of, members_of};
 ghost use Rattle.oc2_msg_targets.specs.Parts.{whole_data};
 ghost use Rattle.cacao_view_log.specs.Objects.{bytes_data, head, number_data, text_data, texts_data};
+ghost use Rattle.cacao_view_log.specs.Telling.{agent_put, sender_put};
 
+use crate::sender::Sender;
 use cacao_json::{Items, Pairs, Tree};
 use cacao_site::Bytes;
 use itoa::Buffer;
@@ -95,6 +97,44 @@ pub(crate) fn put_bytes(
 {
     let tree = bytes_or_text(alloc, bytes.as_slice())?;
     put(alloc, pairs, name, Some(tree))
+}
+
+/// Puts the filter of who sent or asked, if that is known.
+pub(crate) fn put_agent(
+    alloc: Global,
+    pairs: &mut Pairs,
+    sender: Option<Sender>,
+) -> Result<(), AllocError>
+    ensures { OnOk result (pairs.new ≡ agent_put sender pairs.old) }
+{
+    match sender {
+        Some(sender) => put_whole(alloc, pairs, "agent", sender.agent as u32),
+        None => Ok(()),
+    }
+}
+
+/// Puts the task of who sent or asked, if that is known, with the key of the step at which it stands.
+pub(crate) fn put_sender(
+    alloc: Global,
+    pairs: &mut Pairs,
+    sender: Option<Sender>,
+    step: &str,
+) -> Result<(), AllocError>
+    ensures { OnOk result (pairs.new ≡ sender_put sender step.now pairs.old) }
+{
+    match sender {
+        Some(sender) => put_task(alloc, pairs, sender.task, step),
+        None => Ok(()),
+    }
+}
+
+/// Puts a task, and the key of the step at which it stands.
+fn put_task(alloc: Global, pairs: &mut Pairs, task: u32, step: &str) -> Result<(), AllocError>
+    ensures { OnOk result (pairs.new ≡ put (codes "task") (whole_data task) (put (codes "step") (string step.now) pairs.old)) }
+{
+    put_text(alloc, pairs, "step", step)?;
+    put_whole(alloc, pairs, "task", task)?;
+    Ok(())
 }
 
 /// The members that each object has: the kind of the record, its moment, its number and that of the run.

@@ -1,43 +1,122 @@
 // The record of one entry, told.
-ghost use Rattle.std.specs.Prelude.{◌≡◌, ◌<◌, Ok, IfErr, IfOk, true, false};
+ghost use Rattle.std.specs.Prelude.{◌≡◌, ◌<◌, ◌++◌, [], List, Ok, IfErr, IfOk, OnOk, slice_get, true, false};
+ghost use Rattle.std.specs.Option.{option_map_or};
 ghost use Rattle.run_records.specs.Ranges.{InRange};
 ghost use Rattle.flow_core_rules.specs.Lines.{key_of};
 ghost use Rattle.flow_core_rules.specs.State.{Shown};
 ghost use Rattle.flow_core.specs.Views.{taken};
-ghost use Rattle.flow_engine_history.specs.LineParts.{IsKeyFor};
 ghost use Rattle.flow_engine_history.specs.Replays.{CannotFollow};
 ghost use Rattle.flow_engine_reports.specs.Beginnings.{Took};
 ghost use Rattle.flow_engine_reports.specs.Replaying.{RefusesNext};
+ghost use Rattle.cacao_view_log.specs.Senders.{sender_for, sender_in, sender_of, sender_task, step_key, task_for};
 ghost use Rattle.cacao_view_log.specs.Telling.{RefusesRecord, TellsEntry};
 ghost use Rattle.cacao_view_log.specs.Texts.{record_text};
+ghost use Rattle.cacao_view_log.specs.declared.sender.Sender.{Sender as ASender};
 
 use crate::form::Form;
 use crate::line::record_line;
 use crate::object::object_line;
+use crate::sender::Sender;
 use cacao_site::Bytes;
 use flow_core::{Flow, FlowError};
 use flow_engine_reports::ReportError;
 use run_records::{Record, read_record};
 use std::alloc::{AllocError, Global};
 
-/// What is told of the record with this number in the run of this number. Of a Walk `step` is the key of the step at which its task
-/// stood.
+/// What is told of the record with this number in the run of this number. `sender` is who sent or asked what it answers, tells or ends,
+/// and `step` the key of the step at which its task stands.
 pub(crate) fn record_text(
     alloc: Global,
     form: Form,
     run: u64,
     n: u32,
+    sender: Option<Sender>,
     step: &str,
     item: &Record,
 ) -> Result<Bytes, AllocError>
     requires { InRange item.now }
-    ensures { (before : Shown) → IsKeyFor before item.now step.now
-        → IfOk result (λ text. text ≡ record_text form run before n item.now) }
+    ensures { (before : Shown) (sent : List ASender) → sender ≡ sender_for sent item.now → step.now ≡ step_key before sent item.now
+        → IfOk result (λ text. text ≡ record_text form run before sent n item.now) }
 {
     match form {
         Form::Line => record_line(alloc, n, step, item),
-        Form::Object => object_line(alloc, run, n, step, item),
+        Form::Object => object_line(alloc, run, n, sender, step, item),
     }
+}
+
+/// Who sent the command of an issue, or asked by it.
+fn sender_at(senders: &[Sender], issue: u32) -> Option<Sender>
+    ensures { result ≡ slice_get senders.now issue }
+{
+    match senders.get(issue as usize) {
+        Some(sender) => Some(*sender),
+        None => None,
+    }
+}
+
+/// Who sent or asked what a record answers, tells or ends.
+fn sender_for(senders: &[Sender], item: &Record) -> Option<Sender>
+    ensures { result ≡ sender_for senders.now item.now }
+{
+    match item {
+        Record::Reply { issue, .. } => sender_at(senders, *issue),
+        Record::Expire { issue, .. } => sender_at(senders, *issue),
+        Record::Told { issue, .. } => sender_at(senders, *issue),
+        _ => None,
+    }
+}
+
+/// The task that sent the command of an issue, or asked by it.
+fn sender_task(senders: &[Sender], issue: u32) -> Option<u32>
+    ensures { result ≡ sender_task (slice_get senders.now issue) }
+{
+    match senders.get(issue as usize) {
+        Some(sender) => Some(sender.task),
+        None => None,
+    }
+}
+
+/// The task that a record is of.
+fn task_for(senders: &[Sender], item: &Record) -> Option<u32>
+    ensures { result ≡ task_for senders.now item.now }
+{
+    match item {
+        Record::Walk { task, .. } => Some(*task),
+        Record::Send { task, .. } => Some(*task),
+        Record::Ask { task, .. } => Some(*task),
+        Record::Reply { issue, .. } => sender_task(senders, *issue),
+        Record::Expire { issue, .. } => sender_task(senders, *issue),
+        Record::Told { issue, .. } => sender_task(senders, *issue),
+        _ => None,
+    }
+}
+
+/// Who sends or asks by a record.
+fn sender_of(item: &Record) -> Option<Sender>
+    ensures { result ≡ sender_of item.now }
+{
+    match item {
+        Record::Send { task, agent, .. } => Some(Sender {
+            task: *task,
+            agent: *agent,
+        }),
+        Record::Ask { task, .. } => Some(Sender {
+            task: *task,
+            agent: 0,
+        }),
+        _ => None,
+    }
+}
+
+/// Notes who sends or asks by a record.
+fn note_sender(senders: &mut Vec<Sender>, item: &Record) -> Result<(), AllocError>
+    ensures { OnOk result (senders.new.items ≡ senders.old.items ++ sender_in item.now) }
+{
+    let Some(sender) = sender_of(item) else {
+        return Ok(());
+    };
+    senders.push(sender)?;
+    Ok(())
 }
 
 /// The key of the step at which a task stands; the empty text where there is no such task.
@@ -50,29 +129,56 @@ fn key_at(flow: &Flow, task: u32) -> &str
     }
 }
 
-/// The key of the step at which the task of a Walk stands that may come next.
-fn key_before<'f>(flow: &'f Flow, item: &Record) -> &'f str
-    ensures { IsKeyFor flow.entry.now.seen item.now result.now }
+/// The key of the step at which a task stands, if there is one.
+fn key_before(flow: &Flow, task: Option<u32>) -> &str
+    ensures { result.now ≡ option_map_or (key_of flow.now.seen) task [] }
 {
-    match item {
-        Record::Walk { task, .. } => key_at(flow, *task),
-        _ => "",
+    match task {
+        Some(task) => key_at(flow, task),
+        None => "",
     }
 }
 
-/// What is told of the record with this number, by what a flow shows.
-pub(crate) fn next_text(
+/// What is told of the record with this number, by what a flow shows and who had sent and asked.
+fn next_text(
     alloc: Global,
     form: Form,
     n: u32,
     flow: &Flow,
+    senders: &[Sender],
     item: &Record,
 ) -> Result<Bytes, AllocError>
     requires { InRange item.now }
-    ensures { IfOk result (λ text. text ≡ record_text form flow.now.seen.run flow.now.seen n item.now) }
+    ensures { IfOk result (λ text. text ≡ record_text form flow.now.seen.run flow.now.seen senders.now n item.now) }
 {
-    let step = key_before(flow, item);
-    record_text(alloc, form, flow.run(), n, step, item)
+    let step = key_before(flow, task_for(senders, item));
+    record_text(
+        alloc,
+        form,
+        flow.run(),
+        n,
+        sender_for(senders, item),
+        step,
+        item,
+    )
+}
+
+/// The same; and it is noted who sends or asks by the record.
+pub(crate) fn tell_record(
+    alloc: Global,
+    form: Form,
+    n: u32,
+    flow: &Flow,
+    senders: &mut Vec<Sender>,
+    item: &Record,
+) -> Result<Bytes, AllocError>
+    requires { InRange item.now }
+    ensures text { IfOk result (λ text. text ≡ record_text form flow.now.seen.run flow.now.seen senders.old.items n item.now) }
+    ensures noted { OnOk result (senders.new.items ≡ senders.old.items ++ sender_in item.now) }
+{
+    let text = next_text(alloc, form, n, flow, senders.as_slice(), item)?;
+    note_sender(senders, item)?;
+    Ok(text)
 }
 
 /// Takes a record; false where it may not come next.
@@ -102,10 +208,12 @@ pub(crate) fn tell_next(
     flow: &mut Flow,
     entry: &[u8],
     texts: &mut Vec<Bytes>,
+    senders: &mut Vec<Sender>,
 ) -> Result<bool, ReportError>
     requires few { flow.old.count < 100_000_000 }
     requires counted { n ≡ flow.old.count }
-    ensures told { result ≡ Ok true → TellsEntry form flow.old texts.old.items entry.now flow.new texts.new.items }
+    ensures told { result ≡ Ok true
+        → TellsEntry form flow.old texts.old.items senders.old.items entry.now flow.new texts.new.items senders.new.items }
     ensures bad { result ≡ Ok false → CannotFollow flow.old entry.now }
     ensures refused { IfErr result (RefusesNext flow.old entry.now) }
 {
@@ -114,7 +222,7 @@ pub(crate) fn tell_next(
         Ok(None) => return Ok(false),
         Err(_) => return Err(ReportError::Memory),
     };
-    let text = match next_text(alloc, form, n, flow, &item) {
+    let text = match tell_record(alloc, form, n, flow, senders, &item) {
         Ok(text) => text,
         Err(_) => return Err(ReportError::Memory),
     };

@@ -29,7 +29,7 @@ begins_not (c ∷ cs) e = by _ _ (begins_with_reference (c ∷ cs)) e
 
 module _ (s : Lists) (scope : ℕ) where
   -- a text with no reference stays
-  plain : ReferencesGoOn → (text : List ℕ) → has_reference text ≡ false → filled_string s scope text ≡ string text
+  pub plain : ReferencesGoOn → (text : List ℕ) → has_reference text ≡ false → filled_string s scope text ≡ string text
   plain go text e =
       let none : first_reference text ≡ None = none_of (first_reference text) e in
       let parts : references text ≡ ([], text) = go text ∙ ap (λ (o : Option Found). references_from o text) none in

@@ -1,5 +1,6 @@
 pub mod AgentLemmas
 pub mod ChangeLemmas
+pub mod ConstantLemmas
 pub mod EachLemmas
 pub mod FlightLemmas
 pub mod ReachLemmas
@@ -8,6 +9,9 @@ pub mod SplitLemmas
 pub mod WarningLemmas
 pub mod NameLemmas
 pub mod FillLemmas
+pub mod KnownLemmas
+pub mod OuterLemmas
+pub mod SeenLemmas
 pub mod TargetLemmas
 pub mod KindLemmas
 pub mod ArgLemmas

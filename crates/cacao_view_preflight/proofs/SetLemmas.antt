@@ -1,10 +1,11 @@
 -- Sets of names, and the lists of names that they have as these grow.
-use Rattle.std.proofs.Common.{◌≡◌, ◌∙◌, refl, sym, ap, subst, arith, ℕ, ◌+◌, ◌<◌, ◌≤◌, Bool, true, false, ◌||◌, cond, List, [], ◌∷◌, ◌++◌, length, take, map, get_or, append_assoc, append-nil}
-use Rattle.std.proofs.lemmas.List.{take_more, take_all}
+use Rattle.std.proofs.Common.{◌≡◌, ◌∙◌, refl, sym, ap, subst, ℕ, ◌+◌, ◌<◌, ◌≤◌, Bool, true, false, ◌||◌, cond, List, [], ◌∷◌, ◌++◌, length, take, map, get_or, append_assoc, append-nil}
+use Rattle.std.proofs.lemmas.List.{map-append, take_more, take_all}
 use Rattle.std.proofs.lemmas.Grind.{flat_map-append}
 use Rattle.std.proofs.lemmas.List.Folds.{list_any-append}
-use Rattle.std.specs.List.{flat_map, list_any}
+use Rattle.std.specs.List.{flat_map}
 use Rattle.std.specs.Str.{bytes_eq}
+use Rattle.cacao_vars.specs.declared.declarations.Var.{Var}
 use Rattle.cacao_view_preflight.specs.NameSets.{HasJust, holds}
 use Rattle.cacao_view_preflight.specs.Warnings.{Text, is_named}
 use Rattle.cacao_view_preflight.specs.declared.name_set.NameSet.{NameSet}
@@ -40,6 +41,16 @@ pub names_more : (xs : List Text) (i : ℕ) (x : Text) (all : List Text) → i <
 names_more xs i x all lt at =
     let one : take (i + 1) xs ≡ take i xs ++ x ∷ [] = take_more xs i x lt ∙ ap (λ y. take i xs ++ y ∷ []) (sym at) in
     ap (λ l. all ++ l) one ∙ sym (append_assoc all (take i xs) (x ∷ []))
+
+-- the names of variables
+pub vars_more : (vars : List Var) (i : ℕ) (v : Var) (all : List Text) → i < length vars → v ≡ get_or vars i v → all ++ map (λ var. var.name) (take (i + 1) vars) ≡ (all ++ map (λ var. var.name) (take i vars)) ++ v.name ∷ []
+vars_more vars i v all lt at =
+    let one : take (i + 1) vars ≡ take i vars ++ v ∷ [] = take_more vars i v lt ∙ ap (λ y. take i vars ++ y ∷ []) (sym at) in
+    ap (λ (l : List Var). all ++ map (λ var. var.name) l) one ∙ ap (λ (l : List Text). all ++ l) (map-append (λ (var : Var). var.name) (take i vars) (v ∷ []))
+    ∙ sym (append_assoc all (map (λ var. var.name) (take i vars)) (v.name ∷ []))
+
+pub vars_all : (vars : List Var) (i : ℕ) (all : List Text) → length vars ≤ i → all ++ map (λ var. var.name) (take i vars) ≡ all ++ map (λ var. var.name) vars
+vars_all vars i all over = ap (λ (l : List Var). all ++ map (λ var. var.name) l) (take_all i vars over)
 
 -- the names of members
 module _ {A D : Type 0} (f : A → Text × D) (xs : List A) (i : ℕ) where

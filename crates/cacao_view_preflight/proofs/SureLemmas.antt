@@ -12,7 +12,7 @@ use Rattle.cacao_json.specs.Laws.{MembersHaveProfile, PutKeepsProfile, RemovalKe
 use Rattle.cacao_text.specs.Canon.{canon}
 use Rattle.cacao_text.specs.Laws.{ReadsBack, TextsHaveTrees}
 use Rattle.cacao_vars.specs.References.{ReferencesGoOn}
-use Rattle.cacao_book.specs.declared.commands.StepCommand.{StepCommand}
+use Rattle.cacao_vars.specs.declared.declarations.Var.{Var}
 use Rattle.cacao_check_steps.specs.Uses.{is_manual}
 use Rattle.flow_core_rules.specs.State.{Lists}
 use Rattle.flow_core_rules.specs.Filled.{addressed, command_id, completed, filled, filled_items, filled_members, set_member, with_member}
@@ -27,8 +27,11 @@ use Rattle.slpf_rules.specs.declared.rules.Rule.{Rule}
 use Rattle.slpf_rules.specs.Replies.{reply, reply_to}
 use Rattle.cacao_view_preflight.specs.declared.sure.Sure.{Sure}
 use Rattle.cacao_view_preflight.specs.declared.sure.Sure.TheVariants as sure
-use Rattle.cacao_view_preflight.specs.Settled.{args_members, changed, command_members, command_settled, error_of, fitting_action, in_object, is_open, is_open_at, named_settled, opens_args, opens_target, refusal_of, refused_always, set_if_open, settled, sure_by, sure_for, sure_of, target_settled}
-use Rattle.cacao_view_preflight.specs.Laws.{Answers, AnswersAreSure, AreBytesOf}
+use Rattle.cacao_view_preflight.specs.Settled.{args_members, changed, command_members, command_settled, error_of, fitting_action, in_object, is_open, is_open_at, named_settled, opens_args, opens_target, refusal_of, refused_always, set_if_open, settled, sure_by, sure_for, target_settled}
+use Rattle.cacao_view_preflight.specs.Constants.{sure_with, with_constants}
+use Rattle.cacao_view_preflight.specs.Laws.{Answers, AnswersAreSure, AreBytesOf, HasConstants}
+use Rattle.cacao_view_preflight.specs.Names.{Text}
+use Rattle.cacao_view_preflight.proofs.KnownLemmas.{filled_known, tree_known}
 use Rattle.cacao_view_preflight.proofs.NameLemmas.{among_changed, among_with, among_without, get_changed, get_with, get_with_other, get_without, get_without_other, other_name}
 use Rattle.cacao_view_preflight.proofs.FillLemmas.{IsScalar, by_kind, closed, get-filled, is_object-filled, names-filled, single-filled}
 use Rattle.cacao_view_preflight.proofs.TargetLemmas.{skip}
@@ -259,24 +262,32 @@ module _ (trees : TextsHaveTrees) (back : ReadsBack) (puts : PutKeepsProfile) (r
       (subst (λ (a : Result Command Refusal). Answers (sure_by d k.0) (reply_to rules moment a).0) (sym (read_back back (addressed run issue (filled values scope d)) u))
       (responds (sure_by d k.0) (answer_to (addressed run issue (filled values scope d))) rules moment (sure_data go values scope run issue named d k.0 best)))
 
-  sure_content : (content bytes : List ℕ) (sure : Sure) (rules : List Rule) (moment : ℕ) → option_and_then refused_always (tree content) ≡ Some sure → AreBytesOf content bytes → Answers sure (reply rules bytes moment).0
-  sure_content content bytes sure rules moment e w = by (tree content) refl e w.are
+  -- so it is with the texts of constants in it
+  sure_known : (known : Text → Option Var) (d : Data) (sure : Sure) (values : Lists) (scope run issue : ℕ) (rules : List Rule) (moment : ℕ) → HasConstants known values scope → IsTree d → IsTree (addressed run issue (filled values scope d))
+      → is_command_id (command_id run issue) ≡ true → sure_with known d ≡ Some sure → Answers sure (reply rules (canon (addressed run issue (filled values scope d))) moment).0
+  sure_known known d sure values scope run issue rules moment has t u named e =
+      let same : filled values scope (with_constants known d) ≡ filled values scope d = filled_known go known values scope has d in
+      subst (λ (x : Data). Answers sure (reply rules (canon (addressed run issue x)) moment).0) same
+      (sure_tree (with_constants known d) sure values scope run issue rules moment (tree_known go known values scope has d t) (subst (λ (x : Data). IsTree (addressed run issue x)) (sym same) u) named e)
+
+  sure_content : (known : Text → Option Var) (content bytes : List ℕ) (sure : Sure) (rules : List Rule) (moment : ℕ) → option_and_then (sure_with known) (tree content) ≡ Some sure → AreBytesOf known content bytes
+      → Answers sure (reply rules bytes moment).0
+  sure_content known content bytes sure rules moment e w = by (tree content) refl e w.are
     where
-      by : (o : Option Data) → tree content ≡ o → option_and_then refused_always o ≡ Some sure → option_map (λ d. canon (addressed w.run w.issue (filled w.values w.scope d))) o ≡ Some bytes → Answers sure (reply rules bytes moment).0
+      by : (o : Option Data) → tree content ≡ o → option_and_then (sure_with known) o ≡ Some sure → option_map (λ d. canon (addressed w.run w.issue (filled w.values w.scope d))) o ≡ Some bytes → Answers sure (reply rules bytes moment).0
       by None r e f = absurd (let wrong : None ≡ Some sure = e in cc)
       by (Some d) r e f =
           let same : canon (addressed w.run w.issue (filled w.values w.scope d)) ≡ bytes = (let g : Some (canon (addressed w.run w.issue (filled w.values w.scope d))) ≡ Some bytes = f in cc) in
           subst (λ (bytes : List ℕ). Answers sure (reply rules bytes moment).0) same
-          (sure_tree d sure w.values w.scope w.run w.issue rules moment (trees content d r) (w.is_tree d r) w.is_named e)
+          (sure_known known d sure w.values w.scope w.run w.issue rules moment w.constants (trees content d r) (w.is_tree d r) w.is_named e)
 
-  sure_command : (command : StepCommand) (sure : Sure) (content bytes : List ℕ) (rules : List Rule) (moment : ℕ) → sure_of command ≡ Some sure → command.content ≡ Some content → AreBytesOf content bytes
-      → Answers sure (reply rules bytes moment).0
-  sure_command command sure content bytes rules moment e is w = by (is_manual command) e
+  sure_command : AnswersAreSure
+  sure_command known command sure content bytes rules moment e is w = by (is_manual command) e
     where
-      by : (b : Bool) → (if b then None else option_and_then refused_always (option_and_then tree command.content)) ≡ Some sure → Answers sure (reply rules bytes moment).0
+      by : (b : Bool) → (if b then None else option_and_then (sure_with known) (option_and_then tree command.content)) ≡ Some sure → Answers sure (reply rules bytes moment).0
       by true e = absurd (let wrong : None ≡ Some sure = e in cc)
       by false e =
-          sure_content content bytes sure rules moment (sym (ap (λ (o : Option (List ℕ)). option_and_then refused_always (option_and_then tree o)) is) ∙ e) w
+          sure_content known content bytes sure rules moment (sym (ap (λ (o : Option (List ℕ)). option_and_then (sure_with known) (option_and_then tree o)) is) ∙ e) w
 
 -- the law, from the laws of trees, canonical text and references
 pub answers_are_sure : TextsHaveTrees → ReadsBack → PutKeepsProfile → RemovalKeepsProfile → MembersHaveProfile → ReferencesGoOn → AnswersAreSure

@@ -7,12 +7,9 @@ use Rattle.std.specs.List.{list_any}
 use Rattle.std.specs.Option.{option_map_or}
 use Rattle.serde_json.specs.Data.{Data, string, array, object, Items, no_items, item, Members, put}
 use Rattle.serde_json.specs.Find.{as_str, as_array, as_object, get, get_member}
-use Rattle.cacao_json.specs.Reading.{tree}
 use Rattle.cacao_json.specs.Tree.{without}
 use Rattle.cacao_text.specs.Canon.{canon}
 use Rattle.cacao_vars.specs.References.{first_reference}
-use Rattle.cacao_book.specs.declared.commands.StepCommand.{StepCommand}
-use Rattle.cacao_check_steps.specs.Uses.{is_manual}
 use Rattle.oc2_msg_targets.specs.declared.actions.Action.{Action}
 use Rattle.oc2_msg_targets.specs.declared.actions.Action.TheVariants as action
 use Rattle.oc2_msg_targets.specs.declared.kinds.TargetKind.{TargetKind}
@@ -183,7 +180,3 @@ sure_by d refusal = sure_for (is_open_at (codes "action") d) (opens_target d) (o
 
 abbrev pub refused_always : Data → Option Sure
 refused_always d = option_map (sure_by d) (refusal_of (canon (command_settled d)))
-
--- the same of a command of a step; one for an operator goes to no filter
-abbrev pub sure_of : StepCommand → Option Sure
-sure_of command = if is_manual command then None else option_and_then refused_always (option_and_then tree command.content)

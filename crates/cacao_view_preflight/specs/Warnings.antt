@@ -20,11 +20,9 @@ use Rattle.base_graphs.specs.Closure.{Closure}
 use Rattle.oc2_msg.specs.Reasons.{reason_text}
 use Rattle.cacao_view_preflight.specs.declared.sure.Sure.{Sure}
 use Rattle.cacao_view_preflight.specs.declared.sure.Sure.TheVariants as sure
-use Rattle.cacao_view_preflight.specs.Settled.{sure_of}
+pub use Rattle.cacao_view_preflight.specs.Names.{Text, is_named}
+use Rattle.cacao_view_preflight.specs.Constants.{constant_in, outer_constants, sure_of}
 use Rattle.cacao_view_preflight.specs.declared.step_members.TheConstants.{STEP, ACTION, PLAYBOOK_ACTION, PARALLEL, IF_CONDITION, WHILE_CONDITION, SWITCH_CONDITION}
-
-abbrev pub Text : Type 0
-Text = List ℕ
 
 -- what is made of each item and its number, one behind another
 abbrev pub each : {A : Type 0} → (ℕ → A → List Text) → ℕ → List A → List Text
@@ -37,9 +35,6 @@ warn_if holds line = if holds then line ∷ [] else []
 -- what a warning of a step begins with
 abbrev pub step_front : ℕ → Text → Text
 step_front n key = codes "warning: book " ++ (decimal n ++ (codes " step " ++ key))
-
-abbrev pub is_named : List Text → Text → Bool
-is_named names name = list_any (λ other. bytes_eq other name) names
 
 abbrev pub names_of : List (Text × Data) → List Text
 names_of = map (λ m. m.0)
@@ -134,14 +129,14 @@ abbrev pub refusal_lines : ℕ → Text → ℕ → Option Sure → List Text
 refusal_lines n key c None = []
 refusal_lines n key c (Some sure) = command_line n key c sure ∷ []
 
-abbrev pub of_command : ℕ → Text → ℕ → StepCommand → List Text
-of_command n key c command = refusal_lines n key c (sure_of command)
+abbrev pub of_command : List Var → List Var → ℕ → Text → ℕ → StepCommand → List Text
+of_command own outer n key c command = refusal_lines n key c (sure_of (constant_in own outer) command)
 
-abbrev pub of_commands : ℕ → Step → List Text
-of_commands n step = each (of_command n step.key) 0 (commands_of step.kind)
+abbrev pub of_commands : List Var → ℕ → Step → List Text
+of_commands outer n step = each (of_command step.variables outer n step.key) 0 (commands_of step.kind)
 
 abbrev pub of_book_commands : ℕ → Book → List Text
-of_book_commands n book = flat_map (of_commands n) book.steps
+of_book_commands n book = flat_map (of_commands (outer_constants book) n) book.steps
 
 -- ---- members of a step that CACAO does not name for its type (CACAO 2.0, sections 4.1 to 4.10)
 

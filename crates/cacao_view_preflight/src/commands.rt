@@ -3,11 +3,13 @@ ghost use Rattle.std.specs.Prelude.{◌≡◌, ◌++◌, codes, decimal, IfOk, O
 ghost use Rattle.std.specs.List.{flat_map};
 ghost use Rattle.cacao_view_preflight.specs.Warnings.{command_line, each, of_book_commands, of_command, of_commands, refusal_lines, refusal_words, sure_words};
 
+use crate::constants::outer_constants;
 use crate::members::step_front;
 use crate::refusals::sure_of;
 use crate::sure::Sure;
 use cacao_book::{Book, Step, StepCommand};
 use cacao_check_steps::commands_of;
+use cacao_vars::Vars;
 use cacao_view_report::Lines;
 use std::alloc::{AllocError, Global};
 
@@ -70,46 +72,71 @@ fn add_refusal(
 
 fn add_command(
     alloc: Global,
+    own: &Vars,
+    outer: &Vars,
     n: usize,
     key: &str,
     c: usize,
     command: &StepCommand,
     lines: &mut Lines,
 ) -> Result<(), AllocError>
-    ensures { OnOk result (lines.new ≡ lines.old ++ of_command n key.now c command.now) }
+    ensures { OnOk result (lines.new ≡ lines.old ++ of_command own.now outer.now n key.now c command.now) }
 {
-    let sure = sure_of(alloc, command)?;
+    let sure = sure_of(alloc, own, outer, command)?;
     add_refusal(alloc, n, key, c, sure, lines)?;
     Ok(())
 }
 
 fn add_commands(
     alloc: Global,
+    own: &Vars,
+    outer: &Vars,
     n: usize,
     key: &str,
     commands: &[StepCommand],
     lines: &mut Lines,
 ) -> Result<(), AllocError>
-    ensures { OnOk result (lines.new ≡ lines.old ++ each (of_command n key.now) 0 commands.now) }
+    ensures { OnOk result (lines.new ≡ lines.old ++ each (of_command own.now outer.now n key.now) 0 commands.now) }
 {
     for c in 0..commands.len() {
-        add_command(alloc, n, key, c, &commands[c], lines)?;
+        add_command(alloc, own, outer, n, key, c, &commands[c], lines)?;
     }
     Ok(())
 }
 
-fn add_step(alloc: Global, n: usize, step: &Step, lines: &mut Lines) -> Result<(), AllocError>
-    ensures { OnOk result (lines.new ≡ lines.old ++ of_commands n step.now) }
+fn add_step(
+    alloc: Global,
+    outer: &Vars,
+    n: usize,
+    step: &Step,
+    lines: &mut Lines,
+) -> Result<(), AllocError>
+    ensures { OnOk result (lines.new ≡ lines.old ++ of_commands outer.now n step.now) }
 {
-    add_commands(alloc, n, step.key.text(), commands_of(&step.kind), lines)?;
+    let commands = commands_of(&step.kind);
+    add_commands(
+        alloc,
+        &step.variables,
+        outer,
+        n,
+        step.key.text(),
+        commands,
+        lines,
+    )?;
     Ok(())
 }
 
-fn add_steps(alloc: Global, n: usize, steps: &[Step], lines: &mut Lines) -> Result<(), AllocError>
-    ensures { OnOk result (lines.new ≡ lines.old ++ flat_map (of_commands n) steps.now) }
+fn add_steps(
+    alloc: Global,
+    outer: &Vars,
+    n: usize,
+    steps: &[Step],
+    lines: &mut Lines,
+) -> Result<(), AllocError>
+    ensures { OnOk result (lines.new ≡ lines.old ++ flat_map (of_commands outer.now n) steps.now) }
 {
     for step in steps {
-        add_step(alloc, n, step, lines)?;
+        add_step(alloc, outer, n, step, lines)?;
     }
     Ok(())
 }
@@ -117,7 +144,8 @@ fn add_steps(alloc: Global, n: usize, steps: &[Step], lines: &mut Lines) -> Resu
 fn add_book(alloc: Global, n: usize, book: &Book, lines: &mut Lines) -> Result<(), AllocError>
     ensures { OnOk result (lines.new ≡ lines.old ++ of_book_commands n book.now) }
 {
-    add_steps(alloc, n, book.steps.as_slice(), lines)?;
+    let outer = outer_constants(alloc, book)?;
+    add_steps(alloc, &outer, n, book.steps.as_slice(), lines)?;
     Ok(())
 }
 

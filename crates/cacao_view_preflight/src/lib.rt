@@ -3,6 +3,7 @@
 
 mod agents;
 mod commands;
+mod constants;
 mod flight;
 mod inner_variables;
 mod laws;

@@ -13,7 +13,8 @@ use cacao_json::{Tree, member, text_of};
 use cacao_vars::find_reference;
 use oc2_msg_targets::{TargetKind, single};
 
-fn has_reference(text: &str) -> bool
+/// Whether a text has a reference.
+pub(crate) fn has_reference(text: &str) -> bool
     ensures { result ≡ has_reference text.now }
 {
     match find_reference(text) {

@@ -3,8 +3,10 @@ ghost use Rattle.std.specs.Prelude.{◌≡◌, ◌≤◌, IfOk, length, option_m
 ghost use Rattle.cacao_json.specs.Tree.{data_of};
 ghost use Rattle.oc2_msg.specs.Commands.{answer_of};
 ghost use Rattle.cacao_view_preflight.specs.Refused.{IsRefusedBy, IsRefusedIn};
-ghost use Rattle.cacao_view_preflight.specs.Settled.{error_of, refusal_of, refused_always, sure_by, sure_for, sure_of};
+ghost use Rattle.cacao_view_preflight.specs.Constants.{constant_in, sure_of};
+ghost use Rattle.cacao_view_preflight.specs.Settled.{error_of, refusal_of, refused_always, sure_by, sure_for};
 
+use crate::constants::with_constants;
 use crate::opens::{is_open_at, opens_args, opens_target};
 use crate::settled::command_settled;
 use crate::sure::Sure;
@@ -12,6 +14,7 @@ use cacao_book::StepCommand;
 use cacao_check_steps::is_manual;
 use cacao_json::{Tree, find_tree};
 use cacao_text::canonical;
+use cacao_vars::Vars;
 use oc2_msg::{Command, CommandError, Reason, Refusal, read_command};
 use std::alloc::{AllocError, Global};
 
@@ -117,9 +120,14 @@ fn refused_always(alloc: Global, tree: &Tree) -> Result<Option<Sure>, AllocError
     Ok(sure_if(tree, refusal))
 }
 
-/// The same of a command of a step.
-pub(crate) fn sure_of(alloc: Global, command: &StepCommand) -> Result<Option<Sure>, AllocError>
-    ensures { IfOk result (λ sure. sure ≡ sure_of command.now) }
+/// The same of a command of a step with its own variables, in which the constants that it sees are known.
+pub(crate) fn sure_of(
+    alloc: Global,
+    own: &Vars,
+    outer: &Vars,
+    command: &StepCommand,
+) -> Result<Option<Sure>, AllocError>
+    ensures { IfOk result (λ sure. sure ≡ sure_of (constant_in own.now outer.now) command.now) }
 {
     if is_manual(command) {
         return Ok(None);
@@ -130,6 +138,7 @@ pub(crate) fn sure_of(alloc: Global, command: &StepCommand) -> Result<Option<Sur
     let Some(tree) = find_tree(alloc, text.text().as_bytes())? else {
         return Ok(None);
     };
-    let sure = refused_always(alloc, &tree)?;
+    let known = with_constants(alloc, own, outer, &tree)?;
+    let sure = refused_always(alloc, &known)?;
     Ok(sure)
 }

@@ -27,5 +27,6 @@ returns c =
     let begun : HasBegun entry flow = some-arm (IsNotBegun entry) (HasBegun entry) c.in_ok-flow.field-0 flow (c.in_ok-flow.ensures entry of) c.in-Some-2.is in
     record {
       begun = begun;
-      logged = logged_first c.args.form entry item flow _ of found.0 begun (pushed_first _ _ _ _ c.requires c.in_ok-push.ensures.items c.in_ok-text.ensures);
+      logged = logged_first c.args.form entry item flow _ c.args.senders.now.items c.tell_record.new.senders.items of found.0 begun c.requires.senders
+          (pushed_first _ _ _ _ c.requires.texts c.in_ok-push.ensures.items c.in_ok-text.ensures.text) c.in_ok-text.ensures.noted;
     }

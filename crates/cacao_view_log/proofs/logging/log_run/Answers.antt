@@ -12,12 +12,12 @@ tell_others-requires c =
     let items = items_of c.args.source.now in
     let some : 0 < length items = c.requires.some in
     let first = c.entry.result.now in
-    let began : BeginsLog c.args.form first c.begin.new.texts.items c.in-Ok-Some.flow =
-    some-arm (IsNotBegun first) (BeginsLog c.args.form first c.begin.new.texts.items) c.in-Ok-Some.field-0 c.in-Ok-Some.flow c.in-Ok-Some.ensures c.in-Ok-Some.field-0-is in
+    let began : BeginsLog c.args.form first c.begin.new.texts.items c.begin.new.senders.items c.in-Ok-Some.flow =
+    some-arm (IsNotBegun first) (BeginsLog c.args.form first c.begin.new.texts.items c.begin.new.senders.items) c.in-Ok-Some.field-0 c.in-Ok-Some.flow c.in-Ok-Some.ensures c.in-Ok-Some.field-0-is in
     record {
       whole = c.requires.whole;
       some = omega arith;
-      begun = begins_take c.args.form items first c.in-Ok-Some.flow c.begin.new.texts.items (first_entry items first some c.entry.ensures) began.logged;
+      begun = begins_take c.args.form items first c.in-Ok-Some.flow c.begin.new.texts.items c.begin.new.senders.items (first_entry items first some c.entry.ensures) began.logged;
     }
 
 pub returns-in-Ok-None-clause-damaged : goal.returns-in-Ok-None-clause-damaged
@@ -25,7 +25,7 @@ returns-in-Ok-None-clause-damaged c =
     let items = items_of c.args.source.now in
     let some : 0 < length items = c.requires.some in
     let first = c.entry.result.now in
-    let bad : IsNotBegun first = none-case (IsNotBegun first) (BeginsLog c.args.form first c.begin.new.texts.items) c.in-Ok-None.field-0 c.in-Ok-None.ensures c.in-Ok-None.field-0-is in
+    let bad : IsNotBegun first = none-case (IsNotBegun first) (BeginsLog c.args.form first c.begin.new.texts.items c.begin.new.senders.items) c.in-Ok-None.field-0 c.in-Ok-None.ensures c.in-Ok-None.field-0-is in
     λ place e. inl (
       record { first = first; others = drop 1 items; are = first_entry items first some c.entry.ensures; bad = bad },
       place_is place e,
@@ -36,7 +36,7 @@ returns-clause-ok c =
     let items = items_of c.args.source.now in
     let some : 0 < length items = c.requires.some in
     let first = c.entry.result.now in
-    let began : BeginsLog c.args.form first c.begin.new.texts.items c.in-Ok-Some.flow =
-    some-arm (IsNotBegun first) (BeginsLog c.args.form first c.begin.new.texts.items) c.in-Ok-Some.field-0 c.in-Ok-Some.flow c.in-Ok-Some.ensures c.in-Ok-Some.field-0-is in
-    tells_flow c.args.form items first c.in-Ok-Some.flow c.tell_others.new.flow c.tell_others.new.texts.items (first_entry items first some c.entry.ensures)
+    let began : BeginsLog c.args.form first c.begin.new.texts.items c.begin.new.senders.items c.in-Ok-Some.flow =
+    some-arm (IsNotBegun first) (BeginsLog c.args.form first c.begin.new.texts.items c.begin.new.senders.items) c.in-Ok-Some.field-0 c.in-Ok-Some.flow c.in-Ok-Some.ensures c.in-Ok-Some.field-0-is in
+    tells_flow c.args.form items first c.in-Ok-Some.flow c.tell_others.new.flow c.tell_others.new.texts.items c.tell_others.new.senders.items (first_entry items first some c.entry.ensures)
     began.begun c.in-Ok.ensures.ok c.law.ensures.sizes.tasks

@@ -44,10 +44,10 @@ loop-n-preserved c =
     let seen = c.args.flow.now.seen in
     let within : c.loop-n.n < length items = omega arith in
     let good : c.in-Ok-true.field-0 ≡ true = search rules in
-    let more = logged_more c.args.form seen.given seen.run (take c.loop-n.n items) c.loop-n.flow c.tell_next.new.flow c.loop-n.texts.items c.tell_next.new.texts.items c.entry.result.now
+    let more = logged_more c.args.form seen.given seen.run (take c.loop-n.n items) c.loop-n.flow c.tell_next.new.flow c.loop-n.texts.items c.tell_next.new.texts.items c.loop-n.senders.items c.tell_next.new.senders.items c.entry.result.now
     c.loop-n.invariant.logged (c.in-Ok-true.ensures.told (ap (λ (b : Bool). Ok b) good)) in
     record {
       low = omega arith;
-      logged = subst (λ (l : List (List ℕ)). IsLogged c.args.form seen.given seen.run l c.tell_next.new.flow c.tell_next.new.texts.items)
+      logged = subst (λ (l : List (List ℕ)). IsLogged c.args.form seen.given seen.run l c.tell_next.new.flow c.tell_next.new.texts.items c.tell_next.new.senders.items)
           (take_entry items c.loop-n.n c.entry.result.now within c.entry.ensures) more;
     }

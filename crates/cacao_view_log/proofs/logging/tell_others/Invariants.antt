@@ -6,5 +6,5 @@ use Rattle.cacao_view_log.proofs.logging.tell_others.Given as goal
 abbrev pub invariant-loop-n : goal.invariant-loop-n
 invariant-loop-n l = record {
   low : 1 ≤ l.n;
-  logged : IsLogged l.form l.fn.flow.seen.given l.fn.flow.seen.run (take l.n (items_of l.source)) l.flow l.texts.items;
+  logged : IsLogged l.form l.fn.flow.seen.given l.fn.flow.seen.run (take l.n (items_of l.source)) l.flow l.texts.items l.senders.items;
 }

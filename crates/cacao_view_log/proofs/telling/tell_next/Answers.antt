@@ -13,8 +13,8 @@ returns-in-Ok-push-clause-told c =
     let in_range : InRange r = search rules in
     let is : c.args.entry.now ≡ layout r = search rules in
     let good : c.in-Ok-true.field-0 ≡ true = search rules in
-    λ e. tells_entry c.args.form v c.take.new.flow c.args.texts.now.items c.push.new.self.items c.args.entry.now c.in-Ok.text r c.args.n
-    in_range is (c.in-Ok-true.ensures.took (ap (λ (b : Bool). Ok b) good)) c.requires.counted c.in-Ok.ensures c.in-Ok-push.ensures.items
+    λ e. tells_entry c.args.form v c.take.new.flow c.args.texts.now.items c.push.new.self.items c.args.senders.now.items c.tell_record.new.senders.items c.args.entry.now c.in-Ok.text r c.args.n
+    in_range is (c.in-Ok-true.ensures.took (ap (λ (b : Bool). Ok b) good)) c.requires.counted c.in-Ok.ensures.text c.in-Ok-push.ensures.items c.in-Ok.ensures.noted
 
 pub returns-in-Ok-false-clause-bad : goal.returns-in-Ok-false-clause-bad
 returns-in-Ok-false-clause-bad c =

@@ -1,6 +1,3 @@
-use Rattle.std.proofs.Common.{◌≡◌, ◌++◌, List, drop, take}
-use Rattle.cacao_view_preflight.specs.NameSets.{HasJust}
-use Rattle.cacao_view_preflight.specs.Warnings.{Text, agent_line, each, is_first_unbound, of_names, warn_if}
 use Rattle.cacao_view_preflight.proofs.AgentLemmas.{Told}
 use Rattle.cacao_view_preflight.proofs.agents.add_agents.Given as goal
 

@@ -1,5 +1,5 @@
 -- One playbook more was told.
-use Rattle.std.proofs.Common.{◌≡◌, ◌∙◌, ◌++◌, sym, subst, refl, List, [], take}
+use Rattle.std.proofs.Common.{◌++◌, sym, subst, refl, List, [], take}
 use Rattle.cacao_book.specs.declared.books.Book.{Book}
 use Rattle.cacao_view_preflight.specs.NameSets.{HasJust}
 use Rattle.cacao_view_preflight.specs.Warnings.{Text, all_agents, each, of_agents}

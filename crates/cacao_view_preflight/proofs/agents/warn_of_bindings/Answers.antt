@@ -1,11 +1,7 @@
 -- One binding more was looked at.
-use Rattle.std.proofs.Common.{◌≡◌, ◌∙◌, ◌++◌, sym, ap, refl, List, map, append-nil, drop}
-use Rattle.std.proofs.lemmas.List.{drop_all}
-use Rattle.std.specs.List.{flat_map}
+use Rattle.std.proofs.Common.{◌∙◌, ◌++◌, ap, refl, List, map}
 use Rattle.std.specs.Prelude.{not}
-use Rattle.cacao_json.specs.declared.tree.Pair.{Pair}
 use Rattle.cacao_json.specs.Tree.{pair_data}
-use Rattle.cacao_view_preflight.specs.NameSets.{HasJust, holds}
 use Rattle.cacao_view_preflight.specs.Warnings.{Text, binding_line, is_named, names_of, of_bindings, warn_if}
 use Rattle.cacao_view_preflight.proofs.EachLemmas.{added_named, named_all}
 use Rattle.cacao_view_preflight.proofs.agents.warn_of_bindings.Goals as goal

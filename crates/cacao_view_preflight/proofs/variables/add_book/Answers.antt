@@ -1,9 +1,9 @@
 -- The first playbook, or one that is called.
-use Rattle.std.proofs.Common.{◌≡◌, ◌≢◌, ◌∙◌, ◌++◌, ◌==◌, Bool, false, List, ℕ, arith, ap, sym}
+use Rattle.std.proofs.Common.{◌≡◌, ◌∙◌, ◌++◌, ◌==◌, Bool, false, List, ℕ, arith, ap, sym}
 use Rattle.std.specs.List.{flat_map}
 use Rattle.std.specs.Prelude.{if◌then◌else◌}
 use Rattle.cacao_vars.specs.declared.declarations.Var.{Var}
-use Rattle.cacao_view_preflight.specs.Warnings.{Text, handed_in, of_book_variables, of_called, of_variables}
+use Rattle.cacao_view_preflight.specs.Warnings.{handed_in, of_book_variables, of_called, of_variables}
 use Rattle.cacao_view_preflight.proofs.variables.add_book.Goals as goal
 
 pub returns-then-n-eq0 : goal.returns-then-n-eq0

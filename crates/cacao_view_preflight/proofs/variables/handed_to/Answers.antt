@@ -1,5 +1,5 @@
 -- One playbook more was looked at.
-use Rattle.std.proofs.Common.{List, [], sym, subst, take}
+use Rattle.std.proofs.Common.{[], sym, subst, take}
 use Rattle.std.specs.List.{flat_map}
 use Rattle.cacao_view_preflight.specs.NameSets.{HasJust}
 use Rattle.cacao_view_preflight.specs.Warnings.{handed_in}

@@ -1,5 +1,5 @@
 -- The set has the name and what it had.
-use Rattle.std.proofs.Common.{◌≡◌, ◌∙◌, ◌||◌, ap, true}
+use Rattle.std.proofs.Common.{◌∙◌, ◌||◌, ap, true}
 use Rattle.std.specs.Str.{bytes_eq}
 use Rattle.std.proofs.lemmas.Map.Text.{btree_set_updates_text}
 use Rattle.std.specs.Prelude.{string_bytes}

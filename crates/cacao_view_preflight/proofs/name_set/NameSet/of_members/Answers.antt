@@ -1,10 +1,8 @@
 -- The names of the members before this one, and then its own.
-use Rattle.std.proofs.Common.{◌≡◌, ◌∙◌, ◌||◌, List, [], map, length, take, sym, ap, subst, arith}
+use Rattle.std.proofs.Common.{◌∙◌, ◌||◌, ap}
 use Rattle.std.specs.Str.{bytes_eq}
-use Rattle.serde_json.specs.Data.{Data}
 use Rattle.cacao_json.specs.Tree.{pair_data}
-use Rattle.cacao_view_preflight.specs.NameSets.{HasJust, holds}
-use Rattle.cacao_view_preflight.specs.Warnings.{Text, names_of}
+use Rattle.cacao_view_preflight.specs.NameSets.{holds}
 use Rattle.cacao_view_preflight.proofs.SetLemmas.{members_all, members_more}
 use Rattle.cacao_view_preflight.proofs.name_set.NameSet.of_members.Goals as goal
 
