@@ -132,6 +132,9 @@ def called_by(book):
     return {step["playbook_id"] for step in book["workflow"].values() if "playbook_id" in step}
 
 
+REFUSED = {"tour-misspelt.json"}  # by the rules, as the tour shows: it has no run
+
+
 def example_cases(folder):
     """A case for each playbook of the folder, with those that it calls as libraries."""
     texts = {}
@@ -143,7 +146,7 @@ def example_cases(folder):
     names_of = {book["id"]: name for name, book in books.items() if "id" in book}
     found = []
     for name, book in books.items():
-        if book.get("type") != "playbook":
+        if book.get("type") != "playbook" or name in REFUSED:
             continue
         wanted, seen = [name], {name}
         for at in wanted:
