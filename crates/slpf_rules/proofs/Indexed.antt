@@ -22,7 +22,7 @@ abbrev pub files : (Flow → Option AnyNet) → AnyNet → Rule → Bool
 files net_of net rule = is_net net (net_of rule.flow)
 
 -- equal nets file the same
-is_net_same : (a b : AnyNet) (o : Option AnyNet) → eq_by_cmp net_cmp a b ≡ true → is_net a o ≡ is_net b o
+pub is_net_same : (a b : AnyNet) (o : Option AnyNet) → eq_by_cmp net_cmp a b ≡ true → is_net a o ≡ is_net b o
 is_net_same a b None h = refl
 is_net_same a b (Some other) h = net_eq_equiv.congr a b other h
 
@@ -38,6 +38,15 @@ listed_if Greater n m ms behind = refl
 listed-insert_key : (ns : List ℕ) (n : ℕ) → listed (insert_key nat_cmp ns n) ≡ Some (insert_key nat_cmp ns n)
 listed-insert_key [] n = refl
 listed-insert_key (m ∷ ms) n = listed_if (nat_cmp n m) n m ms (insert_key nat_cmp ms n)
+
+listed_none : (rules : List Rule) → listed (numbers rules) ≡ None → rules ≡ []
+listed_none [] h = refl
+listed_none (r ∷ rules) h = cc
+
+-- nothing is filed under a net
+pub none_filed : (net_of : Flow → Option AnyNet) (rules : List Rule) (entries : List (AnyNet × List ℕ)) (net : AnyNet) → IsIndexOf net_of rules entries → at entries net ≡ None
+    → filter (files net_of net) rules ≡ []
+none_filed net_of rules entries net h none = listed_none (filter (files net_of net) rules) (sym (h net) ∙ none)
 
 -- what stands under the rule's own net
 under : (net_of : Flow → Option AnyNet) (rules : List Rule) (entries : List (AnyNet × List ℕ)) (net other : AnyNet) → IsIndexOf net_of rules entries → eq_by_cmp net_cmp net other ≡ true

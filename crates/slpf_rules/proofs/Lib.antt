@@ -4,11 +4,15 @@ pub mod FoundLemmas
 pub mod Zeros
 pub mod Rising
 pub mod Indexed
+pub mod NetWidths
 pub mod Counting
+pub mod QuickLemmas
+pub mod SideLemmas
 pub mod Filings
 pub mod Smallest
-pub mod NetWidths
 pub mod SoleLemmas
 pub mod Deciders
+pub mod PickLemmas
+pub mod QuickDecides
 pub mod ReplyRanges
 pub mod ReplyLengths

@@ -134,12 +134,12 @@ each_if : (P : Rule → Type 0) (b : Bool) (r : Rule) (rules : List Rule) → P 
 each_if P true r rules h w = (h, w)
 each_if P false r rules h w = w
 
-each_filter : (P : Rule → Type 0) (d : Rule → Bool) (rules : List Rule) → EachRule P rules → EachRule P (filter d rules)
+pub each_filter : (P : Rule → Type 0) (d : Rule → Bool) (rules : List Rule) → EachRule P rules → EachRule P (filter d rules)
 each_filter P d [] h = tt
 each_filter P d (r ∷ rules) h = each_if P (d r) r (filter d rules) h.0 (each_filter P d rules h.1)
 
 -- what holds of the rule, if there is one
-abbrev OfRule : (Rule → Type 0) → Option Rule → Type 0
+abbrev pub OfRule : (Rule → Type 0) → Option Rule → Type 0
 OfRule P None = Unit {0}
 OfRule P (Some r) = P r
 
@@ -164,7 +164,11 @@ found_again : (rules : List Rule) (o : Option Rule) → OfRule (λ r. rule_at r.
 found_again rules None h = refl
 found_again rules (Some r) h = h
 
+-- the rule of the least number is found by it
+pub found_number_of : (d : Rule → Bool) (rules : List Rule) → IsRising rules → OfRule (λ r. rule_at r.number rules ≡ Some r) (least (filter d rules))
+found_number_of d rules h = of_least (λ r. rule_at r.number rules ≡ Some r) (filter d rules) (each_filter (λ r. rule_at r.number rules ≡ Some r) d rules (found_each rules h))
+
 pub least_is_found : (d : Rule → Bool) (rules : List Rule) → IsRising rules → found_at rules (smallest d rules) ≡ least (filter d rules)
 least_is_found d rules h =
     ap (found_at rules) (smallest-least d rules)
-    ∙ found_again rules (least (filter d rules)) (of_least (λ r. rule_at r.number rules ≡ Some r) (filter d rules) (each_filter (λ r. rule_at r.number rules ≡ Some r) d rules (found_each rules h)))
+    ∙ found_again rules (least (filter d rules)) (found_number_of d rules h)

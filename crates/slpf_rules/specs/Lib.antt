@@ -9,8 +9,11 @@ pub mod Widths
 pub mod IndexEntries
 pub mod Soles
 pub mod Indexes
+pub mod Slots
+pub mod Quick
 pub mod Filing
 pub mod Deciding
+pub mod Picking
 pub mod Replies
 pub mod TableFacts
 pub mod Laws

@@ -76,7 +76,7 @@ impl Table {
                     start: begin,
                     stop: stop_of(*stop, *duration, begin),
                 };
-                self.put(*insert, rule)
+                self.put(*insert, rule, moment)
             }
             Command::Delete { number } => Ok(self.answer_delete(*number)),
             Command::Update { name } => Ok(self.answer_update(name)),
@@ -125,14 +125,14 @@ impl Table {
         }
     }
 
-    fn put(&mut self, insert: Option<u32>, rule: Rule) -> Result<Response, AllocError>
+    fn put(&mut self, insert: Option<u32>, rule: Rule, moment: u64) -> Result<Response, AllocError>
         ensures response { IfOk result (λ response. response ≡ (puts self.old insert rule).0) }
         ensures rules { OnOk result (self.new ≡ (puts self.old insert rule).1) }
         ensures err { OnErr result (self.new ≡ self.old) }
     {
         match number_for(insert, self.rules()) {
             Ok(number) => {
-                self.add(Rule { number, ..rule })?;
+                self.add(Rule { number, ..rule }, moment)?;
                 Ok(said(self.allocator(), 200, number, Reason::Empty))
             }
             Err(text) => Ok(said(self.allocator(), 500, 0, text)),

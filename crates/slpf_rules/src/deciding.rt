@@ -1,4 +1,4 @@
-// The least number that decides, among the rules that an index files round an address.
+// What the rule of the least number says, among those that decide and that an index files round an address.
 ghost use Rattle.std.specs.Prelude.{◌≡◌, ◌+◌, ◌≤◌, Option, Some, [], find, unwrap_or};
 ghost use Rattle.oc2_nets.specs.declared.flows.Flow.{Flow};
 ghost use Rattle.oc2_nets.specs.declared.packets.Address.TheVariants as kind;
@@ -6,24 +6,46 @@ ghost use Rattle.slpf_rules.specs.declared.any_nets.AnyNet.{AnyNet};
 ghost use Rattle.slpf_rules.specs.IndexEntries.{at};
 ghost use Rattle.slpf_rules.specs.Order.{IsRising};
 ghost use Rattle.slpf_rules.specs.Soles.{IsSole};
-ghost use Rattle.slpf_rules.specs.Filing.{IsIndexOf};
-ghost use Rattle.slpf_rules.specs.Deciding.{sooner, smallest, number_decides, decides_in, decides_below};
+ghost use Rattle.slpf_rules.specs.Filing.{IsSide};
+ghost use Rattle.slpf_rules.specs.Deciding.{smallest, number_decides, decides_in, decides_below};
+ghost use Rattle.slpf_rules.specs.Picking.{earlier, picked, said_or_allowed, NetsCover};
 
 use crate::any_nets::AnyNet;
 use crate::index::Index;
 use crate::numbers::Numbers;
 use crate::rules::Rules;
-use crate::verdicts::decides;
+use crate::sides::Side;
+use crate::verdicts::{Verdict, decides};
 use oc2_nets::{Address, Net4, Net6, Packet};
 
-/// The lesser of two numbers, where there are two.
-pub(crate) fn sooner(a: Option<u32>, b: Option<u32>) -> Option<u32>
-    ensures { result ≡ sooner a b }
+/// The verdict of the lesser number, where there are two.
+pub(crate) fn earlier(a: Option<Verdict>, b: Option<Verdict>) -> Option<Verdict>
+    ensures { result ≡ earlier a b }
 {
     match (a, b) {
         (None, other) => other,
         (Some(a), None) => Some(a),
-        (Some(a), Some(b)) => Some(a.min(b)),
+        (Some(a), Some(b)) => { if b.rule < a.rule { Some(b) } else { Some(a) } }
+    }
+}
+
+/// What was found; without it a packet is allowed.
+pub(crate) fn said_or_allowed(found: Option<Verdict>) -> Verdict
+    ensures { result ≡ said_or_allowed found }
+{
+    match found {
+        Some(verdict) => verdict,
+        None => Verdict::of(None),
+    }
+}
+
+/// What the rule of a number says, where there is a number.
+pub(crate) fn picked(rules: &Rules, number: Option<u32>) -> Option<Verdict>
+    ensures { result ≡ picked rules.now number }
+{
+    match number {
+        Some(number) => Some(Verdict::of(rules.find(number))),
+        None => None,
     }
 }
 
@@ -76,71 +98,117 @@ fn first_under(index: &Index, net: &AnyNet, sole: Option<u32>, query: &Query) ->
     }
 }
 
-/// One width more of the IPv4 nets round an address.
-fn more4(best: Option<u32>, index: &Index, address: u32, width: u8, query: &Query) -> Option<u32>
+/// One width more of the IPv4 nets round an address, by the index.
+fn indexed4(
+    best: Option<Verdict>,
+    side: &Side,
+    address: u32,
+    width: u8,
+    query: &Query,
+) -> Option<Verdict>
     requires { width ≤ 32 }
-    ensures { (net_of : Flow → Option AnyNet) → IsIndexOf net_of query.now.rules.now index.now → IsRising query.now.rules.now
-        → best ≡ smallest (decides_below net_of width (kind.V4 address) query.now.packet.now query.now.moment) query.now.rules.now
-        → result ≡ smallest (decides_below net_of (width + 1) (kind.V4 address) query.now.packet.now query.now.moment)
-        query.now.rules.now }
+    ensures { (net_of : Flow → Option AnyNet) → IsSide net_of query.now.rules.now side.now → IsRising query.now.rules.now
+        → best ≡ picked query.now.rules.now
+        (smallest (decides_below net_of width (kind.V4 address) query.now.packet.now query.now.moment) query.now.rules.now)
+        → result ≡ picked query.now.rules.now
+        (smallest (decides_below net_of (width + 1) (kind.V4 address) query.now.packet.now query.now.moment) query.now.rules.now) }
 {
-    match index.sole4(address, width) {
+    match side.index.sole4(address, width) {
         Some(sole) => {
             let net = AnyNet::V4(Net4::new(address, width));
-            sooner(best, first_under(index, &net, sole, query))
+            let first = first_under(&side.index, &net, sole, query);
+            earlier(best, picked(query.rules, first))
         }
         None => best,
     }
 }
 
-/// The least number that decides, of the rules under the IPv4 nets that hold an address.
-fn least4(index: &Index, address: u32, query: &Query) -> Option<u32>
-    ensures { (net_of : Flow → Option AnyNet) → IsIndexOf net_of query.now.rules.now index.now → IsRising query.now.rules.now
-        → result ≡ smallest (decides_in net_of (kind.V4 address) query.now.packet.now query.now.moment) query.now.rules.now }
+/// One width more of the IPv4 nets round an address.
+fn more4(
+    best: Option<Verdict>,
+    side: &Side,
+    address: u32,
+    width: u8,
+    query: &Query,
+) -> Option<Verdict>
+    requires { width ≤ 32 }
+    ensures { (net_of : Flow → Option AnyNet) → IsSide net_of query.now.rules.now side.now → IsRising query.now.rules.now
+        → NetsCover net_of (kind.V4 address) query.now.packet.now
+        → best ≡ picked query.now.rules.now
+        (smallest (decides_below net_of width (kind.V4 address) query.now.packet.now query.now.moment) query.now.rules.now)
+        → result ≡ picked query.now.rules.now
+        (smallest (decides_below net_of (width + 1) (kind.V4 address) query.now.packet.now query.now.moment) query.now.rules.now) }
+{
+    if !side.index.has4(width) {
+        return best;
+    }
+    match side.quick.find(&Net4::new(address, width), query.moment) {
+        Some(slot) => earlier(best, slot.said(query.packet.outward)),
+        None => indexed4(best, side, address, width, query),
+    }
+}
+
+/// What the rule of the least number says, of those that decide under the IPv4 nets that hold an address.
+fn least4(side: &Side, address: u32, query: &Query) -> Option<Verdict>
+    ensures { (net_of : Flow → Option AnyNet) → IsSide net_of query.now.rules.now side.now → IsRising query.now.rules.now
+        → NetsCover net_of (kind.V4 address) query.now.packet.now
+        → result ≡ picked query.now.rules.now
+        (smallest (decides_in net_of (kind.V4 address) query.now.packet.now query.now.moment) query.now.rules.now) }
 {
     let mut best = None;
     for width in 0..33 {
-        best = more4(best, index, address, width, query);
+        best = more4(best, side, address, width, query);
     }
     best
 }
 
 /// One width more of the IPv6 nets round an address.
-fn more6(best: Option<u32>, index: &Index, address: u128, width: u8, query: &Query) -> Option<u32>
+fn more6(
+    best: Option<Verdict>,
+    side: &Side,
+    address: u128,
+    width: u8,
+    query: &Query,
+) -> Option<Verdict>
     requires { width ≤ 128 }
-    ensures { (net_of : Flow → Option AnyNet) → IsIndexOf net_of query.now.rules.now index.now → IsRising query.now.rules.now
-        → best ≡ smallest (decides_below net_of width (kind.V6 address) query.now.packet.now query.now.moment) query.now.rules.now
-        → result ≡ smallest (decides_below net_of (width + 1) (kind.V6 address) query.now.packet.now query.now.moment)
-        query.now.rules.now }
+    ensures { (net_of : Flow → Option AnyNet) → IsSide net_of query.now.rules.now side.now → IsRising query.now.rules.now
+        → best ≡ picked query.now.rules.now
+        (smallest (decides_below net_of width (kind.V6 address) query.now.packet.now query.now.moment) query.now.rules.now)
+        → result ≡ picked query.now.rules.now
+        (smallest (decides_below net_of (width + 1) (kind.V6 address) query.now.packet.now query.now.moment) query.now.rules.now) }
 {
-    match index.sole6(address, width) {
+    match side.index.sole6(address, width) {
         Some(sole) => {
             let net = AnyNet::V6(Net6::new(address, width));
-            sooner(best, first_under(index, &net, sole, query))
+            let first = first_under(&side.index, &net, sole, query);
+            earlier(best, picked(query.rules, first))
         }
         None => best,
     }
 }
 
-/// The least number that decides, of the rules under the IPv6 nets that hold an address.
-fn least6(index: &Index, address: u128, query: &Query) -> Option<u32>
-    ensures { (net_of : Flow → Option AnyNet) → IsIndexOf net_of query.now.rules.now index.now → IsRising query.now.rules.now
-        → result ≡ smallest (decides_in net_of (kind.V6 address) query.now.packet.now query.now.moment) query.now.rules.now }
+/// What the rule of the least number says, of those that decide under the IPv6 nets that hold an address.
+fn least6(side: &Side, address: u128, query: &Query) -> Option<Verdict>
+    ensures { (net_of : Flow → Option AnyNet) → IsSide net_of query.now.rules.now side.now → IsRising query.now.rules.now
+        → result ≡ picked query.now.rules.now
+        (smallest (decides_in net_of (kind.V6 address) query.now.packet.now query.now.moment) query.now.rules.now) }
 {
     let mut best = None;
     for width in 0..129 {
-        best = more6(best, index, address, width, query);
+        best = more6(best, side, address, width, query);
     }
     best
 }
 
-/// The least number that decides, of the rules under the nets that hold an address.
-pub(crate) fn least(index: &Index, address: Address, query: &Query) -> Option<u32>
-    ensures { (net_of : Flow → Option AnyNet) → IsIndexOf net_of query.now.rules.now index.now → IsRising query.now.rules.now
-        → result ≡ smallest (decides_in net_of address query.now.packet.now query.now.moment) query.now.rules.now }
+/// What the rule of the least number says, of those that decide under the nets that hold an address.
+pub(crate) fn least(side: &Side, address: Address, query: &Query) -> Option<Verdict>
+    ensures { (net_of : Flow → Option AnyNet) → IsSide net_of query.now.rules.now side.now → IsRising query.now.rules.now
+        → NetsCover net_of address query.now.packet.now
+        → result ≡ picked query.now.rules.now
+        (smallest (decides_in net_of address query.now.packet.now query.now.moment) query.now.rules.now) }
 {
     match address {
-        Address::V4(address) => least4(index, address, query),
-        Address::V6(address) => least6(index, address, query),
+        Address::V4(address) => least4(side, address, query),
+        Address::V6(address) => least6(side, address, query),
     }
 }

@@ -1,25 +1,23 @@
 // Where each rule is filed.
-ghost use Rattle.std.specs.Prelude.{◌≡◌, false, Some, Option, [], List, OnOk, OnErr};
-ghost use Rattle.oc2_nets.specs.declared.flows.Flow.{Flow};
-ghost use Rattle.slpf_rules.specs.declared.any_nets.AnyNet.{AnyNet};
+ghost use Rattle.std.specs.Prelude.{◌≡◌, false, Some, [], List, OnOk, OnErr};
 ghost use Rattle.slpf_rules.specs.declared.rules.Rule.{Rule};
 ghost use Rattle.slpf_rules.specs.Rules.{rule_at, is_held, place, without};
 ghost use Rattle.slpf_rules.specs.Order.{IsRising};
 ghost use Rattle.slpf_rules.specs.Filed.{source_net, destination_net, is_unfiled};
-ghost use Rattle.slpf_rules.specs.Filing.{IsIndexOf, IsFiling};
+ghost use Rattle.slpf_rules.specs.Filing.{IsFiling};
 
 use crate::any_nets::AnyNet;
-use crate::index::Index;
 use crate::numbers::Numbers;
 use crate::rules::Rule;
+use crate::sides::Side;
 use oc2_nets::Flow;
 use std::alloc::{AllocError, Global};
 
 /// The numbers of rules by source net, by destination net, and of those with neither.
 #[derive(Drop)]
 pub(crate) struct Filing {
-    pub(crate) sources: Index,
-    pub(crate) destinations: Index,
+    pub(crate) sources: Side,
+    pub(crate) destinations: Side,
     pub(crate) unfiled: Numbers,
 }
 
@@ -55,54 +53,20 @@ fn is_unfiled(rule: &Rule) -> bool
     source_net(&rule.flow).is_none() && destination_net(&rule.flow).is_none()
 }
 
-/// Files a rule under its net, if it has one. Nothing changes where memory is wanted.
-fn file_under(
-    index: &mut Index,
-    alloc: Global,
-    net: Option<AnyNet>,
-    rule: &Rule,
-) -> Result<(), AllocError>
-    ensures ok { OnOk result ((net_of : Flow → Option AnyNet) (rules : List Rule) → net_of rule.now.flow ≡ net
-        → IsIndexOf net_of rules index.old → IsRising rules → is_held rule.now.number rules ≡ false
-        → IsIndexOf net_of (place rule.now rules) index.new) }
-    ensures err { OnErr result ((net_of : Flow → Option AnyNet) (rules : List Rule)
-        → IsIndexOf net_of rules index.old → IsIndexOf net_of rules index.new) }
-{
-    match net {
-        Some(net) => {
-            index.add(alloc, net, rule.number)?;
-            Ok(())
-        }
-        None => Ok(()),
-    }
-}
-
-/// Takes a rule from under its net, if it has one. It takes no memory.
-fn unfile_under(index: &mut Index, net: Option<AnyNet>, rule: &Rule)
-    ensures { (net_of : Flow → Option AnyNet) (rules : List Rule) → net_of rule.now.flow ≡ net
-        → IsIndexOf net_of rules index.old → IsRising rules → rule_at rule.now.number rules ≡ Some rule.now
-        → IsIndexOf net_of (without rule.now.number rules) index.new }
-{
-    match net {
-        Some(net) => index.remove(&net, rule.number),
-        None => (),
-    }
-}
-
 impl Filing {
     /// No rule. Takes no memory.
     pub(crate) fn new(alloc: Global) -> Filing
         ensures { IsFiling [] result }
     {
         Filing {
-            sources: Index::new(alloc),
-            destinations: Index::new(alloc),
+            sources: Side::new(alloc),
+            destinations: Side::new(alloc),
             unfiled: Numbers::new(alloc),
         }
     }
 
-    /// Files one more rule. Where memory is wanted, what is filed stays.
-    pub(crate) fn file(&mut self, alloc: Global, rule: &Rule) -> Result<(), AllocError>
+    /// Files one more rule, at a moment, in milliseconds. Where memory is wanted, what is filed stays.
+    pub(crate) fn file(&mut self, alloc: Global, rule: &Rule, moment: u64) -> Result<(), AllocError>
         ensures ok { OnOk result ((rules : List Rule) → IsFiling rules self.old → IsRising rules
             → is_held rule.now.number rules ≡ false → IsFiling (place rule.now rules) self.new) }
         ensures err { OnErr result ((rules : List Rule) → IsFiling rules self.old → IsRising rules
@@ -112,16 +76,15 @@ impl Filing {
             self.unfiled.insert(rule.number)?;
             return Ok(());
         }
-        file_under(&mut self.sources, alloc, source_net(&rule.flow), rule)?;
-        match file_under(
-            &mut self.destinations,
-            alloc,
-            destination_net(&rule.flow),
-            rule,
-        ) {
+        self.sources
+            .file(alloc, source_net(&rule.flow), rule, moment)?;
+        match self
+            .destinations
+            .file(alloc, destination_net(&rule.flow), rule, moment)
+        {
             Ok(()) => Ok(()),
             Err(error) => {
-                unfile_under(&mut self.sources, source_net(&rule.flow), rule);
+                self.sources.unfile(source_net(&rule.flow), rule);
                 Err(error)
             }
         }
@@ -136,7 +99,7 @@ impl Filing {
             self.unfiled.remove(rule.number);
             return;
         }
-        unfile_under(&mut self.sources, source_net(&rule.flow), rule);
-        unfile_under(&mut self.destinations, destination_net(&rule.flow), rule);
+        self.sources.unfile(source_net(&rule.flow), rule);
+        self.destinations.unfile(destination_net(&rule.flow), rule);
     }
 }

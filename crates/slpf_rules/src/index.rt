@@ -1,5 +1,5 @@
 // Numbers of rules by net.
-ghost use Rattle.std.specs.Prelude.{◌≡◌, ◌<◌, ◌≤◌, ◌^◌, [], None, IsSome, IfOk, OnOk, OnErr, unwrap_or, false, if◌then◌else◌};
+ghost use Rattle.std.specs.Prelude.{◌≡◌, ℕ, ◌<◌, ◌≤◌, ◌^◌, [], None, IsSome, IfOk, OnOk, OnErr, unwrap_or, false, if◌then◌else◌};
 ghost use Rattle.std.specs.Bool.{OnTrue, OnFalse};
 ghost use Rattle.std.specs.Option.{option_copied};
 ghost use Rattle.std.specs.Ordering.{nat_cmp};
@@ -140,9 +140,15 @@ impl Index {
         &self.nets
     }
 
-    /// Puts a number under a net. Nothing changes where memory is wanted.
-    pub(crate) fn add(&mut self, alloc: Global, net: AnyNet, number: u32) -> Result<(), AllocError>
+    /// Puts a number under a net; true where the net is new. Nothing changes where memory is wanted.
+    pub(crate) fn add(
+        &mut self,
+        alloc: Global,
+        net: AnyNet,
+        number: u32,
+    ) -> Result<bool, AllocError>
         ensures ok { OnOk result (Puts self.old self.new net number) }
+        ensures alone { IfOk result (λ added. OnTrue added (at self.old net ≡ None)) }
         ensures err { OnErr result ((other : AnyNet) → at self.new other ≡ at self.old other) }
     {
         self.soles.hold(&net)?;
@@ -151,7 +157,7 @@ impl Index {
             self.widths.add(&net);
             self.soles.change(&net, Some(number));
         }
-        Ok(())
+        Ok(added)
     }
 
     /// Takes a number from under a net, and the net with its last one. It takes no memory.
@@ -171,6 +177,17 @@ impl Index {
         ensures { option_copied result ≡ at self.now net.now }
     {
         self.nets.get(net)
+    }
+
+    /// Whether there are IPv4 nets of this width.
+    pub(crate) fn has4(&self, width: u8) -> bool
+        requires { width ≤ 32 }
+        ensures { OnFalse result ((address : ℕ) → at self.now (V4 (net4 address width)) ≡ None) }
+    {
+        if self.widths.v4[width as usize] == 0 {
+            return false;
+        }
+        true
     }
 
     /// What is known of the IPv4 net of this width round an address: `None` where it has no number, and the number

@@ -10,7 +10,7 @@ ghost use Rattle.slpf_rules.specs.Filed.{by_source, by_destination, unfiled};
 ghost use Rattle.slpf_rules.specs.Verdicts.{verdict};
 
 use crate::any_nets::AnyNet;
-use crate::deciding::{Query, first_of, least, sooner};
+use crate::deciding::{Query, earlier, first_of, least, picked, said_or_allowed};
 use crate::filing::Filing;
 use crate::numbers::Numbers;
 use crate::rules::{Rule, Rules};
@@ -70,7 +70,7 @@ impl Table {
     pub fn by_source(&self) -> &BTreeMap<AnyNet, Numbers>
         ensures { (net : AnyNet) → get net_cmp result.now net ≡ by_source self.now net }
     {
-        self.filing.sources.nets()
+        self.filing.sources.index.nets()
     }
 
     /// The numbers of the rules by destination net: those of kind `net4` or `net6` under their net, and connections
@@ -78,7 +78,7 @@ impl Table {
     pub fn by_destination(&self) -> &BTreeMap<AnyNet, Numbers>
         ensures { (net : AnyNet) → get net_cmp result.now net ≡ by_destination self.now net }
     {
-        self.filing.destinations.nets()
+        self.filing.destinations.index.nets()
     }
 
     /// The numbers of the rules with neither net. It takes no memory.
@@ -98,27 +98,24 @@ impl Table {
             packet,
             moment,
         };
-        let unfiled = first_of(&self.filing.unfiled, &query);
+        let unfiled = picked(&self.rules, first_of(&self.filing.unfiled, &query));
         let source = least(&self.filing.sources, packet.from, &query);
         let destination = least(&self.filing.destinations, packet.to, &query);
-        match sooner(unfiled, sooner(source, destination)) {
-            Some(number) => Verdict::of(self.rules.find(number)),
-            None => Verdict::of(None),
-        }
+        said_or_allowed(earlier(unfiled, earlier(source, destination)))
     }
 
     pub(crate) fn allocator(&self) -> Global {
         self.alloc
     }
 
-    /// Adds a rule. Nothing changes where memory is wanted.
-    pub(crate) fn add(&mut self, rule: Rule) -> Result<(), AllocError>
+    /// Adds a rule at a moment, in milliseconds. Nothing changes where memory is wanted.
+    pub(crate) fn add(&mut self, rule: Rule, moment: u64) -> Result<(), AllocError>
         requires free { is_held rule.number self.old ≡ false }
         requires room { length self.old < 65_536 }
         ensures ok { OnOk result (self.new ≡ place rule self.old) }
         ensures err { OnErr result (self.new ≡ self.old) }
     {
-        self.filing.file(self.alloc, &rule)?;
+        self.filing.file(self.alloc, &rule, moment)?;
         match self.rules.insert(rule) {
             Ok(()) => Ok(()),
             Err(error) => {

@@ -35,7 +35,7 @@ impl Verdict {
     }
 }
 
-fn has_direction(direction: Direction, outward: bool) -> bool
+pub(crate) fn has_direction(direction: Direction, outward: bool) -> bool
     ensures { result ≡ has_direction direction outward }
 {
     match direction {

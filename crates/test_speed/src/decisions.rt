@@ -1,7 +1,7 @@
 // How fast packets are decided.
 use crate::packets::Traffic;
 use crate::report::{Measurement, say_ratio, since, used};
-use crate::tables::{MOST, rising};
+use crate::tables::{Kind, MOST};
 use oc2_nets::{Packet, covers};
 use slpf_rules::Table;
 use std::io;
@@ -100,12 +100,22 @@ fn measure_scan(
 
 /// Measures packets that no rule covers, and packets that one rule covers. The times of the table, in microseconds.
 fn measure_rules<R: Print + CpuClock + AllocGlobal>(rt: &R, rules: u32) -> io::Result<(u64, u64)> {
-    let table = rising(rt.alloc(), rules)?;
+    let kind = Kind::Nets;
+    let table = kind.table(rt.alloc(), rules)?;
     let outside = measure_table(rt, &table, rules, Traffic::Outside)?;
     measure_scan(rt, &table, rules, Traffic::Outside)?;
-    let inside = measure_table(rt, &table, rules, Traffic::Inside { nets: rules })?;
-    measure_scan(rt, &table, rules, Traffic::Inside { nets: rules })?;
+    let inside = measure_table(rt, &table, rules, Traffic::Inside { kind, rules })?;
+    measure_scan(rt, &table, rules, Traffic::Inside { kind, rules })?;
     Ok((outside, inside))
+}
+
+/// Measures packets that one rule covers, over tables of one kind of rules.
+fn measure_kind<R: Print + CpuClock + AllocGlobal>(rt: &R, kind: Kind) -> io::Result<()> {
+    for rules in [256, MOST] {
+        let table = kind.table(rt.alloc(), rules)?;
+        measure_table(rt, &table, rules, Traffic::Inside { kind, rules })?;
+    }
+    Ok(())
 }
 
 /// Measures decisions over 256 and over 65,536 rules.
@@ -123,5 +133,9 @@ pub(crate) fn measure<R: Print + CpuClock + AllocGlobal>(rt: &R) -> io::Result<(
         "65536 : 256 rules, packets that one rule covers",
         many.1,
         few.1,
-    )
+    )?;
+    for kind in [Kind::Nets6, Kind::Connections, Kind::Shared] {
+        measure_kind(rt, kind)?;
+    }
+    Ok(())
 }

@@ -1,11 +1,58 @@
 // Tables that are measured.
-use crate::commands::{deny, net, wide_net};
+ghost use Rattle.std.specs.Prelude.{IsTrue};
+ghost use Rattle.oc2_msg_targets.specs.Ranges.{FlowInRange};
+ghost use Rattle.oc2_msg_targets.specs.Targets.{has_part};
+
+use crate::commands::{connection, deny, deny_flow, net, net6, wide_net};
 use oc2_msg::Command;
+use oc2_nets::Flow;
 use slpf_rules::Table;
 use std::alloc::{AllocError, Global};
 
 /// How many rules a table holds at the most.
 pub(crate) const MOST: u32 = 65_536;
+
+/// Which rules a table has.
+#[derive(Clone, Copy)]
+pub(crate) enum Kind {
+    /// One IPv4 net a rule.
+    Nets,
+    /// One IPv6 net a rule.
+    Nets6,
+    /// Tcp to port 443 of a net, one net a rule.
+    Connections,
+    /// Tcp to one of 64 ports of a net, 64 rules a net.
+    Shared,
+}
+
+/// The port of the rule of this number, of those that share nets.
+pub(crate) fn shared_port(number: u32) -> u16 {
+    1_000 + (number % 64) as u16
+}
+
+impl Kind {
+    /// What the rule of this number, from 0 on, speaks of.
+    fn flow(self, number: u32) -> Flow
+        ensures fits { FlowInRange result }
+        ensures some_part { IsTrue (has_part result) }
+    {
+        match self {
+            Kind::Nets => Flow::Net4(net(number)),
+            Kind::Nets6 => Flow::Net6(net6(number)),
+            Kind::Connections => connection(net(number), 443),
+            Kind::Shared => connection(net(number / 64), shared_port(number)),
+        }
+    }
+
+    /// A table of so many denies, whose numbers rise.
+    pub(crate) fn table(self, alloc: Global, rules: u32) -> Result<Table, AllocError> {
+        let mut table = Table::new(alloc);
+        for number in 0..rules {
+            table.answer(&deny_flow(self.flow(number), None), 0)?;
+        }
+        Ok(table)
+    }
+}
 
 /// Denies of so many nets, the next numbers.
 fn add_denies(table: &mut Table, rules: u32) -> Result<(), AllocError> {

@@ -3,26 +3,30 @@ use Rattle.oc2_nets.specs.declared.packets.Address.TheVariants as kind
 use Rattle.oc2_nets.specs.Nets.{net6}
 use Rattle.slpf_rules.specs.declared.any_nets.AnyNet.TheVariants.{V6}
 use Rattle.slpf_rules.specs.IndexEntries.{at}
-use Rattle.slpf_rules.specs.Deciding.{sooner, number_decides}
+use Rattle.slpf_rules.specs.Deciding.{number_decides}
+use Rattle.slpf_rules.specs.Picking.{picked}
 use Rattle.slpf_rules.proofs.NetWidths.{holds_below-more6}
-use Rattle.slpf_rules.proofs.Smallest.{sooner-none}
-use Rattle.slpf_rules.proofs.Deciders.{decides_below-more}
+use Rattle.slpf_rules.proofs.PickLemmas.{picked-more, earlier-none}
 use Rattle.slpf_rules.proofs.deciding.more6.Goals as goal
 
 pub returns-in-Some : goal.returns-in-Some
 returns-in-Some c = λ net_of h rising is.
     let q = c.args.query.now in
-    let e = number_decides q.rules.now q.packet.now q.moment in
-    c.sooner.ensures
-    ∙ ap (sooner c.args.best) (c.first_under.ensures ∙ ap (λ n. find e (unwrap_or (at c.args.index.now (V6 n)) [])) c.new.ensures)
-    ∙ decides_below-more net_of q.rules.now _ q.packet.now q.moment (kind.V6 c.args.address) c.args.width (V6 (net6 c.args.address c.args.width)) c.args.best
-    (λ o. holds_below-more6 c.args.width c.args.address o c.requires) h rising is
+    let rules = q.rules.now in
+    let e = number_decides rules q.packet.now q.moment in
+    let entries = c.args.side.now.index in
+    c.earlier.ensures
+    ∙ picked-more net_of rules entries q.packet.now q.moment (kind.V6 c.args.address) c.args.width (V6 (net6 c.args.address c.args.width)) c.args.best _
+    (λ o. holds_below-more6 c.args.width c.args.address o c.requires) h.indexed rising is
+    (c.picked.ensures ∙ ap (picked rules) (c.first_under-first.ensures ∙ ap (λ n. find e (unwrap_or (at entries (V6 n)) [])) c.new.ensures))
 
 pub returns-in-None : goal.returns-in-None
 returns-in-None c = λ net_of h rising is.
     let q = c.args.query.now in
-    let e = number_decides q.rules.now q.packet.now q.moment in
-    sym (sooner-none c.args.best)
-    ∙ ap (λ o. sooner c.args.best (find e (unwrap_or o []))) (sym c.in-None.ensures)
-    ∙ decides_below-more net_of q.rules.now _ q.packet.now q.moment (kind.V6 c.args.address) c.args.width (V6 (net6 c.args.address c.args.width)) c.args.best
-    (λ o. holds_below-more6 c.args.width c.args.address o c.requires) h rising is
+    let rules = q.rules.now in
+    let e = number_decides rules q.packet.now q.moment in
+    let entries = c.args.side.now.index in
+    sym (earlier-none c.args.best)
+    ∙ picked-more net_of rules entries q.packet.now q.moment (kind.V6 c.args.address) c.args.width (V6 (net6 c.args.address c.args.width)) c.args.best _
+    (λ o. holds_below-more6 c.args.width c.args.address o c.requires) h.indexed rising is
+    (ap (λ o. picked rules (find e (unwrap_or o []))) (sym c.in-None.ensures))

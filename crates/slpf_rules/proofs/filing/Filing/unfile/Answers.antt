@@ -10,5 +10,5 @@ returns-then-is_unfiled c = λ rules h rising held.
 pub returns : goal.returns
 returns c = λ rules h rising held.
     IsFiling-without_filed c.args.rule.now rules _ _ _ h.unfiled (sym c.if-is_unfiled.ensures) rising held
-    (c.unfile_under.ensures source_net rules (sym c.source_net.ensures) h.sources rising held)
-    (c.unfile_under-2.ensures destination_net rules (sym c.destination_net.ensures) h.destinations rising held)
+    (c.unfile.ensures source_net rules (sym c.source_net.ensures) h.sources rising held)
+    (c.unfile-2.ensures destination_net rules (sym c.destination_net.ensures) h.destinations rising held)

@@ -1,0 +1,24 @@
+-- The rules of one side after one was placed or taken out that has no net there.
+use Rattle.std.proofs.Common.{◌≡◌, List, Option, Some, None}
+use Rattle.oc2_nets.specs.declared.flows.Flow.{Flow}
+use Rattle.slpf_rules.specs.declared.any_nets.AnyNet.{AnyNet}
+use Rattle.slpf_rules.specs.declared.rules.Rule.{Rule}
+use Rattle.slpf_rules.specs.declared.sides.Side.{Side}
+use Rattle.slpf_rules.specs.Order.{IsRising}
+use Rattle.slpf_rules.specs.Rules.{rule_at, place, without}
+use Rattle.slpf_rules.specs.Filing.{IsSide}
+use Rattle.slpf_rules.proofs.Indexed.{IsIndexOf-place_none, IsIndexOf-without_none}
+use Rattle.slpf_rules.proofs.QuickLemmas.{IsAlone-place_none, IsAlone-without_none}
+
+pub IsSide-place_none : (net_of : Flow → Option AnyNet) (rule : Rule) (rules : List Rule) (side : Side) → IsSide net_of rules side → net_of rule.flow ≡ None → IsSide net_of (place rule rules) side
+IsSide-place_none net_of rule rules side h is = record {
+  indexed = IsIndexOf-place_none net_of rule rules side.index h.indexed is;
+  quick = λ slot reads. IsAlone-place_none net_of rule rules side.quick.since slot is (h.quick slot reads);
+}
+
+pub IsSide-without_none : (net_of : Flow → Option AnyNet) (rule : Rule) (rules : List Rule) (side : Side) → IsSide net_of rules side → net_of rule.flow ≡ None
+    → IsRising rules → rule_at rule.number rules ≡ Some rule → IsSide net_of (without rule.number rules) side
+IsSide-without_none net_of rule rules side h is rising held = record {
+  indexed = IsIndexOf-without_none net_of rule rules side.index h.indexed is rising held;
+  quick = λ slot reads. IsAlone-without_none net_of rule rules side.quick.since slot is rising held (h.quick slot reads);
+}

@@ -1,0 +1,26 @@
+use Rattle.std.proofs.Common.{◌≡◌, None, subst, ◌∙◌}
+use Rattle.std.specs.Bool.{OnTrue}
+use Rattle.slpf_rules.specs.IndexEntries.{at}
+use Rattle.slpf_rules.proofs.Indexed.{IsIndexOf-place, none_filed}
+use Rattle.slpf_rules.proofs.SideLemmas.{IsSide-place_none}
+use Rattle.slpf_rules.proofs.sides.Side.file.Goals as goal
+
+pub returns-in-Ok-clause-ok : goal.returns-in-Ok-clause-ok
+returns-in-Ok-clause-ok c = λ net_of rules is h rising free.
+    let net = c.in-Some.net in
+    let same = is ∙ c.in-Some.is in
+    record {
+      indexed = IsIndexOf-place net_of c.args.rule.now rules _ _ net h.indexed same c.in-Ok.ensures.ok rising free;
+      quick = c.file.ensures net_of rules same h.quick rising
+          (λ alone. none_filed net_of rules _ net h.indexed (subst (λ b. OnTrue b (at c.args.self.now.index net ≡ None)) alone c.in-Ok.ensures.alone));
+    }
+
+pub returns-in-Err-clause-err : goal.returns-in-Err-clause-err
+returns-in-Err-clause-err c = λ net_of rules h. record {
+  indexed = λ net. c.in-Err.ensures.err net ∙ h.indexed net;
+  quick = h.quick;
+}
+
+pub returns-in-None-clause-ok : goal.returns-in-None-clause-ok
+returns-in-None-clause-ok c = λ net_of rules is h rising free.
+    IsSide-place_none net_of c.args.rule.now rules _ h (is ∙ c.in-None.is)
