@@ -1,5 +1,5 @@
 -- Marks of a row, one place at a time.
-use Rattle.std.proofs.Common.{◌≡◌, ◌⊎◌, ◌↔◌, inl, inr, Some, ℕ, suc, ◌+◌, ◌<◌, Bool, true, false, not, List, [], ◌∷◌, ◌++◌, length, set, get_or, refl, sym, ◌∙◌, subst, arith, get_or-set_same, get_or-set_other, length-set, length-append, zero, cond, replicate}
+use Rattle.std.proofs.Common.{◌≡◌, ◌⊎◌, ◌↔◌, inl, inr, Some, ℕ, suc, ◌+◌, ◌<◌, Bool, true, false, not, List, [], ◌∷◌, ◌++◌, length, set, get_or, refl, sym, ◌∙◌, arith, get_or-set_same, get_or-set_other, length-set, length-append, zero, cond, replicate}
 use Rattle.std.proofs.Math.ListN.{length-replicate}
 use Rattle.std.specs.Prelude.{Contains, All, slice_index_or, count_by}
 use Rattle.std.proofs.lemmas.Bool.{false≢true, cases_eq, cases_lt}
@@ -35,9 +35,6 @@ set_count marks x lt un = let e : count_by not (set marks x true) + cond (not (g
 
 itself : (x : ℕ) → Contains (x ∷ []) x
 itself x = (0, omega arith, refl)
-
-pub read_is : (marks : List Bool) (i : ℕ) (r d : Bool) → r ≡ get_or marks i r → r ≡ d → get_or marks i d ≡ d
-read_is marks i r d at e = subst (λ k. get_or marks i k ≡ k) e (sym at)
 
 -- first those of which P holds, then those of which Q holds
 pub Marks-then : (P Q R : ℕ → Type 0) (m0 m1 m2 : List Bool) (w0 w1 w2 : List ℕ) → ((p : ℕ) → R p → P p ⊎ Q p) → ((p : ℕ) → P p → R p) → ((p : ℕ) → Q p → R p) → Marks P m0 w0 m1 w1 → Marks Q m1 w1 m2 w2 → Marks R m0 w0 m2 w2

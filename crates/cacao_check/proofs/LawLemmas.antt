@@ -1,27 +1,22 @@
 -- The laws of books that break no rule.
-use Rattle.std.proofs.Common.{◌≡◌, inl, inr, ℕ, ◌<◌, ◌≤◌, Bool, IsTrue, List, map, Option, Some, None, IfSome, slice_get, is_some, refl, sym, ◌∙◌, ap, subst, arith, pos}
+use Rattle.std.proofs.Common.{◌≡◌, inr, ℕ, ◌<◌, ◌≤◌, IsTrue, List, Option, Some, None, IfSome, slice_get, is_some, ap, arith, pos}
 use Rattle.std.specs.Fmt.{decimal}
 use Rattle.std.proofs.lemmas.Bool.{false≢true}
-use Rattle.serde_json.specs.Data.{Data}
 use Rattle.base_decimals.specs.Laws.{IntegersReadBack}
 use Rattle.cacao_vars.specs.declared.kinds.Kind.{Kind}
 use Rattle.cacao_vars.specs.declared.kinds.Kind.TheVariants as kind
 use Rattle.cacao_book.specs.declared.books.Book.{Book}
 use Rattle.cacao_book.specs.declared.steps.Step.{Step}
-use Rattle.cacao_book_shape.specs.Least.{Before, IsLeastBreak}
-use Rattle.cacao_book_shape.specs.Shape.{ShapeDemand, shape_rank, KeepsShape, IsWellShaped}
-use Rattle.cacao_book.specs.Books.{book}
 use Rattle.cacao_check.specs.declared.breaks.Mode.{Mode}
 use Rattle.cacao_check.specs.declared.rules.SenseRule.{SenseRule}
 use Rattle.cacao_check.specs.declared.rules.SenseRule.TheVariants as rule
 use Rattle.cacao_check.specs.Fits.{FitsKind}
 use Rattle.cacao_check_regions.specs.Flaws.{may_take}
 use Rattle.cacao_check.specs.Rules.{K19, K25}
-use Rattle.cacao_check.specs.Sense.{SenseDemand, sense_rank, IsSound, KeepsSense, KeepsOfStep, KeepsAt}
-use Rattle.cacao_check.specs.FirstBreak.{Demand, of_shape, of_sense, rank, Keeps, AreWellShaped}
-use Rattle.cacao_check.specs.Laws.{SoundGives, SoundEnds, ResultsFit, FirstBreakIs}
+use Rattle.cacao_check.specs.Sense.{IsSound, KeepsOfStep, KeepsAt}
+use Rattle.cacao_check.specs.Laws.{SoundGives, SoundEnds, ResultsFit}
 
-at_some : {X : Type 0} (o : Option X) (P : X → Type 0) (x : X) → o ≡ Some x → IfSome o P → P x
+pub at_some : {X : Type 0} (o : Option X) (P : X → Type 0) (x : X) → o ≡ Some x → IfSome o P → P x
 at_some o P x e h = rw e at h
 
 kept_of_step : (books : List Book) (mode : Mode) → IsSound books mode → (n place : ℕ) (book : Book) (step : Step) (r : SenseRule) → slice_get books n ≡ Some book → slice_get book.steps place ≡ Some step → KeepsOfStep books mode n book place step r
@@ -64,41 +59,3 @@ text_fits _ text may = absurd (false≢true may)
 
 pub results_fit : IntegersReadBack → ResultsFit
 results_fit back = record { number = number_fits back; text = text_fits }
-
--- ---- the first break
-
-some_if : {X : Type 0} (o : Option X) (P : X → Type 0) → ((x : X) → o ≡ Some x → P x) → IfSome o P
-some_if None P h = tt
-some_if (Some x) P h = h x refl
-
-pub first_break_is : FirstBreakIs
-first_break_is = record {
-  of_shapes = λ trees mode n t demand at before least. record {
-    is_broken = λ kept. least.is_broken (at_some (slice_get trees n) (λ t. KeepsShape t demand) t at kept);
-    earlier = shape_earlier trees mode n t demand at before least;
-  };
-  of_senses = λ trees mode demand shaped least. record { is_broken = least.is_broken; earlier = sense_earlier trees mode demand shaped least };
-  none = λ trees mode shaped sound d. kept_all trees mode shaped sound d;
-}
-  where
-    shape_earlier : (trees : List Data) (mode : Mode) (n : ℕ) (t : Data) (demand : ShapeDemand) → slice_get trees n ≡ Some t → ((k : ℕ) (earlier : Data) → k < n → slice_get trees k ≡ Some earlier → IsWellShaped earlier)
-        → IsLeastBreak shape_rank (KeepsShape t) demand → (other : Demand) → Before (rank other) (rank (of_shape n demand)) → Keeps trees mode other
-    shape_earlier trees mode n t demand at before least (of_sense d) b = elim b [ inl lt ↦ absurd (let h : 1 < 0 = lt in omega arith) | inr same ↦ absurd (let h : 1 ≡ 0 = same.0 in omega arith) ]
-    shape_earlier trees mode n t demand at before least (of_shape k d) b = elim b [
-      | inl lt ↦ absurd (let h : 0 < 0 = lt in omega arith)
-      | inr same ↦ elim same.1 [
-        | inl lower ↦ some_if (slice_get trees k) (λ u. KeepsShape u d) (λ u there. before k u lower there d)
-        | inr here ↦ some_if (slice_get trees k) (λ u. KeepsShape u d) (λ u there. subst (λ v. KeepsShape v d) (one t u (sym at ∙ ap (slice_get trees) (sym here.0) ∙ there)) (least.earlier d here.1))
-      ]
-    ]
-      where
-        one : (a b : Data) → Some a ≡ Some b → a ≡ b
-        one a b e = cc
-
-    sense_earlier : (trees : List Data) (mode : Mode) (demand : SenseDemand) → AreWellShaped trees → IsLeastBreak sense_rank (KeepsSense (map book trees) mode) demand → (other : Demand) → Before (rank other) (rank (of_sense demand)) → Keeps trees mode other
-    sense_earlier trees mode demand shaped least (of_shape k d) b = some_if (slice_get trees k) (λ u. KeepsShape u d) (λ u there. at_some (slice_get trees k) IsWellShaped u there (shaped k) d)
-    sense_earlier trees mode demand shaped least (of_sense d) b = elim b [ inl lt ↦ absurd (let h : 1 < 1 = lt in omega arith) | inr same ↦ least.earlier d same.1 ]
-
-    kept_all : (trees : List Data) (mode : Mode) → AreWellShaped trees → IsSound (map book trees) mode → (d : Demand) → Keeps trees mode d
-    kept_all trees mode shaped sound (of_shape k d) = some_if (slice_get trees k) (λ u. KeepsShape u d) (λ u there. at_some (slice_get trees k) IsWellShaped u there (shaped k) d)
-    kept_all trees mode shaped sound (of_sense d) = sound d

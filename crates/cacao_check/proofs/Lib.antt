@@ -2,3 +2,4 @@ pub mod WalkLemmas
 pub mod UriLemmas
 pub mod RuleLemmas
 pub mod LawLemmas
+pub mod FirstLemmas

@@ -1,12 +1,16 @@
 -- Promise: The first break of playbooks, from their trees: the rules of shape of all books come before those of sense.
-use Rattle.std.specs.Prelude.{◌≡◌, ℕ, List, ◌∷◌, map, Option, IfSome, option_and_then, slice_get}
+use Rattle.std.specs.Prelude.{◌≡◌, ℕ, ◌<◌, List, ◌∷◌, map, Option, Some, IfSome, option_and_then, slice_get, ⊤}
 use Rattle.serde_json.specs.Data.{Data}
 use Rattle.cacao_book_shape.specs.Least.{IsLeastBreak}
 use Rattle.cacao_book_shape.specs.Shape.{ShapeDemand, shape_rank, shape_number, KeepsShape, IsWellShaped}
-use Rattle.cacao_book_shape.specs.Refusals.{key_at as key_in}
+use Rattle.cacao_book_shape.specs.Refusals.{RefusesTree, key_at as key_in}
+use Rattle.cacao_book_shape.specs.declared.refusals.BookError.{BookError}
+use Rattle.cacao_book_shape.specs.declared.refusals.BookError.TheVariants as book_error
 use Rattle.cacao_book.specs.Books.{book}
 use Rattle.cacao_check.specs.declared.breaks.Mode.{Mode}
 use Rattle.cacao_check.specs.declared.breaks.Break.{Break}
+use Rattle.cacao_check.specs.declared.breaks.CheckError.{CheckError}
+use Rattle.cacao_check.specs.declared.breaks.CheckError.TheVariants as check_error
 use Rattle.cacao_check.specs.Sense.{SenseDemand, sense_rank, sense_number, KeepsSense}
 use Rattle.cacao_check.specs.Checks.{key_at}
 
@@ -53,6 +57,34 @@ pub record IsFirstBreak (trees : List Data) (mode : Mode) (told : Break) : Type 
 abbrev pub IsAccepted : List Data → Mode → Type 0
 IsAccepted trees mode = (demand : Demand) → Keeps trees mode demand
 
+-- why trees give no playbooks that break no rule: this is their first break; or memory was wanted
+abbrev pub RefusesTrees : List Data → Mode → CheckError → Type 0
+RefusesTrees trees mode (check_error.Broken told) = IsFirstBreak trees mode told
+RefusesTrees trees mode check_error.Memory = ⊤
+
+-- ---- rules of shape alone
+
 -- each tree is well shaped, and those before one
 abbrev pub AreWellShaped : List Data → Type 0
 AreWellShaped trees = (n : ℕ) → IfSome (slice_get trees n) IsWellShaped
+
+abbrev pub AreShapedBefore : List Data → ℕ → Type 0
+AreShapedBefore trees n = (k : ℕ) (tree : Data) → k < n → slice_get trees k ≡ Some tree → IsWellShaped tree
+
+-- the break tells of the first tree that is not well shaped, and of the first rule that is broken there
+pub record BreaksShape (trees : List Data) (told : Break) : Type 0 where
+  pub tree : Data
+  pub tree_is : slice_get trees told.book ≡ Some tree
+  pub earlier : AreShapedBefore trees told.book
+  pub refused : RefusesTree tree (book_error.Shape told.step told.rule)
+
+-- why trees give no playbooks
+abbrev pub RefusesShapes : List Data → CheckError → Type 0
+RefusesShapes trees (check_error.Broken told) = BreaksShape trees told
+RefusesShapes trees check_error.Memory = ⊤
+
+-- the refusal that the break of the tree with this number is
+abbrev pub shape_error : ℕ → BookError → CheckError
+shape_error book (book_error.Shape step rule) =
+    check_error.Broken (record { book = book; step = step; rule = rule })
+shape_error book book_error.Memory = check_error.Memory

@@ -1,13 +1,9 @@
 -- Promise: What holds of books that break no rule, as far as a run of them rests on it.
-use Rattle.std.specs.Prelude.{◌≡◌, ℕ, ◌<◌, ◌≤◌, List, Some, IsTrue, map, slice_get}
+use Rattle.std.specs.Prelude.{◌≡◌, ℕ, ◌<◌, ◌≤◌, List, Some, IsTrue, slice_get}
 use Rattle.std.specs.Fmt.{decimal}
-use Rattle.serde_json.specs.Data.{Data}
 use Rattle.cacao_vars.specs.declared.kinds.Kind.{Kind}
 use Rattle.cacao_book.specs.declared.books.Book.{Book}
 use Rattle.cacao_book.specs.declared.steps.Step.{Step}
-use Rattle.cacao_book_shape.specs.Least.{IsLeastBreak}
-use Rattle.cacao_book_shape.specs.Shape.{ShapeDemand, shape_rank, KeepsShape, IsWellShaped}
-use Rattle.cacao_book.specs.Books.{book}
 use Rattle.cacao_check.specs.declared.breaks.Mode.{Mode}
 use Rattle.cacao_check.specs.declared.rules.SenseRule.{SenseRule}
 use Rattle.cacao_check_regions.specs.Regions.{Encloses}
@@ -15,8 +11,7 @@ use Rattle.cacao_check_regions.specs.Endings.{ReachesEnd}
 use Rattle.cacao_check_steps.specs.Calls.{called, LeadsTo}
 use Rattle.cacao_check.specs.Fits.{FitsKind}
 use Rattle.cacao_check_regions.specs.Flaws.{may_take}
-use Rattle.cacao_check.specs.Sense.{SenseDemand, sense_rank, IsSound, KeepsSense, KeepsOfBook, KeepsOfStep}
-use Rattle.cacao_check.specs.FirstBreak.{of_shape, of_sense, IsFirstBroken, IsAccepted, AreWellShaped}
+use Rattle.cacao_check.specs.Sense.{IsSound, KeepsOfBook, KeepsOfStep}
 
 -- sound books keep each rule, of each book and of each step
 pub record SoundGives : Type 0 where
@@ -40,12 +35,3 @@ pub record SoundEnds : Type 0 where
 pub record ResultsFit : Type 0 where
   pub number : (k n : ℕ) (kind : Kind) → IsTrue (may_take k kind) → n ≤ 9007199254740991 → k < 2 → FitsKind kind (decimal n)
   pub text : (kind : Kind) (text : List ℕ) → IsTrue (may_take 2 kind) → FitsKind kind text
-
--- The first break of the trees of books: the first of shape in the first book that has one, then the first of sense.
-pub record FirstBreakIs : Type 0 where
-  pub of_shapes : (trees : List Data) (mode : Mode) (n : ℕ) (t : Data) (demand : ShapeDemand) → slice_get trees n ≡ Some t
-      → ((k : ℕ) (earlier : Data) → k < n → slice_get trees k ≡ Some earlier → IsWellShaped earlier)
-      → IsLeastBreak shape_rank (KeepsShape t) demand → IsFirstBroken trees mode (of_shape n demand)
-  pub of_senses : (trees : List Data) (mode : Mode) (demand : SenseDemand) → AreWellShaped trees
-      → IsLeastBreak sense_rank (KeepsSense (map book trees) mode) demand → IsFirstBroken trees mode (of_sense demand)
-  pub none : (trees : List Data) (mode : Mode) → AreWellShaped trees → IsSound (map book trees) mode → IsAccepted trees mode

@@ -1,5 +1,5 @@
 // Laws over the definitions that the contracts of this crate speak by. Each function does nothing; its contract is the law.
-ghost use Rattle.cacao_check.specs.Laws.{SoundGives, SoundEnds, ResultsFit, FirstBreakIs};
+ghost use Rattle.cacao_check.specs.Laws.{SoundGives, SoundEnds, ResultsFit};
 
 use base_decimals::decimal_law;
 
@@ -21,9 +21,3 @@ pub fn results_fit()
 {
     decimal_law();
 }
-
-/// The first break of the trees of books is the first of shape in the first book that has one, else the first of sense.
-#[tactic(auto, using(crate::proofs::LawLemmas::first_break_is))]
-pub fn first_break_is()
-    ensures { FirstBreakIs }
-{}

@@ -1,4 +1,5 @@
-//! Whether CACAO 2.0 playbooks make sense together: the rules K13 to K25, and what a text of each kind is.
+//! Whether CACAO 2.0 playbooks break a rule: those of their shape (K1 to K12), and those that ask for sense together (K13 to K25); and
+//! what a text of each kind is.
 #![tactic(auto)]
 
 mod book_rules;
@@ -8,6 +9,7 @@ mod checked;
 mod checking;
 mod fits;
 mod laws;
+mod reading;
 mod rules;
 mod sight_rules;
 mod step_rules;
@@ -20,5 +22,6 @@ pub use cacao_check_steps::Parts;
 pub use checked::Checked;
 pub use checking::check;
 pub use fits::value_fits;
-pub use laws::{first_break_is, results_fit, sound_ends, sound_gives};
+pub use laws::{results_fit, sound_ends, sound_gives};
+pub use reading::{read_books, shaped_books};
 pub use rules::SenseRule;

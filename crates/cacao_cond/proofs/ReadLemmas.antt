@@ -10,8 +10,7 @@ use Rattle.cacao_cond.specs.declared.errors.CondError.{CondError}
 use Rattle.cacao_cond.specs.declared.errors.CondError.TheVariants.{Grammar, Memory}
 use Rattle.cacao_cond.specs.declared.trees.Constant.{Constant}
 use Rattle.cacao_cond.specs.declared.trees.Constant.TheVariants.{Text}
-use Rattle.cacao_cond.specs.Trees.{PrimeTree}
-use Rattle.cacao_cond.specs.Reading.{Fails, begins, text_of, named_at, behind, behind_joint, skipped, constant_at, constants_at, all_at, prime_at}
+use Rattle.cacao_cond.specs.Reading.{Fails, begins, text_of, named_at, behind, skipped, constant_at, constants_at, prime_at}
 use Rattle.cacao_cond.proofs.Steps.{both}
 
 -- an error is passed on
@@ -45,15 +44,6 @@ constants_none (suc n) text left more first h a b e =
     let less : suc n - 1 ≡ n = omega arith in
     let inner : constants_at n (skipped more) ≡ None = ap (λ k. constants_at k (skipped more)) (sym less) ∙ e in
     rw a (rw (← b) (rw inner refl))
-
-pub all_none : (n : ℕ) (text left more : List ℕ) (first : PrimeTree) → (n ≡ 0 → ⊥) → prime_at (n - 1) text ≡ Some (first, left)
-    → Some more ≡ behind_joint (codes "AND") left → all_at (n - 1) more ≡ None → all_at n text ≡ None
-all_none zero text left more first h a b e = absurd (h refl)
-all_none (suc n) text left more first h a b e =
-    let less : suc n - 1 ≡ n = omega arith in
-    let front : prime_at n text ≡ Some (first, left) = ap (λ k. prime_at k text) (sym less) ∙ a in
-    let inner : all_at n more ≡ None = ap (λ k. all_at k more) (sym less) ∙ e in
-    rw front (rw (← b) (rw inner refl))
 
 below_128 : (c : ℕ) → is_name_character c ≡ true → c < 128
 below_128 c e = grind arith

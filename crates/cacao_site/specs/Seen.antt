@@ -2,9 +2,9 @@
 use Rattle.std.proofs.Common.{◌≡◌, ◌==◌, ℕ, Bool, true, false, List, ◌∷◌, refl, sym, ◌∙◌, subst, ap, if◌then◌else◌}
 use Rattle.std.proofs.lemmas.Bool.{eqb-true, eq-eqb}
 use Rattle.cacao_site.specs.View.{DiskView, SiteView}
-use Rattle.cacao_site.specs.DiskCalls.{CallsOn, Follows, GoesOn, IsDurable, IsLeft, KeepsDisk, OnlyFile, SameRest, Spreads, StaysAt}
+use Rattle.cacao_site.specs.DiskCalls.{CallsOn, GoesOn, IsLeft, KeepsDisk, OnlyFile, StaysAt}
 use Rattle.cacao_site.specs.SayCalls.{SaysOnly}
-use Rattle.cacao_site.specs.SiteCalls.{LeavesDisk, Puts, Reaches, TakesNone, TakesOnly, TakesSome}
+use Rattle.cacao_site.specs.SiteCalls.{LeavesDisk, Puts, Reaches, TakesOnly}
 use Rattle.cacao_site.specs.Sound.{IsSound}
 use Rattle.cacao_site.specs.declared.parcel.Parcel.{Parcel}
 use Rattle.cacao_site.specs.RunViews.{disk_seen, file_of, rack_file, seen_from}
@@ -70,9 +70,6 @@ calls-seen place name file bytes call = record {
   handed = call.handed;
 }
 
-pub rest-seen : {a b : SiteView} (place name : ℕ) → SameRest a b → SameRest (seen_from place name a) (seen_from place name b)
-rest-seen place name rest = record { link = rest.link; clock = rest.clock; counts = rest.counts }
-
 leaves-seen : {a b : SiteView} (place name : ℕ) → LeavesDisk a b → LeavesDisk (seen_from place name a) (seen_from place name b)
 leaves-seen place name leaves = record { disk = keeps-seen place name leaves.disk; calls = leaves.calls; says = leaves.says }
 
@@ -92,12 +89,6 @@ puts-seen place name parcel puts = record {
 
 pub takes-seen : {a b : SiteView} (place name : ℕ) → TakesOnly a b → TakesOnly (seen_from place name a) (seen_from place name b)
 takes-seen place name takes = record { disk = leaves-seen place name takes.disk; time = takes.time; unsaid = takes.unsaid; mishaps = takes.mishaps; puts = takes.puts; said = takes.said }
-
-pub some-seen : {a b : SiteView} (place name : ℕ) (parcel : Parcel) → TakesSome parcel a b → TakesSome parcel (seen_from place name a) (seen_from place name b)
-some-seen place name parcel takes = record { pending = takes.pending; taken = takes.taken; empty_takes = takes.empty_takes }
-
-pub none-seen : {a b : SiteView} (place name : ℕ) → TakesNone a b → TakesNone (seen_from place name a) (seen_from place name b)
-none-seen place name takes = record { none = takes.none; pending = takes.pending; taken = takes.taken; empty_takes = takes.empty_takes }
 
 pub says-seen : {a b : SiteView} (place name : ℕ) → SaysOnly a b → SaysOnly (seen_from place name a) (seen_from place name b)
 says-seen place name says = record {
@@ -149,21 +140,6 @@ sound-seen place name site sound = record {
 module _ (a b : DiskView) (place name file at : ℕ) (is : rack_file place file ≡ at) where
   pub call-at : (bytes : ℕ) → CallsOn at bytes a b → CallsOn file bytes (disk_seen place name a) (disk_seen place name b)
   call-at bytes call = calls-seen place name file bytes (subst (λ (n : ℕ). CallsOn n bytes a b) (sym is) call)
-
-  pub stays-at : StaysAt a b at → StaysAt (disk_seen place name a) (disk_seen place name b) file
-  stays-at stays = stays-seen place name file (subst (λ (n : ℕ). StaysAt a b n) (sym is) stays)
-
-  pub follows-at : (step : List ℕ → List ℕ → Type 0) → Follows at step a b → Follows file step (disk_seen place name a) (disk_seen place name b)
-  follows-at step follows = subst (λ (n : ℕ). Follows n step a b) (sym is) follows
-
-  pub spreads-at : (step : List ℕ → List ℕ → Type 0) → Spreads at step a b → Spreads file step (disk_seen place name a) (disk_seen place name b)
-  spreads-at step spreads = subst (λ (n : ℕ). Spreads n step a b) (sym is) spreads
-
-  pub durable-at : IsDurable at b → IsDurable file (disk_seen place name b)
-  durable-at durable = subst (λ (n : ℕ). IsDurable n b) (sym is) durable
-
-  pub reads-is : (d : DiskView) → d.reads at ≡ (disk_seen place name d).reads file
-  reads-is d = ap d.reads (sym is)
 
 -- ---- from what is seen back to the rack
 

@@ -18,14 +18,6 @@ keeps-written kept kept' file at bytes longer was_whole written was k = record {
   each = λ whole place. written whole place ∙ ap (byte_after at bytes place) (k.each (was_whole whole) place) ∙ sym (spliced-at at bytes was place);
 }
 
--- a file of which nothing changed
-pub keeps-same : (kept kept' : KeptFiles) (file : ℕ) → length_of kept' file ≡ length_of kept file → is_whole kept' file ≡ is_whole kept file → ((place : ℕ) → byte_of kept' file place ≡ byte_of kept file place)
-    → (was : List ℕ) → Keeps kept file was → Keeps kept' file was
-keeps-same kept kept' file long whole same was k = record {
-  long = long ∙ k.long;
-  each = λ is place. same place ∙ k.each (sym whole ∙ is) place;
-}
-
 -- a file of no byte
 pub keeps-none : (kept : KeptFiles) (file : ℕ) → length_of kept file ≡ 0 → ((place : ℕ) → byte_of kept file place ≡ 0) → Keeps kept file []
 keeps-none kept file long zeros = record { long = long; each = λ whole place. zeros place }

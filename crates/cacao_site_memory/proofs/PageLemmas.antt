@@ -44,12 +44,6 @@ module _ (table pages blank : List ℕ) (count slot : ℕ) (p : ArePages table p
     | inr ne ↦ inr (ne, get_or-set_other table slot s count 0 ne)
   ]
 
-  below_more : (s : ℕ) → get_or (slice_set table slot count) s 0 < count + 1
-  below_more s = elim (set_at s) [
-    | inl here ↦ omega (arith, here.1)
-    | inr there ↦ omega (arith, there.1, p.below s)
-  ]
-
   grown_at : (n rest : ℕ) → n < count → rest < 4096 → get_or (pages ++ blank) (n * 4096 + rest) 0 ≡ get_or pages (n * 4096 + rest) 0
   grown_at n rest lt low = get_or_append_left pages blank 0 (n * 4096 + rest) (omega (arith, p.sized))
 

@@ -63,10 +63,6 @@ sorted_tokens-places unsigned ps =
 
 -- ---- additions one after another
 
-pub adds_one : {E : Type 0} (old new : Written) (t : Token) (r : Result (Unit {0}) E) → r ≡ Ok tt → Writes r old new t → Adds old new (t ∷ [])
-adds_one old new t (Ok u) e w = (w.room.0, w.ok)
-adds_one old new t (Err x) e w = absurd (cc)
-
 pub adds_then : (a b c : Written) (ts us : List Token) → Adds a b ts → Adds b c us → Adds a c (ts ++ us)
 adds_then a b c ts us f g = (g.0 ∙ f.0, g.1 ∙ ap (λ l. l ++ us) f.1 ∙ append_assoc a.tokens ts us)
 

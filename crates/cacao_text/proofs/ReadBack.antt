@@ -1,5 +1,5 @@
 -- `serde_json` reads canonical text back.
-use Rattle.std.proofs.Common.{◌≡◌, ℕ, ◌+◌, ◌^◌, ◌<◌, ◌≤◌, pos, negsuc, List, [], ◌∷◌, true, Option, Some, map, refl, sym, ap, ◌∙◌, append-nil, arith}
+use Rattle.std.proofs.Common.{◌≡◌, ℕ, ◌+◌, ◌≤◌, pos, negsuc, List, [], ◌∷◌, true, Option, Some, map, refl, sym, ap, ◌∙◌, append-nil, arith}
 use Rattle.std.specs.Prelude.{option_and_then, option_map}
 use Rattle.std.proofs.lemmas.Bool.{leb-true}
 use Rattle.json.specs.Token.{Token}
@@ -36,9 +36,6 @@ read_compact d numbers shallow =
     ∙ ap whole (value-json_tokens j max_depth [] shallow)
 
 -- ---- numbers
-
-wide : (n : ℕ) → n ≤ 9007199254740991 → n < 2 ^ 63
-wide n h = omega arith
 
 kept_back : (n : Num) → is_whole n ≡ true → number_of (number_text n) ≡ Some n
 kept_back (unsigned n) h = number_of-decimal n (omega (arith, leb-true n 9007199254740991 h))

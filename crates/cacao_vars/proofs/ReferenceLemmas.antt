@@ -110,6 +110,3 @@ none_anywhere text end h before place = elim (cases_lt place end) [
 
 pub none_here : (text : List ℕ) (place : ℕ) → place ≤ length text → ¬ BeginsWithReference (take (length text - place) (drop place text)) → ¬ HasReferenceAt text place
 none_here text place within none has = none (subst BeginsWithReference (sym (all_behind text place within)) has)
-
-pub stands_here : (text : List ℕ) (place len : ℕ) → place ≤ length text → StandsAt (take (length text - place) (drop place text)) 0 len → StandsAt text place len
-stands_here text place len within s = stands_further text place len within (subst (λ t. StandsAt t 0 len) (all_behind text place within) s)

@@ -104,6 +104,13 @@ impl Vars {
     pub fn find(&self, name: &Name) -> Option<&Var>
         ensures { option_copied result ≡ declared self.now name.now }
     {
+        self.find_bytes(name.text().as_bytes())
+    }
+
+    /// The declaration of the name with these bytes. It takes no memory.
+    pub fn find_bytes(&self, name: &[u8]) -> Option<&Var>
+        ensures { option_copied result ≡ declared self.now name.now }
+    {
         places::find_in(self.items.as_slice(), name)
     }
 }

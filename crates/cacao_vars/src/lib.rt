@@ -15,6 +15,6 @@ pub use kinds::Kind;
 pub use laws::{references_go_on, scopes_open, writes_one_value};
 pub use name_lists::Names;
 pub use references::{Reference, find_reference, leading_reference, whole_reference};
-pub use scoping::{Scope, ScopeError, Scopes, Write};
+pub use scoping::{Scope, ScopeError, Scopes, Write, home_of};
 pub use variable_names::Name;
 pub use words::Word;

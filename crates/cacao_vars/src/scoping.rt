@@ -71,6 +71,8 @@ impl Model for Scopes {
 
 mod lookups;
 
+pub use lookups::home_of;
+
 impl Scopes {
     ghost use Rattle.cacao_vars.specs.Scopes.{HasParentsBefore, home, declaration, home_declaration, value, IsConstant, with_write, with_scope};
 
@@ -119,10 +121,11 @@ impl Scopes {
         ensures { option_copied result ≡ value self.now.scopes self.now.writes scope name.now }
     {
         let scopes = self.scopes.as_slice();
-        let home = lookups::home_of(scopes, scope, name)?;
+        let bytes = name.text().as_bytes();
+        let home = lookups::home_of(scopes, scope, bytes)?;
         match lookups::last_write_to(self.writes.as_slice(), home, name) {
             Some(write) => Some(&write.worth),
-            None => lookups::declaration_in(scopes, home, name)?.worth.as_ref(),
+            None => lookups::declaration_in(scopes, home, bytes)?.worth.as_ref(),
         }
     }
 
@@ -132,8 +135,9 @@ impl Scopes {
         ensures { option_copied result ≡ home_declaration self.now.scopes scope name.now }
     {
         let scopes = self.scopes.as_slice();
-        let home = lookups::home_of(scopes, scope, name)?;
-        lookups::declaration_in(scopes, home, name)
+        let bytes = name.text().as_bytes();
+        let home = lookups::home_of(scopes, scope, bytes)?;
+        lookups::declaration_in(scopes, home, bytes)
     }
 
     /// Writes a text to a name in its home. A refusal changes nothing.
@@ -144,10 +148,11 @@ impl Scopes {
         ensures constant { IsErrOf result ScopeError.Constant ↔ IsSomeAnd (home self.old.scopes scope name.now) (λ at. IsConstant self.old.scopes at name.now) }
         ensures err { OnErr result (self.new ≡ self.old) }
     {
-        let Some(home) = lookups::home_of(self.scopes.as_slice(), scope, name) else {
+        let bytes = name.text().as_bytes();
+        let Some(home) = lookups::home_of(self.scopes.as_slice(), scope, bytes) else {
             return Err(ScopeError::Unknown);
         };
-        if lookups::is_constant(self.scopes.as_slice(), home, name) {
+        if lookups::is_constant(self.scopes.as_slice(), home, bytes) {
             return Err(ScopeError::Constant);
         }
         let name = name.clone()?;
@@ -167,7 +172,7 @@ impl Scopes {
         ensures constant { ¬ (IsErrOf result ScopeError.Constant) }
         ensures err { OnErr result (self.new ≡ self.old) }
     {
-        if !lookups::declares(self.scopes.as_slice(), scope, name) {
+        if !lookups::declares(self.scopes.as_slice(), scope, name.text().as_bytes()) {
             return Err(ScopeError::Unknown);
         }
         let name = name.clone()?;

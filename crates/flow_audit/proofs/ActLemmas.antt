@@ -1,10 +1,8 @@
 -- Acts of a filter, one after another.
-use Rattle.std.proofs.Common.{◌≡◌, inl, inr, ℕ, zero, suc, ◌+◌, ◌≤◌, ◌==◌, ◌&&◌, Bool, true, false, cond, List, [], ◌∷◌, ◌++◌, length, map, take, fold, Option, Some, None, Ordering, Less, Equal, Greater, nat_cmp, refl, sym, ap, ap₂, subst, ◌∙◌, arith}
+use Rattle.std.proofs.Common.{◌≡◌, inl, inr, ℕ, zero, suc, ◌+◌, ◌≤◌, ◌==◌, ◌&&◌, Bool, true, false, cond, List, [], ◌∷◌, ◌++◌, length, map, take, fold, Option, Some, None, refl, sym, ap, ap₂, subst, ◌∙◌, arith}
 use Rattle.std.specs.Prelude.{All, is_some, not, slice_get}
 use Rattle.std.specs.Str.{bytes_eq}
 use Rattle.std.proofs.lemmas.Slice.Eq.{bytes_eq-Decides}
-use Rattle.std.specs.BTreeMap.{is_at}
-use Rattle.std.specs.Ordering.{is_eq, ordering_then}
 use Rattle.std.proofs.Math.Seq.{take-append_seam}
 use Rattle.std.proofs.lemmas.Bool.{eqb-true}
 use Rattle.std.proofs.lemmas.Bool.Decides.{nat_tests}
@@ -16,24 +14,11 @@ use Rattle.run_records.specs.declared.act.Act.{Act}
 use Rattle.slpf_rules.specs.declared.rules.Rule.{Rule}
 use Rattle.slpf_rules.specs.Replies.{reply}
 use Rattle.slpf_rules_acts.specs.Acts.{AreActs, IsOther, table_of}
+use Rattle.slpf_rules_acts.specs.Index.{Places, place_in}
 use Rattle.slpf_rules_acts.proofs.Acts.{acts_more, none_are_acts}
 use Rattle.flow_audit.specs.Breaks.{ActsFit, FitsAct}
-use Rattle.flow_audit.specs.Index.{ArePlacesOf, Places, Tells, key_cmp, place_in}
+use Rattle.flow_audit.specs.Index.{ArePlacesOf, Tells}
 use Rattle.flow_audit.proofs.ListLemmas.{get_front, get_last, get_none, get_push, get_there, got, take_next}
-
--- ---- keys
-
-eq_nat : (n k : ℕ) → is_eq (nat_cmp n k) ≡ (n == k)
-eq_nat n k = grind (arith, nat_tests)
-
-eq_then : (a b : Ordering) → is_eq (ordering_then a b) ≡ (is_eq a && is_eq b)
-eq_then Less b = refl
-eq_then Equal b = refl
-eq_then Greater b = refl
-
-pub same_key : (run issue r i : ℕ) → is_at (key_cmp (run, issue)) (r, i) ≡ (run == r && issue == i)
-same_key run issue r i =
-    eq_then (nat_cmp run r) (nat_cmp issue i) ∙ ap₂ (λ (a b : Bool). a && b) (eq_nat run r) (eq_nat issue i)
 
 -- ---- places
 

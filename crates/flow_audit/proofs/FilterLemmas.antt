@@ -7,10 +7,11 @@ use Rattle.std.proofs.lemmas.Option.{get_or_from_slice_get, slice_get-map, slice
 use Rattle.run_journal.specs.Image.{bytes_of}
 use Rattle.run_records.specs.declared.record.Record.{Record}
 use Rattle.run_records.specs.declared.act.Act.{Act}
+use Rattle.slpf_rules_acts.specs.Index.{Places, place_in}
 use Rattle.flow_laws.specs.Images.{IsAgent}
 use Rattle.flow_audit.specs.Breaks.{ActsFit, BreaksActs}
 use Rattle.flow_audit.specs.Files.{acts_of}
-use Rattle.flow_audit.specs.Index.{ArePlacesOf, Places, Tells, place_in}
+use Rattle.flow_audit.specs.Index.{ArePlacesOf, Tells}
 use Rattle.flow_audit.specs.Parts.{AllActsFit, AreIndexes, HasAct, HasNoAct, StopsActs, StopsFilters, lists_of}
 use Rattle.flow_audit.specs.declared.reading.ActFile.{ActFile}
 use Rattle.flow_audit.specs.declared.verdict.Stop.{Stop}

@@ -16,7 +16,7 @@ use Rattle.flow_core_rules.specs.State.{State}
 use Rattle.flow_core_rules.proofs.IssueLemmas.{issues_are_new, issues_have_records}
 use Rattle.flow_core_rules.proofs.KeepLemmas.{records_keep_issues}
 use Rattle.flow_core_rules.proofs.RunLemmas.{some_inner}
-use Rattle.flow_audit.proofs.FrontLemmas.{leads_more}
+use Rattle.flow_core.proofs.ReachedLemmas.{leads_more}
 
 -- the state has the issue that the record made
 pub record IsKnown (s : State) (n : ℕ) (r : Record) : Type 0 where

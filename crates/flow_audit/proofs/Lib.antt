@@ -1,12 +1,10 @@
 pub mod FrontLemmas
 pub mod IssueLemmas
-pub mod RefusedLemmas
 pub mod ListLemmas
 pub mod ReadLemmas
 pub mod FileLemmas
 pub mod ActLemmas
 pub mod RunLemmas
-pub mod TakenLemmas
 pub mod BeginLemmas
 pub mod SentLemmas
 pub mod FilterLemmas

@@ -1,8 +1,8 @@
 -- Replies, and the acts that they are of.
-use Rattle.std.proofs.Common.{◌≡◌, inl, inr, ℕ, zero, suc, ◌<◌, ◌≤◌, List, [], ◌∷◌, ◌++◌, length, get_or, Some, refl, sym, ap, subst, ◌∙◌, arith}
+use Rattle.std.proofs.Common.{◌≡◌, inl, inr, ℕ, zero, suc, ◌<◌, List, [], ◌∷◌, ◌++◌, length, get_or, Some, refl, sym, ap, subst, ◌∙◌, arith}
 use Rattle.std.specs.Prelude.{Contains, IfOk, Result, Ok, Err, slice_get, option_map}
 use Rattle.std.proofs.lemmas.Bool.{cases_lt}
-use Rattle.std.proofs.lemmas.Option.{get_or_from_slice_get, none-some, same_Some, slice_get_within}
+use Rattle.std.proofs.lemmas.Option.{get_or_from_slice_get, same_Some, slice_get_within}
 use Rattle.std.proofs.lemmas.List.Elements.{All-contains, All-from_recursion}
 use Rattle.run_records.specs.Ranges.{ActInRange}
 use Rattle.run_records.specs.declared.record.Record.{Record}
@@ -65,9 +65,6 @@ issue_at seen issue lt = get_there seen.lists.issues issue lt
 agent_is : (seen : Shown) (issue agent : ℕ) (one : Issue) → slice_get seen.lists.issues issue ≡ Some one → option_map (λ (i : Issue). i.agent) (slice_get seen.lists.issues issue) ≡ Some agent → one.agent ≡ agent
 agent_is seen issue agent one there is = same_Some one.agent agent (ap (option_map (λ (i : Issue). i.agent)) (sym there) ∙ is)
 
-pub no_issue : (seen : Shown) (acts : ℕ → List Act) (issue : ℕ) (P : List ℕ → Type 0) → length seen.lists.issues ≤ issue → IsActed seen acts issue P → ⊥
-no_issue seen acts issue P past a = omega (arith, past, slice_get_within seen.lists.issues issue a.there.one a.there.there)
-
 -- the act that was found has the reply
 pub acted_by : (seen : Shown) (filters : List ActFile) (issue agent : ℕ) (act : Act) (P : List ℕ → Type 0) → issue < length seen.lists.issues
     → option_map (λ (i : Issue). i.agent) (slice_get seen.lists.issues issue) ≡ Some agent → HasAct filters agent seen.run issue act → P act.reply → IsActed seen (acts_of (lists_of filters)) issue P
@@ -125,17 +122,6 @@ pub lacks_act : AcceptedIsRunnable → (records : List Record) (v : View) (acts 
 lacks_act law records v acts issue moment status rule text h unacted has =
     let a = has v.seen.run (run_is records v h) in
     unacted (record { agent = a.agent; bytes = a.bytes; is_agent = a.is_agent; there = issue_shown law records v issue a.agent a.bytes h a.sent; reply = a.reply })
-
--- where there is no record, there is no Reply to be answered for
-pub none_lacks : (records : List Record) (acts : ℕ → List Act) (r : Record) → records ≡ [] → HasItsAct records acts r
-none_lacks records acts (entry.Reply issue moment status rule text) none = λ run of_run. absurd (none-some run (ap run_of (sym none) ∙ of_run))
-none_lacks records acts (entry.Begin run moment books bind) none = tt
-none_lacks records acts (entry.Walk task moment) none = tt
-none_lacks records acts (entry.Send task issue agent moment bytes) none = tt
-none_lacks records acts (entry.Expire issue moment) none = tt
-none_lacks records acts (entry.Upgrade version moment) none = tt
-none_lacks records acts (entry.Ask task issue moment bytes) none = tt
-none_lacks records acts (entry.Told issue moment status text) none = tt
 
 -- ---- a loop over records
 

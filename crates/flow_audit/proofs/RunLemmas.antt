@@ -1,72 +1,39 @@
 -- The flow of a run, one record after another.
-use Rattle.std.proofs.Common.{◌≡◌, inl, inr, ℕ, zero, suc, ◌+◌, ◌<◌, ◌≤◌, ◌==◌, false, cond, not, List, [], ◌∷◌, ◌++◌, length, take, drop, Option, Some, None, refl, sym, ap, subst, ◌∙◌, arith, length-append, take-append-drop}
+use Rattle.std.proofs.Common.{◌≡◌, inl, inr, ℕ, zero, suc, ◌+◌, ◌<◌, ◌≤◌, List, [], ◌∷◌, ◌++◌, length, take, drop, Some, None, refl, sym, ap, subst, ◌∙◌, arith, take-append-drop}
 use Rattle.std.specs.Prelude.{count_by, slice_get}
-use Rattle.std.proofs.lemmas.Option.{none-some, same_Some, slice_get_within}
+use Rattle.std.proofs.lemmas.Option.{none-some, slice_get_within}
 use Rattle.std.proofs.lemmas.Bool.{cases_lt}
 use Rattle.std.proofs.lemmas.List.{take_all}
 use Rattle.cacao_check.specs.Fits.{FitsKind}
 use Rattle.run_records.specs.declared.record.Record.{Record}
-use Rattle.flow_core_rules.specs.Accepted.{IsRunOf}
+use Rattle.flow_core_rules.specs.Accepted.{Accepted, IsRunOf}
 use Rattle.flow_core_rules.specs.Changes.{change, moment_of}
-use Rattle.flow_core_rules.specs.Edits.{Edit}
 use Rattle.flow_core_rules.specs.Givens.{Given}
-use Rattle.flow_core_rules.specs.Runs.{GoesOn, Leads, Next, after, begin_of, shown_after}
+use Rattle.flow_core_rules.specs.Runs.{Leads, begin_of, shown_after}
 use Rattle.flow_core_rules.specs.State.{Shown, State, shown}
 use Rattle.flow_core_rules.proofs.OneRunLemmas.{one_run}
-use Rattle.flow_core_rules.proofs.PlacedLemmas.{records_shown}
-use Rattle.flow_core.specs.Views.{View, begins, is_makes, stepped, taken}
-use Rattle.flow_core.proofs.FlowLemmas.{tasks_grow}
+use Rattle.flow_core.specs.TakenRecords as flows
+use Rattle.flow_core.specs.TakenRecords.{IsShownAfter, MakesTooMany, Took}
+use Rattle.flow_core.specs.Views.{View, is_makes, taken}
+use Rattle.flow_core.proofs.FlowLemmas.{taken_later, tasks_grow}
+use Rattle.flow_core.proofs.FrontLemmas.{tasks_on}
+use Rattle.flow_core.proofs.ReachedLemmas.{leads_placed, shown_more}
+use Rattle.flow_core.proofs.TakenLemmas.{took_more}
 use Rattle.flow_laws.specs.Journals.{AreAccepted, IsJournalRun}
 use Rattle.flow_audit.specs.Breaks.{BreaksRun, IsWithinTasks, PassesTasks, most_tasks}
 use Rattle.flow_audit.specs.Parts.{HasTaken}
-use Rattle.flow_audit.proofs.FrontLemmas.{front_leads, leads_more, leads_placed, next_of_run, shown_more}
+use Rattle.flow_audit.proofs.BeginLemmas.{taken_as}
+use Rattle.flow_audit.proofs.FrontLemmas.{front_leads, next_of_run}
 use Rattle.flow_audit.proofs.ListLemmas.{take_next, take_take}
-
-not_zero : (n : ℕ) → (suc n == 0) ≡ false
-not_zero n = grind arith
-
--- what a flow takes later than first
-pub taken_later : (v : View) (r : Record) (o : Option (List Edit)) (n : ℕ) → v.count ≡ suc n → taken v r ≡ o → change v.seen r ≡ o
-taken_later v r o n c e = subst (λ b. cond (not b) (change v.seen r) (begins v.seen r) ≡ o) (ap (λ k. k == 0) c ∙ not_zero n) e
-
--- ---- tasks
-
--- a record makes tasks
-tasks_after : (given : Given) (run : ℕ) (records : List Record) (state new : State) (r : Record) → Leads given run records state → Next state r new
-    → (edits : List Edit) × (change (shown state) r ≡ Some edits) × (length new.tasks ≡ length state.tasks + count_by is_makes edits)
-tasks_after given run records state new r l next =
-    let alone = records_shown state new r (leads_placed given run records state l) next in
-    (alone.edits, alone.edits_are, ap (λ (s : Shown). length s.lists.tasks) alone.shown_is ∙ tasks_grow alone.edits (shown state).lists)
-
--- tasks stay
-tasks_stay : (given : Given) (run : ℕ) (records rest : List Record) (state new : State) → Leads given run records state → GoesOn state rest new → length state.tasks ≤ length new.tasks
-tasks_stay given run records [] state new l g = subst (λ (s : State). length state.tasks ≤ length s.tasks) g (omega arith)
-tasks_stay given run records (r ∷ rest) state new l g =
-    let grown = tasks_after given run records state g.0 r l g.1 in
-    let others = tasks_stay given run (records ++ r ∷ []) rest g.0 new (leads_more given run records state g.0 r l g.1) g.2 in
-    omega (arith, grown.2, others)
 
 -- ---- one record more
 
-pub taken_more : (first : Record) (others : List Record) (v w : View) (r : Record) (edits : List Edit) → HasTaken (first ∷ others) v → taken v r ≡ Some edits → w ≡ stepped (moment_of r, edits) v
-    → length w.seen.lists.tasks ≤ most_tasks → HasTaken (first ∷ others ++ r ∷ []) w
-taken_more first others v w r edits h takes is few =
-    let records : List Record = first ∷ others in
-    let given = v.seen.given in
-    let run = v.seen.run in
-    let changes : change (shown h.state) r ≡ Some edits = subst (λ (s : Shown). change s r ≡ Some edits) h.is (taken_later v r (Some edits) (length others) h.count takes) in
-    let new : State = after (moment_of r) edits h.state in
-    let next : Next h.state r new = record { edits = edits; change_is = changes; new_is = refl } in
-    let leads : Leads given run (records ++ r ∷ []) new = leads_more given run records h.state new r h.leads next in
-    let seen : shown_after (moment_of r) edits v.seen ≡ shown new = ap (shown_after (moment_of r) edits) h.is ∙ sym (shown_more given run records h.state r edits h.leads changes) in
-    subst (λ (x : View). HasTaken (records ++ r ∷ []) x) (sym is) (record {
-      state = new;
-      accepted = h.accepted;
-      leads = leads;
-      is = seen;
-      count = omega (arith, h.count, length-append records (r ∷ []));
-      few = subst (λ (s : Shown). length s.lists.tasks ≤ most_tasks) seen (subst (λ (x : View). length x.seen.lists.tasks ≤ most_tasks) is few);
-    })
+pub taken_more : (first : Record) (others : List Record) (v w : View) (r : Record) → HasTaken (first ∷ others) v → Took v r w → length w.seen.lists.tasks ≤ most_tasks
+    → HasTaken (first ∷ others ++ r ∷ []) w
+taken_more first others v w r h took few =
+    let before : flows.HasTaken (first ∷ others) v = record { count = h.count; so_far = record { state = h.state; leads = h.leads; is = h.is } } in
+    taken_as first (others ++ r ∷ []) w (subst (λ (x : View). Accepted AreAccepted FitsKind x.seen.given.texts x.seen.given.bind x.seen.given) (sym took.new_is) h.accepted)
+    (took_more (first ∷ others) v w r before took) few
 
 -- ---- no run
 
@@ -104,7 +71,7 @@ front_state first others rest xs e whole =
     let l : Leads whole.given whole.run (first ∷ others ++ rest) whole.state = subst (λ (rs : List Record). Leads whole.given whole.run rs whole.state) e whole.leads in
     let f = front_leads whole.given whole.run first others rest whole.state l in (
       record { given = whole.given; run = whole.run; state = f.state; accepted = whole.accepted; leads = f.leads },
-      tasks_stay whole.given whole.run (first ∷ others) rest f.state whole.state f.leads f.goes_on,
+      tasks_on rest f.state whole.state (leads_placed whole.given whole.run (first ∷ others) f.state f.leads) f.goes_on,
     )
 
 -- a front of a longer front
@@ -186,40 +153,36 @@ stops_later records (suc k) v r low there h none =
     )
 
 -- a later record makes too many tasks
-pub passes_later : (records : List Record) (n : ℕ) (v : View) (r : Record) (edits : List Edit) → 1 ≤ n → slice_get records n ≡ Some r → HasTaken (take n records) v → taken v r ≡ Some edits
-    → most_tasks < length v.seen.lists.tasks + count_by is_makes edits → PassesTasks records n
-passes_later records zero v r edits low there h takes many = absurd (omega (arith, low))
-passes_later records (suc k) v r edits low there h takes many =
-    let lt : suc k < length records = slice_get_within records (suc k) r there in
-    let head = head_of records k (omega (arith, lt)) in
-    let count : v.count ≡ suc (length head.1) = h.count ∙ ap length head.2 in
+pub passes_later : (records : List Record) (n : ℕ) (v : View) (r : Record) → 1 ≤ n → slice_get records n ≡ Some r → HasTaken (take n records) v → MakesTooMany v r → PassesTasks records n
+passes_later records zero v r low there h m = absurd (omega (arith, low))
+passes_later records (suc k) v r low there h m =
+    let head = head_of records k (let lt : suc k < length records = slice_get_within records (suc k) r there in omega (arith, lt)) in
     let given = v.seen.given in
     let run = v.seen.run in
-    let changes : change (shown h.state) r ≡ Some edits = subst (λ (s : Shown). change s r ≡ Some edits) h.is (taken_later v r (Some edits) (length head.1) count takes) in
-    let new : State = after (moment_of r) edits h.state in
-    let next : Next h.state r new = record { edits = edits; change_is = changes; new_is = refl } in
-    let grown = tasks_after given run (take (suc k) records) h.state new r h.leads next in
-    let same : grown.0 ≡ edits = same_Some grown.0 edits (sym grown.1 ∙ changes) in
+    let count : v.count ≡ suc (length head.1) = h.count ∙ ap length head.2 in
+    let s : IsShownAfter given run (take (suc k) records ++ r ∷ []) (shown_after (moment_of r) m.edits v.seen) =
+    shown_more given run (take (suc k) records) v.seen r m.edits (record { state = h.state; leads = h.leads; is = h.is }) (taken_later v r (Some m.edits) (length head.1) count m.takes) in
+    let grown : length s.state.tasks ≡ length v.seen.lists.tasks + count_by is_makes m.edits = sym (ap (λ (x : Shown). length x.lists.tasks) s.is) ∙ tasks_grow m.edits v.seen.lists in
     record {
       before = inner_run (take (suc k) records) v h;
       few = h.few;
       next = record {
         given = given;
         run = run;
-        state = new;
+        state = s.state;
         accepted = h.accepted;
-        leads = subst (λ (l : List Record). Leads given run l new) (sym (take_next records (suc k) r there)) (leads_more given run (take (suc k) records) h.state new r h.leads next);
+        leads = subst (λ (l : List Record). Leads given run l s.state) (sym (take_next records (suc k) r there)) s.leads;
       };
-      many = omega (arith, many, grown.2, ap (λ (es : List Edit). count_by is_makes es) same, ap (λ (s : Shown). length s.lists.tasks) h.is);
+      many = omega (arith, m.many, grown);
     }
 
 -- a later record was taken
-pub taken_next : (records : List Record) (n : ℕ) (v w : View) (r : Record) (edits : List Edit) → 1 ≤ n → slice_get records n ≡ Some r → HasTaken (take n records) v → taken v r ≡ Some edits
-    → w ≡ stepped (moment_of r, edits) v → length w.seen.lists.tasks ≤ most_tasks → HasTaken (take (n + 1) records) w
-taken_next records zero v w r edits low there h takes is few = absurd (omega (arith, low))
-taken_next records (suc k) v w r edits low there h takes is few =
+pub taken_next : (records : List Record) (n : ℕ) (v w : View) (r : Record) → 1 ≤ n → slice_get records n ≡ Some r → HasTaken (take n records) v → Took v r w
+    → length w.seen.lists.tasks ≤ most_tasks → HasTaken (take (n + 1) records) w
+taken_next records zero v w r low there h took few = absurd (omega (arith, low))
+taken_next records (suc k) v w r low there h took few =
     let head = head_of records k (omega (arith, slice_get_within records (suc k) r there)) in
     let next : take (suc k + 1) records ≡ head.0 ∷ head.1 ++ r ∷ [] =
     ap (λ m. take m records) (let e : suc k + 1 ≡ suc (suc k) = omega arith in e) ∙ take_next records (suc k) r there ∙ ap (λ (l : List Record). l ++ r ∷ []) head.2 in
     subst (λ (l : List Record). HasTaken l w) (sym next)
-    (taken_more head.0 head.1 v w r edits (subst (λ (l : List Record). HasTaken l v) head.2 h) takes is few)
+    (taken_more head.0 head.1 v w r (subst (λ (l : List Record). HasTaken l v) head.2 h) took few)

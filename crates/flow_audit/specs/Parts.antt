@@ -1,5 +1,5 @@
 -- Scaffold: What the parts of an audit find.
-use Rattle.std.specs.Prelude.{◌≡◌, ℕ, suc, ◌+◌, ◌<◌, ◌≤◌, List, [], length, take, Option, Some, None, map, slice_get, count_by, All, Contains, ⊤}
+use Rattle.std.specs.Prelude.{◌≡◌, ℕ, suc, ◌<◌, ◌≤◌, List, [], length, take, Option, Some, None, map, slice_get, All, Contains, ⊤}
 use Rattle.std.specs.List.{AllByRecursion}
 use Rattle.cacao_check.specs.Fits.{FitsKind}
 use Rattle.run_journal.specs.Image.{ArePlaced, bytes_of}
@@ -14,20 +14,17 @@ use Rattle.flow_core_rules.specs.Accepted.{Accepted}
 use Rattle.flow_core_rules.specs.Runs.{Leads}
 use Rattle.flow_core_rules.specs.State.{Shown, State, shown}
 use Rattle.flow_core_rules.specs.declared.issues.Issue.{Issue}
-use Rattle.flow_core_rules.specs.Changes.{moment_of}
-use Rattle.flow_core_rules.specs.Edits.{Edit}
-use Rattle.flow_core.specs.Views.{View, is_makes, stepped, taken}
+use Rattle.flow_core.specs.Views.{View}
 use Rattle.slpf_rules_acts.specs.Acts.{AreActs}
+use Rattle.slpf_rules_acts.specs.Index.{Places}
 use Rattle.flow_laws.specs.Acts.{HasReply}
 use Rattle.flow_laws.specs.Images.{IsAgent}
 use Rattle.flow_laws.specs.Journals.{AreAccepted}
 use Rattle.flow_audit.specs.Files.{IsFirstBadFile, IsUnreadable, acts_of, gate_of, image_of}
 use Rattle.flow_audit.specs.Breaks.{ActsFit, BreaksActs, BreaksRun, IsWithinTasks, LacksAct, PassesTasks, most_tasks}
 use Rattle.flow_audit.specs.Audits.{IsVerdict, PassesTasksAt}
-use Rattle.flow_audit.specs.Index.{ArePlacesOf, Places}
+use Rattle.flow_audit.specs.Index.{ArePlacesOf}
 use Rattle.flow_audit.specs.declared.reading.ActFile.{ActFile}
-use Rattle.flow_audit.specs.declared.running.Followed.{Followed}
-use Rattle.flow_audit.specs.declared.running.Followed.TheVariants as followed
 use Rattle.flow_audit.specs.declared.verdict.Stop.{Stop}
 use Rattle.flow_audit.specs.declared.verdict.Stop.TheVariants as stop
 use Rattle.flow_audit.specs.declared.verdict.Verdict17.TheVariants as verdict
@@ -81,14 +78,6 @@ pub record HasTaken (records : List Record) (flow : View) : Type 0 where
 abbrev pub IsFlowOf : List Record → Option View → Type 0
 IsFlowOf records None = records ≡ []
 IsFlowOf records (Some flow) = HasTaken records flow
-
--- how a record was taken, or why not; want of memory is free
-abbrev pub Follows : View → Record → Followed → View → Type 0
-Follows old r followed.Taken new = (edits : List Edit) × (taken old r ≡ Some edits) × (new ≡ stepped (moment_of r, edits) old)
-Follows old r followed.Breaks new = taken old r ≡ None
-Follows old r followed.Tasks new = (edits : List Edit) × (taken old r ≡ Some edits)
-    × (most_tasks < length old.seen.lists.tasks + count_by is_makes edits)
-Follows old r followed.Memory new = ⊤
 
 -- why the records are no run
 abbrev pub StopsRun : List (List ℕ) → List Record → Stop → Type 0

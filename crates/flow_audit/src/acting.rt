@@ -11,7 +11,6 @@ ghost use Rattle.flow_audit.specs.Breaks.{ActsFit, FitsAct};
 ghost use Rattle.flow_audit.specs.Index.{ArePlacesOf};
 ghost use Rattle.flow_audit.specs.Parts.{AllActsFit, AreActFiles, AreIndexes, HasIssue, IsActFile, IsFlowOf, StopsActs, StopsFilters};
 
-use crate::index::ActIndex;
 use crate::reading::{ActFile, gate};
 use crate::replying::reply_to;
 use crate::running::JournalRun;
@@ -19,6 +18,7 @@ use crate::verdict::Stop;
 use flow_core::{Flow, accepted_is_runnable};
 use run_records::Act;
 use slpf_rules::Table;
+use slpf_rules_acts::ActIndex;
 use std::alloc::{AllocError, Global};
 
 /// Whether an issue is there, with this filter and these bytes.

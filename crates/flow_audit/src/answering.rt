@@ -6,13 +6,13 @@ ghost use Rattle.flow_audit.specs.Breaks.{HasItsAct, RepliesHaveActs};
 ghost use Rattle.flow_audit.specs.Files.{acts_of};
 ghost use Rattle.flow_audit.specs.Parts.{ActOnce, AreActFiles, AreIndexes, HasAct, HasNoAct, IsActed, IsFlowOf, StopsReplies, lists_of};
 
-use crate::index::ActIndex;
 use crate::reading::{ActFile, gate};
 use crate::running::JournalRun;
 use crate::verdict::Stop;
 use flow_core::{Flow, accepted_is_runnable};
 use oc2_msg::{Answer, ResponseError, read_response};
 use run_records::{Act, Record};
+use slpf_rules_acts::ActIndex;
 use std::alloc::{AllocError, Global};
 
 /// Whether the bytes of a reply read as this status, rule number (0: none) and text.

@@ -7,7 +7,6 @@ mod acting;
 mod answering;
 mod auditing;
 pub mod files;
-mod index;
 mod reading;
 mod replying;
 mod running;

@@ -1,16 +1,13 @@
 // The run that the records are.
-ghost use Rattle.std.specs.Prelude.{◌≡◌, ◌↔◌, ◌<◌, ◌≤◌, [], ◌∷◌, length, take, None, IfOk, IfErr, IfSome, IsTrue, Ok};
+ghost use Rattle.std.specs.Prelude.{◌≡◌, ◌<◌, ◌≤◌, length, take, IfOk, IfErr};
 ghost use Rattle.std.specs.List.{AllByRecursion};
 ghost use Rattle.run_journal.specs.Image.{ArePlaced, bytes_of};
 ghost use Rattle.run_records.specs.Ranges.{InRange};
-ghost use Rattle.flow_core.specs.Views.{blank_shown, taken};
-ghost use Rattle.flow_laws.specs.Journals.{IsJournalRun};
-ghost use Rattle.flow_audit.specs.Parts.{Follows, HasTaken, IsFlowOf, StopsRun};
+ghost use Rattle.flow_audit.specs.Parts.{HasTaken, IsFlowOf, StopsRun};
 
 use crate::reading::{RecordFile, gate};
 use crate::verdict::Stop;
-use flow_core::{Flow, FlowError, LimitKind, Setup, SetupError};
-use run_records::Record;
+use flow_core::{Flow, FlowError};
 use std::alloc::Global;
 
 /// The run of file 0, none where it has no record.
@@ -18,15 +15,6 @@ use std::alloc::Global;
 pub(crate) struct JournalRun {
     pub(crate) file: RecordFile,
     pub(crate) flow: Option<Flow>,
-}
-
-/// How a record follows the records before it.
-#[derive(Clone, Copy, Drop)]
-enum Followed {
-    Taken,
-    Breaks,
-    Tasks,
-    Memory,
 }
 
 /// The flow of the records, none where there are none.
@@ -41,20 +29,23 @@ pub(crate) fn follow(alloc: Global, file: &RecordFile) -> Result<Option<Flow>, S
     let Some(first) = file.records.first() else {
         return Ok(None);
     };
-    match begin(alloc, first) {
-        Ok(Some(flow)) => match follow_others(file, flow) {
-            Ok(flow) => Ok(Some(flow)),
-            Err(stop) => Err(stop),
-        },
+    match Flow::begun(alloc, first) {
+        Ok(Some(flow)) => {
+            flow.law();
+            match follow_others(file, flow) {
+                Ok(flow) => Ok(Some(flow)),
+                Err(stop) => Err(stop),
+            }
+        }
         Ok(None) => Err(Stop::No {
             file: 0,
             place: gate(&file.entries, 0),
         }),
-        Err(stop) => Err(stop),
+        Err(_) => Err(Stop::Memory),
     }
 }
 
-/// Takes the records behind the first one.
+/// Takes the records behind the first one. A record in range passes no limit but that on tasks.
 fn follow_others(file: &RecordFile, mut flow: Flow) -> Result<Flow, Stop>
     requires placed { ArePlaced file.now.entries }
     requires many { length file.now.entries ≡ length file.now.records.items }
@@ -66,97 +57,21 @@ fn follow_others(file: &RecordFile, mut flow: Flow) -> Result<Flow, Stop>
     ensures stops { IfErr result (StopsRun (bytes_of file.now.entries) file.now.records.items) }
 {
     for n in 1..file.records.len() {
-        match take_next(&mut flow, &file.records[n]) {
-            Followed::Taken => flow.law(),
-            Followed::Breaks => {
+        match flow.take(&file.records[n]) {
+            Ok(()) => flow.law(),
+            Err(FlowError::NotEnabled) => {
                 return Err(Stop::No {
                     file: 0,
                     place: gate(&file.entries, n),
                 });
             }
-            Followed::Tasks => {
+            Err(FlowError::Limit { .. }) => {
                 return Err(Stop::Tasks {
                     place: gate(&file.entries, n),
                 });
             }
-            Followed::Memory => return Err(Stop::Memory),
+            Err(FlowError::Memory) => return Err(Stop::Memory),
         }
     }
     Ok(flow)
-}
-
-/// Takes a record, where it may come next. A command or a question of a record is short enough, so that no limit is passed but
-/// that on tasks.
-fn take_next(flow: &mut Flow, item: &Record) -> Followed
-    requires { flow.old.count < 100_000_000 }
-    ensures { Follows flow.old item.now result flow.new }
-{
-    match flow.ready(item) {
-        Ok(()) => {
-            flow.apply(item);
-            Followed::Taken
-        }
-        Err(FlowError::NotEnabled) => Followed::Breaks,
-        Err(
-            FlowError::Limit {
-                what: LimitKind::Tasks,
-            },
-        ) => Followed::Tasks,
-        Err(_) => Followed::Memory,
-    }
-}
-
-/// The flow after the first record; none where that is no Begin of what is accepted. A Begin passes no limit.
-fn begin(alloc: Global, first: &Record) -> Result<Option<Flow>, Stop>
-    requires { InRange first.now }
-    ensures ok { IfOk result (λ begun. IfSome begun (HasTaken (first.now ∷ []))) }
-    ensures none { result ≡ Ok None → ¬ IsJournalRun (first.now ∷ []) }
-    ensures stops { IfErr result (λ stop. stop ≡ Stop.Memory) }
-{
-    let Record::Begin {
-        run,
-        books,
-        bind,
-        ..
-    } = first
-    else {
-        return Ok(None);
-    };
-    match Setup::read(alloc, books.as_slice(), bind) {
-        Ok(setup) => begin_with(Flow::idle(alloc, setup, *run), first),
-        Err(error) => {
-            if wants_memory(&error) {
-                return Err(Stop::Memory);
-            }
-            Ok(None)
-        }
-    }
-}
-
-fn wants_memory(error: &SetupError) -> bool
-    ensures { IsTrue result ↔ (error.now ≡ SetupError.Memory) }
-{
-    match error {
-        SetupError::Memory => true,
-        _ => false,
-    }
-}
-
-/// The idle flow after its Begin; none where the record may not come first.
-fn begin_with(mut flow: Flow, first: &Record) -> Result<Option<Flow>, Stop>
-    requires idle { flow.count ≡ 0 }
-    requires blank { flow.seen ≡ blank_shown flow.seen.given flow.seen.run }
-    ensures ok { IfOk result (λ begun. IfSome begun (HasTaken (first.now ∷ []))) }
-    ensures none { result ≡ Ok None → taken flow first.now ≡ None }
-    ensures stops { IfErr result (λ stop. stop ≡ Stop.Memory) }
-{
-    flow.law();
-    match take_next(&mut flow, first) {
-        Followed::Taken => {
-            flow.law();
-            Ok(Some(flow))
-        }
-        Followed::Breaks => Ok(None),
-        Followed::Tasks | Followed::Memory => Err(Stop::Memory),
-    }
 }

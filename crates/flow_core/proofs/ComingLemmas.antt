@@ -1,12 +1,12 @@
 -- What the record of a move changes.
-use Rattle.std.proofs.Common.{◌≡◌, ℕ, zero, suc, ◌==◌, ◌&&◌, Bool, true, cond, not, List, length, Option, Some, None, arith, refl, ap, sym, ◌∙◌}
+use Rattle.std.proofs.Common.{◌≡◌, ℕ, ◌==◌, ◌&&◌, Bool, true, cond, List, length, Option, Some, None, ap, sym, ◌∙◌}
 use Rattle.std.specs.Prelude.{option_and_then, option_map}
 use Rattle.std.specs.Str.{bytes_eq}
 use Rattle.run_records.specs.declared.record.Record.{Record}
 use Rattle.run_records.specs.declared.record.Record.TheVariants as entry
 use Rattle.flow_core_rules.specs.declared.moves.Move.{Move}
 use Rattle.flow_core_rules.specs.declared.moves.Move.TheVariants as move
-use Rattle.flow_core_rules.specs.Changes.{Issuing, ask, change, is_in_time, next_command, next_question, send}
+use Rattle.flow_core_rules.specs.Changes.{Issuing, change, is_in_time, next_command, send}
 use Rattle.flow_core_rules.specs.Edits.{Edit}
 use Rattle.flow_core_rules.specs.Moves.{record_of}
 use Rattle.flow_core_rules.specs.State.{Shown}
@@ -19,9 +19,6 @@ module _ (s : Shown) (now t : ℕ) where
   abbrev sent_as : Issuing → Record
   sent_as made = entry.Send t (length s.lists.issues) (made.0).agent now (made.0).bytes
 
-  abbrev asked_as : Issuing → Record
-  asked_as made = entry.Ask t (length s.lists.issues) now (made.0).bytes
-
   pub sent : (made : Issuing) → is_in_time s now ≡ true → next_command s now t ≡ Some made → option_and_then (change s) (record_of s now (move.Send t)) ≡ Some made.1
   sent made timely is =
       ap (λ (o : Option Issuing). option_and_then (change s) (option_map sent_as o)) is
@@ -31,26 +28,7 @@ module _ (s : Shown) (now t : ℕ) where
       (three (length s.lists.issues == length s.lists.issues) ((made.0).agent == (made.0).agent) (bytes_eq (made.0).bytes (made.0).bytes)
       (same_number (length s.lists.issues)) (same_number (made.0).agent) (same_bytes (made.0).bytes))
 
-  pub not_sent : next_command s now t ≡ None → option_and_then (change s) (record_of s now (move.Send t)) ≡ None
-  not_sent is = ap (λ (o : Option Issuing). option_and_then (change s) (option_map sent_as o)) is
-
-  pub asked : (made : Issuing) → is_in_time s now ≡ true → s.lists.is_upgraded ≡ true → next_question s now t ≡ Some made → option_and_then (change s) (record_of s now (move.Ask t)) ≡ Some made.1
-  asked made timely upgraded is =
-      ap (λ (o : Option Issuing). option_and_then (change s) (option_map asked_as o)) is
-      ∙ ap (λ (b : Bool). cond b (ask s now t (length s.lists.issues) (made.0).bytes) None) timely
-      ∙ ap (option_and_then (λ (m : Issuing). cond (s.lists.is_upgraded && (length s.lists.issues == length s.lists.issues) && bytes_eq (made.0).bytes (m.0).bytes) (Some m.1) None)) is
-      ∙ ap (λ (b : Bool). cond b (Some made.1) None)
-      (three s.lists.is_upgraded (length s.lists.issues == length s.lists.issues) (bytes_eq (made.0).bytes (made.0).bytes)
-      upgraded (same_number (length s.lists.issues)) (same_bytes (made.0).bytes))
-
-  pub not_asked : next_question s now t ≡ None → option_and_then (change s) (record_of s now (move.Ask t)) ≡ None
-  not_asked is = ap (λ (o : Option Issuing). option_and_then (change s) (option_map asked_as o)) is
-
 -- ---- what a flow takes
-
-begun : (n : ℕ) → (n ≡ 0 → ⊥) → not (n == 0) ≡ true
-begun zero apart = absurd (apart refl)
-begun (suc n) apart = grind arith
 
 -- what the record of a move changes is what it changes as a record
 pub taken_made : (v : View) (now : ℕ) (m : Move) (r : Record) (edits : List Edit) → record_of v.seen now m ≡ Some r → taken_by v now m ≡ Some edits → taken v r ≡ Some edits

@@ -1,9 +1,12 @@
 -- What a flow keeps.
-use Rattle.std.proofs.Common.{◌≡◌, ℕ, zero, suc, ◌+◌, ◌<◌, ◌≤◌, ◌==◌, ◌&&◌, ◌||◌, Bool, true, false, cond, not, List, [], ◌∷◌, ◌++◌, length, Option, Some, None, arith, refl, ap, sym, subst, ◌∙◌, length-append, inl, inr}
+use Rattle.std.proofs.Common.{◌≡◌, ℕ, zero, suc, ◌+◌, ◌<◌, ◌≤◌, ◌==◌, ◌&&◌, ◌||◌, Bool, true, false, cond, not, List, [], ◌∷◌, ◌++◌, length, Option, Some, None, arith, refl, ap, ap₂, sym, subst, ◌∙◌, length-append, inl, inr}
 use Rattle.std.specs.Prelude.{IfSome, map, slice_get, option_map, nat_le, nat_eq, count_by}
 use Rattle.std.specs.List.{list_any}
 use Rattle.std.specs.Str.{bytes_eq}
 use Rattle.std.specs.Cmp.Lexicographic.{pointwise}
+use Rattle.std.proofs.lemmas.Bool.{and_from, and_parts, eq-eqb, eqb-true, le-leb, leb-true}
+use Rattle.std.proofs.lemmas.Option.{none-some}
+use Rattle.std.proofs.lemmas.Slice.Eq.{bytes_eq-Decides, slice_eq-Decides}
 use Rattle.run_records.specs.Ranges.{last_moment}
 use Rattle.run_records.specs.declared.record.Record.{Record}
 use Rattle.run_records.specs.declared.record.Record.TheVariants as entry
@@ -16,7 +19,7 @@ use Rattle.flow_core_rules.specs.Edits.Edit.{opens, writes, makes, moves, issues
 use Rattle.flow_core_rules.specs.Runnable.{IsRunnable}
 use Rattle.flow_core_rules.specs.Sane.{IsSane}
 use Rattle.flow_core_rules.specs.Changes.{change, moment_of}
-use Rattle.flow_core_rules.specs.Runs.{first_task, first_edits, shown_after}
+use Rattle.flow_core_rules.specs.Runs.{begin_of, first_task, first_edits, shown_after}
 use Rattle.flow_core_rules.proofs.TaskLemmas.{AreFine, set_length}
 use Rattle.std.proofs.lemmas.List.Recursion.{is_count_by}
 use Rattle.flow_core_rules.proofs.QuietLemmas.{IsQuiet}
@@ -34,14 +37,6 @@ use Rattle.flow_core.proofs.ReachedLemmas.{reached_first, reached_next, sane_rea
 clash : (b : Bool) → b ≡ true → b ≡ false → ⊥
 clash true x y = cc
 clash false x y = cc
-
-both : (a b : Bool) → (a && b) ≡ true → (a ≡ true) × (b ≡ true)
-both true true e = (refl, refl)
-both true false e = (refl, e)
-both false b e = absurd (clash false e refl)
-
-le_of : (a b : ℕ) → nat_le a b ≡ true → a ≤ b
-le_of a b h = grind arith
 
 -- ---- the state of a run
 
@@ -93,83 +88,99 @@ first_fits given now edits le e = by (slice_get given.books 0) e
         subst (AllFit blank_lists) (inner es edits g)
         (tt, bound_fit s given.variables (first_task given now book) (omega arith) (λ texts. record { since = now; phase_is = refl; in_time = le; parent = tt }))
 
--- ---- the Begin
+-- ---- what comes first, and what comes later
 
-pub begins_first : (s : Shown) (r : Record) (edits : List Edit) → begins s r ≡ Some edits → (moment_of r ≤ last_moment) × (first_edits s.given (moment_of r) ≡ Some edits)
-begins_first s (entry.Begin run moment books bind) edits e = by (nat_le moment last_moment && (run == s.run) && pointwise (pointwise nat_eq) books s.given.texts && bytes_eq bind s.given.bind) refl e
-  where
-    none_some : None ≡ Some edits → ⊥
-    none_some g = cc
-
-    by : (b : Bool) → (nat_le moment last_moment && (run == s.run) && pointwise (pointwise nat_eq) books s.given.texts && bytes_eq bind s.given.bind) ≡ b → cond b (first_edits s.given moment) None ≡ Some edits
-        → (moment ≤ last_moment) × (first_edits s.given moment ≡ Some edits)
-    by true g h =
-        let a = both (nat_le moment last_moment && (run == s.run) && pointwise (pointwise nat_eq) books s.given.texts) (bytes_eq bind s.given.bind) g in
-        let b = both (nat_le moment last_moment && (run == s.run)) (pointwise (pointwise nat_eq) books s.given.texts) a.0 in
-        (le_of moment last_moment (both (nat_le moment last_moment) (run == s.run) b.0).0, h)
-    by false g h = absurd (none_some h)
-begins_first s (entry.Walk task moment) edits e = absurd (none_some e)
-  where
-    none_some : None ≡ Some edits → ⊥
-    none_some g = cc
-begins_first s (entry.Send task issue agent moment bytes) edits e = absurd (none_some e)
-  where
-    none_some : None ≡ Some edits → ⊥
-    none_some g = cc
-begins_first s (entry.Reply issue moment status rule text) edits e = absurd (none_some e)
-  where
-    none_some : None ≡ Some edits → ⊥
-    none_some g = cc
-begins_first s (entry.Expire issue moment) edits e = absurd (none_some e)
-  where
-    none_some : None ≡ Some edits → ⊥
-    none_some g = cc
-begins_first s (entry.Upgrade version moment) edits e = absurd (none_some e)
-  where
-    none_some : None ≡ Some edits → ⊥
-    none_some g = cc
-begins_first s (entry.Ask task issue moment bytes) edits e = absurd (none_some e)
-  where
-    none_some : None ≡ Some edits → ⊥
-    none_some g = cc
-begins_first s (entry.Told issue moment status text) edits e = absurd (none_some e)
-  where
-    none_some : None ≡ Some edits → ⊥
-    none_some g = cc
-
--- ---- a record that is taken
-
-not_zero : (n : ℕ) → (suc n == 0) ≡ false
+pub not_zero : (n : ℕ) → (suc n == 0) ≡ false
 not_zero n = grind arith
 
-later : (n : ℕ) (v : View) (r : Record) (edits : List Edit) → v.count ≡ suc n → taken v r ≡ Some edits → change v.seen r ≡ Some edits
-later n v r edits c e =
-    subst (λ b. cond (not b) (change v.seen r) (begins v.seen r) ≡ Some edits) (ap (λ k. k == 0) c ∙ not_zero n) e
+pub taken_first : (v : View) (r : Record) (o : Option (List Edit)) → v.count ≡ 0 → taken v r ≡ o → begins v.seen r ≡ o
+taken_first v r o c e = subst (λ k. cond (not (k == 0)) (change v.seen r) (begins v.seen r) ≡ o) c e
+
+pub taken_later : (v : View) (r : Record) (o : Option (List Edit)) (n : ℕ) → v.count ≡ suc n → taken v r ≡ o → change v.seen r ≡ o
+taken_later v r o n c e = subst (λ b. cond (not b) (change v.seen r) (begins v.seen r) ≡ o) (ap (λ k. k == 0) c ∙ not_zero n) e
+
+-- ---- the Begin
+
+-- the record is the Begin of the run, and changes so much
+pub record IsFirst (s : Shown) (r : Record) (edits : List Edit) : Type 0 where
+  pub is : r ≡ begin_of s.given s.run (moment_of r)
+  pub in_time : moment_of r ≤ last_moment
+  pub edits_are : first_edits s.given (moment_of r) ≡ Some edits
+
+abbrev is_own : Shown → ℕ → ℕ → List (List ℕ) → List ℕ → Bool
+is_own s run moment books bind = nat_le moment last_moment && (run == s.run) && pointwise (pointwise nat_eq) books s.given.texts && bytes_eq bind s.given.bind
+
+same_begin : (s : Shown) (run moment : ℕ) (books : List (List ℕ)) (bind : List ℕ) → run ≡ s.run → books ≡ s.given.texts → bind ≡ s.given.bind → entry.Begin run moment books bind ≡ begin_of s.given s.run moment
+same_begin s run moment books bind p q h =
+    ap (λ (n : ℕ). entry.Begin n moment books bind) p ∙ ap₂ (λ (xs : List (List ℕ)) (x : List ℕ). entry.Begin s.run moment xs x) q h
+
+first_by : (s : Shown) (run moment : ℕ) (books : List (List ℕ)) (bind : List ℕ) (edits : List Edit) (b : Bool) → b ≡ is_own s run moment books bind → cond b (first_edits s.given moment) None ≡ Some edits
+    → IsFirst s (entry.Begin run moment books bind) edits
+first_by s run moment books bind edits false g h = absurd (none-some edits h)
+first_by s run moment books bind edits true g h =
+    let texts = pointwise (pointwise nat_eq) books s.given.texts in
+    let a = and_parts (nat_le moment last_moment && (run == s.run) && texts) (bytes_eq bind s.given.bind) (sym g) in
+    let b = and_parts (nat_le moment last_moment && (run == s.run)) texts a.0 in
+    let c = and_parts (nat_le moment last_moment) (run == s.run) b.0 in
+    record {
+      is = same_begin s run moment books bind (eqb-true run s.run c.1) ((slice_eq-Decides bytes_eq-Decides books s.given.texts texts refl).0 b.1) ((bytes_eq-Decides bind s.given.bind).0 a.1);
+      in_time = leb-true moment last_moment c.0;
+      edits_are = h;
+    }
+
+pub is_first : (s : Shown) (r : Record) (edits : List Edit) → begins s r ≡ Some edits → IsFirst s r edits
+is_first s (entry.Begin run moment books bind) edits e = first_by s run moment books bind edits (is_own s run moment books bind) refl e
+is_first s (entry.Walk task moment) edits e = absurd (none-some edits e)
+is_first s (entry.Send task issue agent moment bytes) edits e = absurd (none-some edits e)
+is_first s (entry.Reply issue moment status rule text) edits e = absurd (none-some edits e)
+is_first s (entry.Expire issue moment) edits e = absurd (none-some edits e)
+is_first s (entry.Upgrade version moment) edits e = absurd (none-some edits e)
+is_first s (entry.Ask task issue moment bytes) edits e = absurd (none-some edits e)
+is_first s (entry.Told issue moment status text) edits e = absurd (none-some edits e)
+
+pub begins_first : (s : Shown) (r : Record) (edits : List Edit) → begins s r ≡ Some edits → (moment_of r ≤ last_moment) × (first_edits s.given (moment_of r) ≡ Some edits)
+begins_first s r edits e = let f = is_first s r edits e in (f.in_time, f.edits_are)
+
+pub begin_is : (s : Shown) (r : Record) (edits : List Edit) → begins s r ≡ Some edits → r ≡ begin_of s.given s.run (moment_of r)
+begin_is s r edits e = (is_first s r edits e).is
+
+-- and the Begin of the run comes first
+pub begins_own : (s : Shown) (moment : ℕ) → moment ≤ last_moment → begins s (begin_of s.given s.run moment) ≡ first_edits s.given moment
+begins_own s moment le =
+    let texts : pointwise (pointwise nat_eq) s.given.texts s.given.texts ≡ true =
+    (slice_eq-Decides bytes_eq-Decides s.given.texts s.given.texts (pointwise (pointwise nat_eq) s.given.texts s.given.texts) refl).1 refl in
+    let here : (nat_le moment last_moment && (s.run == s.run)) ≡ true = and_from (nat_le moment last_moment) (s.run == s.run) (le-leb moment last_moment le) (eq-eqb s.run s.run refl) in
+    let all : is_own s s.run moment s.given.texts s.given.bind ≡ true =
+    and_from (nat_le moment last_moment && (s.run == s.run) && pointwise (pointwise nat_eq) s.given.texts s.given.texts) (bytes_eq s.given.bind s.given.bind)
+    (and_from (nat_le moment last_moment && (s.run == s.run)) (pointwise (pointwise nat_eq) s.given.texts s.given.texts) here texts) ((bytes_eq-Decides s.given.bind s.given.bind).1 refl) in
+    ap (λ b. cond b (first_edits s.given moment) None) all
+
+-- ---- a record that is taken
 
 -- its edits fit
 pub taken_fits : (n : ℕ) (v : View) (r : Record) (edits : List Edit) → v.count ≡ n → IsRunnable v.seen.given → IsReached n v.seen → length v.seen.lists.texts ≡ length v.seen.lists.scopes → taken v r ≡ Some edits → AllFit v.seen.lists edits
 taken_fits zero v r edits c runnable h len e =
-    let b : begins v.seen r ≡ Some edits = subst (λ k. cond (not (k == 0)) (change v.seen r) (begins v.seen r) ≡ Some edits) c e in
+    let b : begins v.seen r ≡ Some edits = taken_first v r (Some edits) c e in
     let f = begins_first v.seen r edits b in
     subst (λ (x : Shown). AllFit x.lists edits) (sym h) (first_fits v.seen.given (moment_of r) edits f.0 f.1)
 taken_fits (suc n) v r edits c runnable h len e =
-    let g : change v.seen r ≡ Some edits = later n v r edits c e in
+    let g : change v.seen r ≡ Some edits = taken_later v r (Some edits) n c e in
     change_fits (suc n) v.seen r edits runnable h len g
 
 -- it leads to the state of a run of one record more, within the limit on moments
 pub taken_reaches : (n : ℕ) (v : View) (r : Record) (edits : List Edit) → v.count ≡ n → IsReached n v.seen → taken v r ≡ Some edits → IsStateOf (suc n) (shown_after (moment_of r) edits v.seen) × (moment_of r ≤ last_moment)
 taken_reaches zero v r edits c h e =
-    let b : begins v.seen r ≡ Some edits = subst (λ k. cond (not (k == 0)) (change v.seen r) (begins v.seen r) ≡ Some edits) c e in
+    let b : begins v.seen r ≡ Some edits = taken_first v r (Some edits) c e in
     let f = begins_first v.seen r edits b in
     let first = reached_first v.seen.given v.seen.run (moment_of r) edits f.0 f.1 in
     (subst (λ (x : Shown). IsStateOf 1 (shown_after (moment_of r) edits x)) (sym h) first, f.0)
 taken_reaches (suc n) v r edits c h e =
-    let g : change v.seen r ≡ Some edits = later n v r edits c e in
+    let g : change v.seen r ≡ Some edits = taken_later v r (Some edits) n c e in
     (reached_next (suc n) v.seen r edits h g, (moment_within v.seen (moment_of r) (change_in_time v.seen r edits g)).1)
 
 -- ---- how many tasks and issues there are behind edits
 
-abbrev makes_in : List Edit → ℕ
+abbrev pub makes_in : List Edit → ℕ
 makes_in [] = 0
 makes_in (e ∷ es) = cond (is_makes e) (1 + makes_in es) (makes_in es)
 
@@ -217,7 +228,7 @@ bound_quiet : (bound : List (List ℕ × List ℕ)) (task : Task) → IsQuiet (m
 bound_quiet [] task = refl
 bound_quiet (b ∷ bound) task = bound_quiet bound task
 
-first_quiet : (given : Given) (now : ℕ) (edits : List Edit) → first_edits given now ≡ Some edits → IsQuiet edits
+pub first_quiet : (given : Given) (now : ℕ) (edits : List Edit) → first_edits given now ≡ Some edits → IsQuiet edits
 first_quiet given now edits e = by (slice_get given.books 0) e
   where
     none_some : None ≡ Some edits → ⊥
@@ -234,12 +245,12 @@ first_quiet given now edits e = by (slice_get given.books 0) e
 pub issues_grow : (n : ℕ) (v : View) (r : Record) (edits : List Edit) → v.count ≡ n → IsRunnable v.seen.given → IsReached n v.seen → taken v r ≡ Some edits
     → length (all_shown_edited edits v.seen.lists).issues ≤ suc (length v.seen.lists.issues)
 issues_grow zero v r edits c runnable h e =
-    let b : begins v.seen r ≡ Some edits = subst (λ k. cond (not (k == 0)) (change v.seen r) (begins v.seen r) ≡ Some edits) c e in
+    let b : begins v.seen r ≡ Some edits = taken_first v r (Some edits) c e in
     let f = begins_first v.seen r edits b in
     let same : length (all_shown_edited edits v.seen.lists).issues ≡ length v.seen.lists.issues = ap length (quiet_issues edits v.seen.lists (first_quiet v.seen.given (moment_of r) edits f.1)) in
     omega arith
 issues_grow (suc n) v r edits c runnable h e =
-    let g : change v.seen r ≡ Some edits = later n v r edits c e in
+    let g : change v.seen r ≡ Some edits = taken_later v r (Some edits) n c e in
     let sound : Sound h.state = runs_are_sound v.seen.given v.seen.run h.records h.state runnable h.leads in
     let there : change (shown h.state) r ≡ Some edits = subst (λ (x : Shown). change x r ≡ Some edits) (sym h.shown_is) g in
     let shaped : Shaped (shown h.state).lists edits = change_shaped (shown h.state) r edits sound.known.agree there in

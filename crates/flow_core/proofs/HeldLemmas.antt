@@ -27,9 +27,6 @@ use Rattle.flow_core.proofs.FlowLemmas.{sane_now, taken_fits, taken_reaches, iss
 inner : {A : Type 0} (a b : A) → Some a ≡ Some b → a ≡ b
 inner a b h = cc
 
-some_none : {A : Type 0} (a : A) → None ≡ Some a → ⊥
-some_none a h = cc
-
 -- a run that has begun is well
 pub is_well : (f : Inside) → IsSound f → (f.count ≡ 0 → ⊥) → IsRunnable f.run.setup → length f.run.tables.scopes.items ≤ 200_000_001 → IsWell f.run
 is_well f s apart runnable scopes =

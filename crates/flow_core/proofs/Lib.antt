@@ -1,11 +1,14 @@
+pub mod BeginLemmas
 pub mod ComingLemmas
 pub mod DueFacts
 pub mod EditFits
 pub mod FlowLemmas
+pub mod FrontLemmas
 pub mod HeldLemmas
 pub mod MoveFacts
 pub mod ReachedLemmas
 pub mod ReportLemmas
 pub mod ShapedLemmas
 pub mod TableReads
+pub mod TakenLemmas
 pub mod TimelyLemmas

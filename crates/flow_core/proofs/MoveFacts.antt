@@ -26,10 +26,6 @@ clash : (b : Bool) → b ≡ true → b ≡ false → ⊥
 clash true x y = cc
 clash false x y = cc
 
-none_known : {A : Type 0} (o : Option A) → is_some o ≡ false → o ≡ None
-none_known None e = refl
-none_known (Some x) e = absurd (clash true refl e)
-
 some_known : {A : Type 0} (o : Option A) → is_some o ≡ true → (x : A) × (o ≡ Some x)
 some_known None e = absurd (clash false e refl)
 some_known (Some x) e = (x, refl)

@@ -83,10 +83,6 @@ shaped_walk s now t a le =
 
 -- ---- Send and Ask
 
--- an issue of a rule's task, at the record's moment
-abbrev IsOwn : Here → Issue → Type 0
-IsOwn h i = (i.task ≡ h.number) × (i.moment ≡ h.now)
-
 command_own : (h : Here) (place : Place) → IfSome (changes.command_at h place) (λ i. (i.task ≡ h.number) × (i.moment ≡ h.now))
 command_own h (to_operator content) = tt
 command_own h (to_filter content to) = by content h.task.step_scope

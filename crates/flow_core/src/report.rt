@@ -6,38 +6,14 @@ ghost use Rattle.flow_core_plans.specs.RunFacts.{shown_of};
 ghost use Rattle.flow_core.specs.Views.{has_begun};
 
 use crate::flow::Flow;
+use base_lines::{add, add_number, add_word};
 use cacao_site::Bytes;
 use cacao_text::canonical_string;
 use cacao_vars::{Name, Word};
 use flow_core_plans::Run;
 use flow_core_rules::{Issue, IssuePhase, Phase, Task};
-use itoa::Buffer;
 use std::alloc::{AllocError, Global};
 use std::collections::BTreeMap;
-
-/// Adds a text.
-fn add(out: &mut Vec<u8>, text: &[u8]) -> Result<(), AllocError>
-    ensures { OnOk result (out.new.items ≡ out.old.items ++ text.now) }
-{
-    out.extend_from_slice(text)?;
-    Ok(())
-}
-
-/// Adds a word behind a space.
-fn add_word(out: &mut Vec<u8>, word: &[u8]) -> Result<(), AllocError>
-    ensures { OnOk result (out.new.items ≡ out.old.items ++ 32 ∷ word.now) }
-{
-    add(out, b" ")?;
-    add(out, word)
-}
-
-/// Adds a number in decimal behind a space.
-fn add_number(out: &mut Vec<u8>, number: u64) -> Result<(), AllocError>
-    ensures { OnOk result (out.new.items ≡ out.old.items ++ 32 ∷ decimal number) }
-{
-    let mut buffer = Buffer::new();
-    add_word(out, buffer.format(number).as_bytes())
-}
 
 /// Ends the line.
 fn end(out: &mut Vec<u8>) -> Result<(), AllocError>

@@ -21,7 +21,7 @@ use Rattle.flow_core_rules.specs.Edits.Edit.{writes, moves, issues, closes, upgr
 use Rattle.flow_core_rules.specs.Places.{Place, places}
 use Rattle.flow_core_rules.specs.Tasks.{Here, here_at, go, finish, next_key, exception_of, in_phase}
 use Rattle.flow_core_rules.specs.Changes as changes
-use Rattle.flow_core_rules.specs.Changes.{Waiting, Issuing, moment_of, written}
+use Rattle.flow_core_rules.specs.Changes.{Waiting, Issuing, written}
 use Rattle.flow_core_rules.proofs.PlacedLemmas.{some_then, some_if, some_from, map_from}
 use Rattle.flow_core_rules.proofs.HereLemmas.{here_of, some_at, IsWaitingAt, waiting_known}
 use Rattle.flow_core_rules.proofs.ShapeLemmas.{filter_known}
@@ -29,7 +29,6 @@ use Rattle.flow_core_rules.proofs.ScopeLemmas.{IsScoped}
 use Rattle.flow_core_laws.proofs.Somes.{le_true}
 use Rattle.flow_core_order_laws.specs.Renumbered.{Grown, raised, raised_phase, renumbered_task, renumbered}
 use Rattle.flow_core_order_laws.proofs.Homes.{home_within}
-use Rattle.flow_core_order_laws.proofs.Joins.{JoinsBelow}
 
 -- ---- numbers
 
@@ -57,13 +56,6 @@ module _ (by : Grown) where
 
   -- ---- tasks that are there
 
-  pub phase_old : (at : Phase) → JoinsBelow by.tasks at → raised_phase by at ≡ at
-  phase_old (phase.Joining from) less = ap phase.Joining (raised_old by.tasks by.more_tasks from less)
-  phase_old (phase.At since) less = refl
-  phase_old (phase.Sending place) less = refl
-  phase_old (phase.Awaiting place issue) less = refl
-  phase_old (phase.Ended well) less = refl
-
   pub step_old : (o : Option ℕ) → IfSome o (λ k. k < by.scopes) → option_map up o ≡ o
   step_old None less = refl
   step_old (Some k) less = ap Some (raised_old by.scopes by.more_scopes k less)
@@ -72,9 +64,6 @@ module _ (by : Grown) where
   old_in task at scoped same =
       ap (λ (k : ℕ). record task { scope = k; step_scope = option_map up task.step_scope; phase = raised_phase by at }) (raised_old by.scopes by.more_scopes task.scope scoped.0)
       ∙ ap (λ (o : Option ℕ). record task { step_scope = o; phase = raised_phase by at }) (step_old task.step_scope scoped.1) ∙ ap (λ (f : Phase). record task { phase = f }) same
-
-  pub old_task : (task : Task) → IsScoped by.scopes task → JoinsBelow by.tasks task.phase → renumbered_task by task ≡ task
-  old_task task scoped joins = old_in task task.phase scoped (phase_old task.phase joins)
 
   -- ---- a step that is done
 

@@ -203,9 +203,6 @@ answered_in count n end status rule text w =
     written_in count w.here.seen.lists w.scope (changes.out_args_of w.here.step.kind) (changes.paired (changes.out_args_of w.here.step.kind) (changes.results status rule text)) (moves w.here.number (changes.after_answer w status) ∷ [])
     (paired_named (changes.out_args_of w.here.step.kind) (changes.results status rule text)) (tt {0})
 
-of_filter : Waiting → Option Waiting
-of_filter w = cond ((w.issue).agent == 0) None (Some w)
-
 reply_in : (s : Shown) (n now status rule : ℕ) (text : List ℕ) → IfSome (changes.reply s now n status rule text) (IsIn s (entry.Reply n now status rule text))
 reply_in s n now status rule text =
     some_if (changes.is_answer status text) (option_map f (changes.waiting_filter_at s now n)) (IsIn s (entry.Reply n now status rule text)) (by (waiting_at s now n))

@@ -1,5 +1,5 @@
 -- After a record of another task a name is seen as it was, where the record wrote no text to it in its home.
-use Rattle.std.proofs.Common.{◌≡◌, ℕ, ◌<◌, ◌||◌, Bool, true, false, List, [], ◌∷◌, ◌++◌, length, Contains, Option, Some, None, arith, refl, ap, sym, subst, ◌∙◌, ◌⊎◌, inl, inr, append_assoc, append-nil, length-append}
+use Rattle.std.proofs.Common.{◌≡◌, ℕ, ◌<◌, true, false, List, [], ◌∷◌, ◌++◌, length, Contains, Option, Some, None, arith, refl, ap, sym, subst, ◌∙◌, ◌⊎◌, inl, inr, append_assoc, append-nil, length-append}
 use Rattle.std.specs.Prelude.{IfSome, option_and_then, slice_get}
 use Rattle.std.specs.List.{AllByRecursion, list_any}
 use Rattle.std.specs.Option.{option_map_or}
@@ -39,10 +39,6 @@ all_writes (upgrades ∷ es) x = all_writes es (edited upgrades x)
 
 no_truth : true ≡ false → ⊥
 no_truth h = cc
-
-any_later : (b c : Bool) → (b || c) ≡ false → c ≡ false
-any_later true c e = absurd (no_truth e)
-any_later false c e = e
 
 -- without a new scope all writes go to scopes that are there
 placed_below : (es : List Edit) (n : ℕ) → list_any opens_scope es ≡ false → Placed n es → AllByRecursion (λ w. w.scope < n) (written_by es)

@@ -18,8 +18,8 @@ use cacao_book::Book;
 use cacao_site::Bytes;
 use cacao_vars::{Name, Scope, Word};
 use flow_core_rules::{Phase, Task};
-use flow_core_values::{LAST_MOMENT, Planned, Present, Run};
-use run_records::{BytesList, Record};
+use flow_core_values::{Planned, Present, Run};
+use run_records::{BytesList, LAST_MOMENT, Record};
 use std::alloc::{AllocError, Global};
 
 /// The moment of a record, in milliseconds.

@@ -1,5 +1,5 @@
 -- Which edits leave the issues as they are, and what no edit changes.
-use Rattle.std.proofs.Common.{◌≡◌, ℕ, suc, ◌+◌, ◌&&◌, Bool, true, false, cond, List, [], ◌∷◌, ◌++◌, length, Option, Some, None, refl, sym, subst, append_assoc}
+use Rattle.std.proofs.Common.{◌≡◌, ℕ, suc, ◌+◌, Bool, true, false, cond, List, [], ◌∷◌, ◌++◌, length, Option, Some, None, refl, sym, subst, append_assoc}
 use Rattle.std.specs.Prelude.{IfSome, map, slice_get, not, nat_le}
 use Rattle.std.specs.List.{flat_map, list_any, list_all}
 use Rattle.std.specs.Option.{option_map_or}
@@ -114,14 +114,6 @@ pub quiet_walk : (s : Shown) (now t : ℕ) → IfSome (changes.walk s now t) IsQ
 quiet_walk s now t = some_here s now t (λ (h : Here). changes.walked h h.task.phase) IsQuiet (λ h e. quiet_walked h h.task.phase)
 
 -- ---- what edits keep
-
-both : (a b : Bool) → (a && b) ≡ true → (a ≡ true) × (b ≡ true)
-both true true e = (refl, refl)
-both true false e = (refl, e)
-both false b e = (e, absurd (no e))
-  where
-    no : false ≡ true → ⊥
-    no h = cc
 
 no_truth : false ≡ true → ⊥
 no_truth h = cc

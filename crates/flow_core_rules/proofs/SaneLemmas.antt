@@ -121,10 +121,6 @@ good_walk s now t k = some_at s now t (λ (h : Here). changes.walked h h.task.ph
 
 -- ---- Send and Ask
 
--- an issue of a rule's task, which waits
-IsOwn : Here → Issue → Type 0
-IsOwn h i = (i.task ≡ h.number) × (is_waiting i.phase ≡ true)
-
 command_own : (h : Here) (place : Place) → IfSome (changes.command_at h place) (λ i. (i.task ≡ h.number) × (is_waiting i.phase ≡ true))
 command_own h (to_operator content) = tt
 command_own h (to_filter content to) = by content h.task.step_scope

@@ -26,9 +26,6 @@ use Rattle.flow_core_rules.proofs.IssueLemmas.{WasAt, get_push, get_changed}
 inner : {A : Type 0} (a b : A) → Some a ≡ Some b → a ≡ b
 inner a b h = cc
 
-none_some : {A : Type 0} (x : A) → None ≡ Some x → ⊥
-none_some x h = cc
-
 clash : (b : Bool) → b ≡ true → b ≡ false → ⊥
 clash true x y = cc
 clash false x y = cc

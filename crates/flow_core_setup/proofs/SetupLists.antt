@@ -96,6 +96,3 @@ pub one_at : {X : Type 0} (P : X → Type 0) (xs : List X) (i : ℕ) (x : X) →
 one_at P [] i x lt at all = absurd (omega arith)
 one_at P (y ∷ ys) zero x lt at all = subst P (sym at) (all 0 y (omega arith))
 one_at P (y ∷ ys) (suc i) x lt at all = one_at P ys i x (omega arith) at (λ k d lt. all (suc k) d (omega arith))
-
-pub all_push : {X : Type 0} (P : X → Type 0) (xs : List X) (x : X) → All P xs → P x → All P (xs ++ x ∷ [])
-all_push P xs x h one = All-from_recursion P (xs ++ x ∷ []) (each_append P xs (x ∷ []) (recursion_from_All P xs h) (one, tt))

@@ -1,23 +1,18 @@
 -- Why texts give no setup, from what each part of reading told.
-use Rattle.std.proofs.Common.{◌≡◌, ◌⊎◌, inl, inr, ◌∙◌, refl, sym, ap, subst, arith, ℕ, zero, suc, ◌+◌, ◌<◌, ◌≤◌, List, [], ◌∷◌, ◌++◌, length, map, take, get_or, Option, Some, None, Err}
-use Rattle.std.specs.Prelude.{IfSome, IsSome, option_and_then, slice_get}
+use Rattle.std.proofs.Common.{◌≡◌, ◌∙◌, refl, sym, ap, subst, arith, ℕ, zero, suc, ◌+◌, ◌<◌, List, [], ◌∷◌, ◌++◌, length, map, take, get_or, Option, Some, Err}
+use Rattle.std.specs.Prelude.{IfSome, IsSome, slice_get}
 use Rattle.std.proofs.lemmas.List.{length-map}
+use Rattle.std.proofs.lemmas.Option.{slice_get_read}
 use Rattle.serde_json.specs.Data.{Data}
 use Rattle.cacao_json.specs.Reading.{tree}
 use Rattle.cacao_json.specs.Refusals.{answer}
 use Rattle.cacao_json.specs.declared.error.JsonError.{JsonError}
 use Rattle.cacao_book.specs.declared.books.Book.{Book}
-use Rattle.cacao_book_shape.specs.declared.refusals.BookError.{BookError}
-use Rattle.cacao_book_shape.specs.declared.refusals.BookError.TheVariants as book_error
 use Rattle.cacao_book.specs.Books.{book}
-use Rattle.cacao_book_shape.specs.Shape.{IsWellShaped}
-use Rattle.cacao_book_shape.specs.Refusals.{RefusesTree, key_at}
 use Rattle.cacao_check.specs.declared.breaks.CheckError.{CheckError}
 use Rattle.cacao_check.specs.declared.breaks.CheckError.TheVariants as check_error
 use Rattle.cacao_check.specs.declared.breaks.Mode.TheVariants.{Run}
-use Rattle.cacao_check.specs.Checks.{RefusesBooks as RefusesSound}
-use Rattle.cacao_check.specs.FirstBreak.{AreWellShaped, of_shape, of_sense}
-use Rattle.cacao_check.specs.Laws.{FirstBreakIs}
+use Rattle.cacao_check.specs.FirstBreak.{RefusesTrees as RefusesJudged}
 use Rattle.cacao_vars.specs.declared.declarations.Var.{Var}
 use Rattle.cacao_check.specs.Fits.{FitsKind}
 use Rattle.flow_core_rules.specs.Bindings.{bindings_of, BindRule, b1, b2, b3, B1, B2, B3, KeepsBind, bind_number}
@@ -25,7 +20,7 @@ use Rattle.flow_core_rules.specs.Accepted.{first_variables}
 use Rattle.flow_core_setup.specs.declared.setup_errors.SetupError.{SetupError}
 use Rattle.flow_core_setup.specs.declared.setup_errors.SetupError.TheVariants as setup_error
 use Rattle.flow_core_setup.specs.Setups.{AreAccepted}
-use Rattle.flow_core_setup.specs.SetupReading.{IsFirstUnreadable, AreTreesOf, RefusesTexts, RefusesText, RefusesBooks, RefusesBindText, RefusesTrees, RefusesBindings, RefusesShape, RefusesSense, IsLeastBindBreak}
+use Rattle.flow_core_setup.specs.SetupReading.{IsFirstUnreadable, AreTreesOf, RefusesTexts, RefusesText, RefusesBooks, RefusesBindText, RefusesTrees, RefusesBindings, RefusesRule, IsLeastBindBreak}
 
 -- ---- places in lists of texts
 
@@ -37,11 +32,6 @@ get_before (x ∷ xs) ys (suc n) lt = get_before xs ys n (omega arith)
 get_behind : {X : Type 0} (xs : List X) (y : X) → slice_get (xs ++ y ∷ []) (length xs) ≡ Some y
 get_behind [] y = refl
 get_behind (x ∷ xs) y = get_behind xs y
-
-got_within : {X : Type 0} (xs : List X) (n : ℕ) (x : X) → slice_get xs n ≡ Some x → n < length xs
-got_within [] n x e = absurd (cc)
-got_within (y ∷ xs) zero x e = omega arith
-got_within (y ∷ xs) (suc n) x e = let h = got_within xs n x e in omega (arith, h)
 
 -- the texts before a place have trees
 HaveTrees : List (List ℕ) → ℕ → Type 0
@@ -66,16 +56,11 @@ count_trees texts trees e = sym (length-map trees (λ t. Some t)) ∙ sym (ap le
 
 -- ---- the loop over texts
 
-get_here : (texts : List (List ℕ)) (n : ℕ) (text : List ℕ) → n < length texts → text ≡ get_or texts n text → slice_get texts n ≡ Some text
-get_here [] n text lt at = absurd (omega arith)
-get_here (x ∷ texts) zero text lt at = ap Some (sym at)
-get_here (x ∷ texts) (suc n) text lt at = get_here texts n text (omega arith) at
-
 pub refused_at : (texts : List (List ℕ)) (n : ℕ) (text : List ℕ) (trees : List Data) (error : SetupError) → n < length texts → text ≡ get_or texts n text → AreTreesOf (take n texts) trees → RefusesText text n error → RefusesBooks texts error
 unfolding HaveTrees
 refused_at texts n text trees (setup_error.Unreadable file error) lt at done h = record {
   text = text;
-  text_is = ap (slice_get texts) h.0 ∙ get_here texts n text lt at;
+  text_is = ap (slice_get texts) h.0 ∙ slice_get_read texts (length texts) n text refl lt at;
   refused = h.1;
   earlier = λ k below. have_first texts n trees done k (subst (λ m. k < m) h.0 below);
 }
@@ -115,75 +100,11 @@ variables_are trees books b e at = go trees (sym (ap (λ (bs : List Book). slice
     go [] h = absurd (cc)
     go (t ∷ trees) h = let same : book t ≡ b = cc in ap (λ (x : Book). x.variables) same
 
--- ---- breaks of shape and of sense
+-- ---- breaks of rules of playbooks
 
--- each of the first trees is well shaped
-pub ShapedBefore : List Data → ℕ → Type 0
-ShapedBefore trees n = (k : ℕ) (t : Data) → k < n → slice_get trees k ≡ Some t → IsWellShaped t
-
-pub shaped_none : (trees : List Data) → ShapedBefore trees 0
-unfolding ShapedBefore
-shaped_none trees k t lt there = absurd (omega (arith, lt))
-
-pub get_mapped : {X Y : Type 0} (f : X → Y) (xs : List X) (i : ℕ) (x : X) → i < length xs → x ≡ get_or xs i x → f x ≡ get_or (map f xs) i (f x)
-get_mapped f [] i x lt at = absurd (omega arith)
-get_mapped f (y ∷ ys) zero x lt at = ap f at
-get_mapped f (y ∷ ys) (suc i) x lt at = get_mapped f ys i x (omega arith) at
-
-same_place : (n k : ℕ) → k < n + 1 → (k < n) ⊎ (k ≡ n)
-same_place n k lt = grind arith
-
-pub shaped_more : (trees : List Data) (n : ℕ) (t : Data) → n < length trees → t ≡ get_or trees n t → ShapedBefore trees n → IsWellShaped t → ShapedBefore trees (n + 1)
-unfolding ShapedBefore
-shaped_more trees n t lt at done one k u below there = go (same_place n k below)
-  where
-    here : (xs : List Data) (n : ℕ) → n < length xs → t ≡ get_or xs n t → slice_get xs n ≡ Some t
-    here [] n lt at = absurd (omega arith)
-    here (x ∷ xs) zero lt at = ap Some (sym at)
-    here (x ∷ xs) (suc n) lt at = here xs n (omega arith) at
-
-    go : (k < n) ⊎ (k ≡ n) → IsWellShaped u
-    go (inl h) = done k u h there
-    go (inr h) = let same : Some t ≡ Some u = sym (here trees n lt at) ∙ sym (ap (slice_get trees) h) ∙ there in let is : t ≡ u = cc in subst IsWellShaped is one
-
-pub shaped_all : (trees : List Data) (n : ℕ) → length trees ≤ n → ShapedBefore trees n → AreWellShaped trees
-unfolding ShapedBefore
-shaped_all trees n over done k = go (slice_get trees k) refl
-  where
-    go : (o : Option Data) → slice_get trees k ≡ o → IfSome o IsWellShaped
-    go None e = tt
-    go (Some t) e = let within : k < length trees = got_within trees k t e in done k t (omega (arith, within, over)) e
-
-pub shape_refused : FirstBreakIs → (trees : List Data) (n : ℕ) (t : Data) (error : BookError) (refusal : SetupError) → n < length trees → t ≡ get_or trees n t → ShapedBefore trees n → RefusesTree t error → RefusesShape n error refusal
-    → RefusesTrees trees refusal
-unfolding ShapedBefore
-shape_refused law trees n t (book_error.Shape step rule) refusal lt at done h is =
-    subst (RefusesTrees trees) (sym is) (record {
-      demand = of_shape n h.0;
-      book = refl;
-      step = h.1.0 ∙ ap (λ (o : Option Data). option_and_then (λ t. key_at t h.0.step) o) (sym (here trees n lt at));
-      rule = h.1.1;
-      least = law.of_shapes trees Run n t h.0 (here trees n lt at) (λ k earlier below there. done k earlier below there) h.2;
-    })
-  where
-    here : (xs : List Data) (n : ℕ) → n < length xs → t ≡ get_or xs n t → slice_get xs n ≡ Some t
-    here [] n lt at = absurd (omega arith)
-    here (x ∷ xs) zero lt at = ap Some (sym at)
-    here (x ∷ xs) (suc n) lt at = here xs n (omega arith) at
-shape_refused law trees n t book_error.Memory refusal lt at done h is = subst (RefusesTrees trees) (sym is) tt
-
-pub sense_refused : FirstBreakIs → (trees : List Data) (books : List Book) (error : CheckError) (refusal : SetupError) → AreWellShaped trees → books ≡ map book trees → RefusesSound books Run error → RefusesSense error refusal
-    → RefusesTrees trees refusal
-sense_refused law trees books (check_error.Broken told) refusal shaped e h is =
-    let k : RefusesSound (map book trees) Run (check_error.Broken told) = subst (λ (bs : List Book). RefusesSound bs Run (check_error.Broken told)) e h in
-    subst (RefusesTrees trees) (sym is) (record {
-      demand = of_sense k.0;
-      book = k.1.book;
-      step = k.1.step;
-      rule = k.1.rule;
-      least = law.of_senses trees Run k.0 shaped k.2;
-    })
-sense_refused law trees books check_error.Memory refusal shaped e h is = subst (RefusesTrees trees) (sym is) tt
+pub rule_refused : (trees : List Data) (error : CheckError) (refusal : SetupError) → RefusesJudged trees Run error → RefusesRule error refusal → RefusesTrees trees refusal
+rule_refused trees (check_error.Broken told) refusal first is = subst (RefusesTrees trees) (sym is) first
+rule_refused trees check_error.Memory refusal first is = subst (RefusesTrees trees) (sym is) tt
 
 -- ---- the rules of bindings
 

@@ -6,8 +6,6 @@ use Rattle.cacao_json.specs.Refusals.{answer}
 use Rattle.cacao_json.specs.declared.error.JsonError.{JsonError}
 use Rattle.cacao_book_shape.specs.Least.{FirstRule}
 use Rattle.cacao_vars.specs.declared.declarations.Var.{Var}
-use Rattle.cacao_book_shape.specs.declared.refusals.BookError.{BookError}
-use Rattle.cacao_book_shape.specs.declared.refusals.BookError.TheVariants as book_error
 use Rattle.cacao_check.specs.declared.breaks.CheckError.{CheckError}
 use Rattle.cacao_check.specs.declared.breaks.CheckError.TheVariants as check_error
 use Rattle.cacao_check.specs.declared.breaks.Break.{Break}
@@ -94,12 +92,7 @@ RefusesBindings vars bindings (setup_error.Broken told) = ⊥
 RefusesBindings vars bindings (setup_error.Bind rule) = IsLeastBindBreak vars bindings rule
 RefusesBindings vars bindings setup_error.Memory = ⊤
 
--- the refusal that a break of shape of the playbook with this number gives, and a break of sense
-abbrev pub RefusesShape : ℕ → BookError → SetupError → Type 0
-RefusesShape book (book_error.Shape step rule) refusal =
-    refusal ≡ setup_error.Broken (record { book = book; step = step; rule = rule })
-RefusesShape book book_error.Memory refusal = refusal ≡ setup_error.Memory
-
-abbrev pub RefusesSense : CheckError → SetupError → Type 0
-RefusesSense (check_error.Broken told) refusal = refusal ≡ setup_error.Broken told
-RefusesSense check_error.Memory refusal = refusal ≡ setup_error.Memory
+-- the refusal that a break of a rule of playbooks gives
+abbrev pub RefusesRule : CheckError → SetupError → Type 0
+RefusesRule (check_error.Broken told) refusal = refusal ≡ setup_error.Broken told
+RefusesRule check_error.Memory refusal = refusal ≡ setup_error.Memory

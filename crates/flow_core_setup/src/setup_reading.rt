@@ -5,15 +5,12 @@ ghost use Rattle.cacao_json.specs.Reading.{tree};
 ghost use Rattle.cacao_text.specs.Canon.{book_text};
 ghost use Rattle.cacao_book.specs.Books.{book};
 ghost use Rattle.cacao_book.specs.Steps.{AreSteps};
-ghost use Rattle.cacao_check.specs.declared.breaks.Mode.TheVariants as mode;
-ghost use Rattle.cacao_check.specs.FirstBreak.{AreWellShaped};
 ghost use Rattle.flow_core_rules.specs.Bindings.{bindings_of, bind_text};
 ghost use Rattle.flow_core_setup.specs.Setups.{IsReadable, AreAccepted};
-ghost use Rattle.flow_core_setup.specs.SetupReading.{AreTreesOf, RefusesText, RefusesBooks, RefusesBindText, RefusesTrees, RefusesShape, RefusesSense};
+ghost use Rattle.flow_core_setup.specs.SetupReading.{AreTreesOf, RefusesText, RefusesBooks, RefusesBindText, RefusesTrees, RefusesRule};
 
 use crate::setup_errors::SetupError;
-use cacao_book::{BookError, read_book};
-use cacao_check::{Books, Break, CheckError, Checked, Mode, check, first_break_is};
+use cacao_check::{CheckError, Checked, Mode, read_books};
 use cacao_json::{JsonError, Pairs, Tree, read_tree};
 use cacao_site::Bytes;
 use cacao_text::{canonical, canonical_book};
@@ -63,40 +60,9 @@ pub(crate) fn read_bindings(alloc: Global, bind: &Bytes, file: u32) -> Result<Tr
     read_text(alloc, bind, file)
 }
 
-// The break of shape of the playbook with this number.
-fn shape_break(book: u32, error: BookError) -> SetupError
-    ensures { RefusesShape book error result }
-{
-    match error {
-        BookError::Shape { step, rule } => SetupError::Broken(Break { book, step, rule }),
-        BookError::Memory => SetupError::Memory,
-    }
-}
-
-// The playbooks of the trees.
-fn read_books(alloc: Global, trees: &[Tree]) -> Result<Books, SetupError>
-    requires { length trees.now ≤ 16 }
-    ensures books { IfOk result (λ books. books ≡ map book (map data_of trees.now)) }
-    ensures shaped { OnOk result (AreWellShaped (map data_of trees.now)) }
-    ensures steps { IfOk result (λ books. All (λ one. AreSteps one.steps) books) }
-    ensures err { IfErr result (RefusesTrees (map data_of trees.now)) }
-{
-    first_break_is();
-    let mut books = Books::new(alloc);
-    for n in 0..trees.len() {
-        let book = match read_book(alloc, &trees[n]) {
-            Ok(book) => book,
-            Err(error) => return Err(shape_break(n as u32, error)),
-        };
-        let _ = book.steps.as_slice();
-        books.push(book)?;
-    }
-    Ok(books)
-}
-
-// The break of sense.
-fn sense_break(error: CheckError) -> SetupError
-    ensures { RefusesSense error result }
+// The break of a rule of playbooks.
+fn rule_break(error: CheckError) -> SetupError
+    ensures { RefusesRule error result }
 {
     match error {
         CheckError::Broken(told) => SetupError::Broken(told),
@@ -109,19 +75,13 @@ pub(crate) fn judge(alloc: Global, trees: &[Tree]) -> Result<Checked, SetupError
     requires some { 1 ≤ length trees.now }
     requires few { length trees.now ≤ 16 }
     ensures books { IfOk result (λ checked. checked.books ≡ map book (map data_of trees.now)) }
-    ensures mode { IfOk result (λ checked. checked.mode ≡ mode.Run) }
     ensures accepted { OnOk result (AreAccepted (map data_of trees.now)) }
     ensures steps { IfOk result (λ checked. All (λ one. AreSteps one.steps) checked.books) }
     ensures err { IfErr result (RefusesTrees (map data_of trees.now)) }
 {
-    let books = match read_books(alloc, trees) {
-        Ok(books) => books,
-        Err(refusal) => return Err(refusal),
-    };
-    first_break_is();
-    match check(alloc, books, Mode::Run) {
+    match read_books(alloc, trees, Mode::Run) {
         Ok(checked) => Ok(checked),
-        Err(error) => Err(sense_break(error)),
+        Err(error) => Err(rule_break(error)),
     }
 }
 

@@ -250,19 +250,6 @@ move_owners l t new o n issue e = subst (λ k. issue.task < k) (sym (set_length 
 
 -- ---- what the calls require
 
--- the task that is told is there, and waits for one that goes on
-pub move_within : (l : Lists) (t : ℕ) (new : Task) (ws : List Wait) → length ws ≡ length l.tasks → IsMove l t new
-    → IfSome (told new.parent new.phase) (λ p. p < length (slice_set ws t blank_wait))
-move_within l t new ws len m = by (told new.parent new.phase) refl
-  where
-    by : (o : Option ℕ) → told new.parent new.phase ≡ o → IfSome o (λ p. p < length (slice_set ws t blank_wait))
-    by None e = tt
-    by (Some p) e =
-        let j : JoinsFor l t p = told_joins l t new p m e in
-        let inside : p < length l.tasks = get_within l.tasks p j.by j.by_is in
-        let g : length (slice_set ws t blank_wait) ≡ length ws = set_length ws t blank_wait in
-        omega arith
-
 pub move_below : (l : Lists) (t : ℕ) (new : Task) (room : ℕ) → IsMove l t new → length l.tasks ≤ room → IfSome (told new.parent new.phase) (λ p. p < room)
 move_below l t new room m le = by (told new.parent new.phase) refl
   where

@@ -6,16 +6,13 @@ use Rattle.flow_core_rules.specs.Edits.Edit.{opens, writes, makes, moves, issues
 use Rattle.flow_core_tables.specs.declared.planned.Planned.{Planned}
 use Rattle.flow_core_tables.specs.declared.tables.Tables.{Tables}
 use Rattle.flow_core_tables.specs.Planned.{edit_of, edits_of, AreDeclared}
-use Rattle.flow_core_tables.specs.Fits.{Fits, AllFit}
+use Rattle.flow_core_tables.specs.Fits.{AllFit}
 use Rattle.flow_core_tables.specs.TableFacts.{HasRoom}
 use Rattle.flow_core_rules.proofs.TaskLemmas.{set_length}
 use Rattle.flow_core_tables.proofs.EntryLemmas.{changed_length}
 
 pub rest_left : (items rest : List Planned) (p : Planned) (n m : ℕ) → items ≡ p ∷ rest → n ≡ length items → m + 1 ≡ n → m ≡ length rest
 rest_left items rest p n m e h one = let k : length items ≡ suc (length rest) = ap length e in omega arith
-
-pub first_fits : (items rest : List Planned) (p : Planned) (s : Lists) → items ≡ p ∷ rest → AllFit s (edits_of items) → Fits s (edit_of p)
-first_fits items rest p s e h = let here : AllFit s (edits_of (p ∷ rest)) = subst (λ l. AllFit s (edits_of l)) e h in here.0
 
 pub rest_fits : (items rest : List Planned) (p : Planned) (s after : Lists) → items ≡ p ∷ rest → AllFit s (edits_of items) → after ≡ shown_edited (edit_of p) s → AllFit after (edits_of rest)
 rest_fits items rest p s after e h step =
@@ -62,9 +59,6 @@ rest_issues items rest p s after most e h step =
     let k : length items ≡ suc (length rest) = ap length e in
     let g : length after.issues ≤ length s.issues + 1 = subst (λ (x : Lists). length x.issues ≤ length s.issues + 1) (sym step) (issues_grow (edit_of p) s) in
     omega arith
-
-pub first_below : (items rest : List Planned) (p : Planned) (n most : ℕ) → items ≡ p ∷ rest → n + length items < most → n < most
-first_below items rest p n most e h = omega arith
 
 pub rest_room : (items rest : List Planned) (p : Planned) (t new : Tables) → items ≡ p ∷ rest → HasRoom (length items) t → ((k : ℕ) → HasRoom (suc k) t → HasRoom k new) → HasRoom (length rest) new
 rest_room items rest p t new e h step = step (length rest) (subst (λ (n : ℕ). HasRoom n t) (ap length e) h)

@@ -1,7 +1,7 @@
 -- Lists that are read one by one, and members that are looked for.
-use Rattle.std.proofs.Common.{◌≡◌, ℕ, ◌+◌, ◌<◌, ◌≤◌, true, false, List, [], ◌∷◌, ◌++◌, length, drop, get_or, map, Option, Some, sym, ap, subst, ◌∙◌, append_assoc, append-nil}
+use Rattle.std.proofs.Common.{◌≡◌, ℕ, ◌+◌, ◌<◌, true, false, List, ◌∷◌, ◌++◌, length, drop, get_or, map, Option, Some, sym, ap, subst, ◌∙◌}
 use Rattle.std.specs.Str.{bytes_eq}
-use Rattle.std.proofs.lemmas.List.{map-append, at_drop_more, drop_all}
+use Rattle.std.proofs.lemmas.List.{at_drop_more}
 use Rattle.std.proofs.lemmas.Slice.Eq.{bytes_eq-Decides}
 use Rattle.serde_json.specs.Data.{Data, Members, member}
 use Rattle.serde_json.specs.Find.{get_member}
@@ -14,15 +14,6 @@ module _ {X Y Z : Type 0} (f : X → Z) (g : Y → Z) (xs : List X) where
   -- what was read, and then what is left
   abbrev pub AreRead : List Y → ℕ → Type 0
   AreRead ys i = map g ys ++ map f (drop i xs) ≡ map f xs
-
-  pub read_more : (old new : List Y) (i : ℕ) (x : X) (y : Y) → i < length xs → x ≡ get_or xs i x → g y ≡ f x → new ≡ old ++ y ∷ [] → AreRead old i → AreRead new (i + 1)
-  read_more old new i x y below at same more w =
-      let left = map f (drop (i + 1) xs) in
-      ap (λ l. map g l ++ left) more ∙ ap (λ l. l ++ left) (map-append g old (y ∷ [])) ∙ append_assoc (map g old) (g y ∷ []) left
-      ∙ ap (λ z. map g old ++ z ∷ left) (same ∙ ap f at) ∙ ap (λ l. map g old ++ l) (sym (at_drop_more (map f) xs i x below)) ∙ w
-
-  pub read_all : (ys : List Y) (i : ℕ) → length xs ≤ i → AreRead ys i → map g ys ≡ map f xs
-  read_all ys i past w = sym (append-nil (map g ys)) ∙ ap (λ l. map g ys ++ map f l) (sym (drop_all i xs past)) ∙ w
 
 -- ---- a member that is looked for
 

@@ -30,13 +30,6 @@ pub get_last : {X : Type 0} (xs : List X) (y : X) → slice_get (xs ++ y ∷ [])
 get_last [] y = refl
 get_last (x ∷ xs) y = get_last xs y
 
--- an element that is not the new one
-pub get_other : {X : Type 0} (xs : List X) (y : X) (k : ℕ) → (k ≡ length xs → ⊥) → slice_get (xs ++ y ∷ []) k ≡ slice_get xs k
-get_other xs y k ne = elim (cases_lt k (length xs)) [
-  | inl lt ↦ get_front xs y k lt
-  | inr ge ↦ slice_get_past (xs ++ y ∷ []) k (omega (arith, ne, length-append xs (y ∷ []))) ∙ sym (slice_get_past xs k ge)
-]
-
 module _ (scopes : List Scope) (new : Scope) (before : HasParentsBefore scopes) (inside : IfSome new.parent (λ p. p < length scopes)) where
   after : List Scope
   after = scopes ++ new ∷ []
@@ -87,11 +80,6 @@ module _ (scopes : List Scope) (new : Scope) (before : HasParentsBefore scopes) 
   stays_below zero k name lt within = absurd (omega arith)
   stays_below (suc n) k name lt within =
       stays_at k name within (λ p less. stays_below n p name (omega arith) (omega arith)) (is_some (declaration scopes k name)) (parent_of scopes k) refl refl (before k)
-
-  -- the homes of the names that the new scope declares, and of the others
-  pub home_own : (name : List ℕ) → is_some (declared new.vars name) ≡ true → home (scopes ++ new ∷ []) (length scopes) name ≡ Some (length scopes)
-  unfolding after
-  home_own name e = home_here after (length scopes) name (ap is_some (new_declaration name) ∙ e)
 
   pub home_around : (name : List ℕ) (p : ℕ) → new.parent ≡ Some p → p < length scopes → is_some (declared new.vars name) ≡ false
       → home (scopes ++ new ∷ []) (length scopes) name ≡ home scopes p name

@@ -1,5 +1,5 @@
 -- What is declared of names and what they are worth, also from a scope that is opened inside another one.
-use Rattle.std.proofs.Common.{◌≡◌, ℕ, ◌<◌, Bool, true, false, cond, List, [], ◌∷◌, ◌++◌, length, Option, Some, None, is_some, refl, sym, ◌∙◌, ap}
+use Rattle.std.proofs.Common.{◌≡◌, ℕ, ◌<◌, Bool, true, false, cond, List, [], ◌∷◌, length, Option, Some, None, is_some, refl, sym, ◌∙◌, ap}
 use Rattle.std.specs.Prelude.{find, slice_get, option_and_then}
 use Rattle.std.specs.Str.{bytes_eq}
 use Rattle.std.proofs.lemmas.Slice.Eq.{bytes_eq-Decides}
@@ -12,7 +12,7 @@ use Rattle.flow_core_rules.specs.Edits.{declared_texts}
 use Rattle.flow_core_values.specs.declared.run.Run.{Run}
 use Rattle.flow_core_values.specs.RunFacts.{IsWell, shown_of, lists_in}
 use Rattle.flow_core_tables.specs.TableFacts.{lists_of}
-use Rattle.flow_core_values.proofs.HomeLemmas.{parents_before, get_last, home_around}
+use Rattle.flow_core_values.proofs.HomeLemmas.{parents_before, home_around}
 
 -- ---- homes, seen from a scope that is opened inside another one
 
@@ -22,10 +22,6 @@ outer_home r vars scope name well lt e =
     home_around r.tables.scopes.items (record { parent = Some scope; vars = vars }) (parents_before (shown_of r) well.sane) lt name scope refl lt e
 
 -- ---- declarations
-
-pub new_declaration : (scopes : List Scope) (new : Scope) (at : ℕ) (name : List ℕ) → at ≡ length scopes → declaration (scopes ++ new ∷ []) at name ≡ declared new.vars name
-new_declaration scopes new at name e =
-    ap (λ (n : ℕ). declaration (scopes ++ new ∷ []) n name) e ∙ ap (λ (o : Option Scope). option_and_then (λ (s : Scope). declared s.vars name) o) (get_last scopes new)
 
 -- ---- texts
 

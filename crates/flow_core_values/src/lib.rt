@@ -17,4 +17,4 @@ pub use flow_core_tables::{
 };
 pub use places::{Place, next_place, place_in};
 pub use reaching::MOST_COMMAND;
-pub use run::{LAST_MOMENT, Run, Sight, Stand};
+pub use run::{Run, Sight, Stand};

@@ -1,8 +1,8 @@
 // Names as they are seen from a scope: where they are declared, and what they are worth.
-ghost use Rattle.std.specs.Prelude.{◌≡◌, ◌<◌, IfSome, Some, is_some, length, slice_get, option_and_then};
+ghost use Rattle.std.specs.Prelude.{◌≡◌, ◌<◌, Some, is_some, length, slice_get, option_and_then};
 ghost use Rattle.std.specs.Option.{option_copied};
-ghost use Rattle.cacao_vars.specs.Declarations.{IsInNameOrder, declared};
-ghost use Rattle.cacao_vars.specs.Scopes.{HasParentsBefore, parent_of, declaration, home, home_declaration};
+ghost use Rattle.cacao_vars.specs.Declarations.{declared};
+ghost use Rattle.cacao_vars.specs.Scopes.{declaration, home, home_declaration};
 ghost use Rattle.cacao_cond.specs.Worths.{worth_of};
 ghost use Rattle.flow_core_rules.specs.State.{value_shown, text_in};
 ghost use Rattle.flow_core_rules.specs.Values.{worth_at};
@@ -13,81 +13,20 @@ ghost use Rattle.flow_core_tables.specs.TableFacts.{lists_of};
 
 use crate::run::{Run, Sight};
 use cacao_cond::{Atom, value_of};
-use cacao_vars::{Name, Scope, Var, Vars, Word};
-
-// The declaration of a name.
-fn declared_in<'a>(vars: &'a [Var], name: &[u8]) -> Option<&'a Var>
-    requires { IsInNameOrder vars.now }
-    ensures { option_copied result ≡ declared vars.now name.now }
-{
-    match vars.binary_search_by(|var| var.name.text().as_bytes().cmp(name)) {
-        Ok(place) => Some(&vars[place]),
-        Err(_) => None,
-    }
-}
-
-// What declarations have of a name.
-fn find_in<'a>(vars: &'a Vars, name: &[u8]) -> Option<&'a Var>
-    ensures { option_copied result ≡ declared vars.now name.now }
-{
-    declared_in(vars.as_slice(), name)
-}
+use cacao_vars::{Name, Var, Vars, Word, home_of};
 
 // Whether a name is declared.
 fn is_declared(vars: &Vars, name: &[u8]) -> bool
     ensures { result ≡ is_some (declared vars.now name.now) }
 {
-    find_in(vars, name).is_some()
-}
-
-// What a scope itself declares of a name.
-fn declaration_in<'a>(scopes: &'a [Scope], scope: u32, name: &[u8]) -> Option<&'a Var>
-    requires { scope < length scopes.now }
-    ensures { option_copied result ≡ declaration scopes.now scope name.now }
-{
-    find_in(&scopes[scope as usize].vars, name)
-}
-
-// Whether a scope itself declares a name.
-fn declares(scopes: &[Scope], scope: u32, name: &[u8]) -> bool
-    requires { scope < length scopes.now }
-    ensures { result ≡ is_some (declaration scopes.now scope name.now) }
-{
-    declaration_in(scopes, scope, name).is_some()
-}
-
-// The scope around a scope.
-fn parent_in(scopes: &[Scope], scope: u32) -> Option<u32>
-    requires { scope < length scopes.now }
-    ensures { result ≡ parent_of scopes.now scope }
-{
-    scopes[scope as usize].parent
-}
-
-// The first scope that declares a name, from this one along the parents.
-fn home_of(scopes: &[Scope], scope: u32, name: &[u8]) -> Option<u32>
-    requires scope { scope < length scopes.now }
-    requires parents { HasParentsBefore scopes.now }
-    ensures home { result ≡ home scopes.now scope name.now }
-    ensures exists { IfSome result (λ at. at < length scopes.now) }
-{
-    let mut at = scope;
-    loop {
-        if declares(scopes, at, name) {
-            return Some(at);
-        }
-        match parent_in(scopes, at) {
-            Some(parent) => at = parent,
-            None => return None,
-        }
-    }
+    vars.find_bytes(name).is_some()
 }
 
 // The text that a name is declared with.
 fn declared_text<'a>(vars: &'a Vars, name: &[u8]) -> Option<&'a Word>
     ensures { option_copied result ≡ text_in (declared_texts vars.now) name.now }
 {
-    match find_in(vars, name) {
+    match vars.find_bytes(name) {
         Some(var) => var.worth.as_ref(),
         None => None,
     }
@@ -132,7 +71,7 @@ impl Run {
         ensures { option_copied result ≡ declaration self.now.tables.scopes.items at name.now }
     {
         match self.tables.scopes.get(at as usize) {
-            Some(scope) => find_in(&scope.vars, name),
+            Some(scope) => scope.vars.find_bytes(name),
             None => None,
         }
     }
@@ -148,7 +87,7 @@ impl Run {
         ensures { option_copied result ≡ declaration (lists_in (lists_of self.now.tables) (Some vars.now) scope).scopes at name.now }
     {
         if at as usize == self.tables.scopes.len() {
-            return find_in(vars, name);
+            return vars.find_bytes(name);
         }
         self.declaration_in_scope(at, name)
     }

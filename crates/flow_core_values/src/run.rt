@@ -12,6 +12,7 @@ use cacao_book::Step;
 use cacao_vars::Vars;
 use flow_core_rules::{Phase, Task};
 use flow_core_tables::{Setup, Tables};
+use run_records::LAST_MOMENT;
 
 /// A run: what it was given, its number, the moment of its last record in milliseconds, and its tables.
 #[derive(Drop)]
@@ -37,9 +38,6 @@ pub struct Sight<'a> {
     pub opening: Option<&'a Vars>,
     pub scope: u32,
 }
-
-/// The last moment of a record, in milliseconds.
-pub const LAST_MOMENT: u64 = 9_000_000_000_000_000;
 
 /// The most scopes of a run; no run of fewer than 100,000,000 records has more.
 const MOST_SCOPES: usize = 200_000_001;

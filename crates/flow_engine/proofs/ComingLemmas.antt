@@ -20,7 +20,7 @@ use Rattle.run_records.specs.Ranges.{IsShort, last_moment, most_text}
 use Rattle.flow_core_rules.specs.declared.issues.Issue.{Issue}
 use Rattle.flow_core_rules.specs.declared.moves.Move.{Move}
 use Rattle.flow_core_rules.specs.declared.moves.Move.TheVariants as move
-use Rattle.flow_core_rules.specs.Changes.{Issuing, change, is_answer, is_final, is_in_time, is_waiting, moment_of, next_command, next_question, outcome, upgrade}
+use Rattle.flow_core_rules.specs.Changes.{Issuing, change, is_answer, is_final, is_in_time, is_waiting, next_command, next_question, outcome, upgrade}
 use Rattle.flow_core_rules.specs.Edits.{Edit}
 use Rattle.flow_core_rules.specs.Edits.Edit.{opens, writes, makes, issues, upgrades}
 use Rattle.flow_core_rules.specs.Givens.{Given}
@@ -36,7 +36,7 @@ use Rattle.flow_engine_history.specs.Views.{AsksText, View, begins, blank_shown,
 use Rattle.flow_engine_history.specs.LimitKind.{LimitKind}
 use Rattle.flow_engine_history.specs.LimitKind.TheVariants as limit
 use Rattle.flow_engine_history.proofs.FlowLemmas.{reached_state}
-use Rattle.flow_engine_history.specs.HistoryCalls.{MayMove, with_record}
+use Rattle.flow_engine_history.specs.HistoryCalls.{MayMove}
 use Rattle.flow_engine_history.specs.HistoryView.{HistoryView, entries_of, flow_of}
 use Rattle.flow_engine_history.specs.Histories.{IsHistory}
 use Rattle.flow_engine_answers.specs.Answers.{IsOperatorAnswer}
@@ -209,11 +209,6 @@ answer_comes runs ends h issue moment it told is there waits upgraded timely goo
 -- a record is in time from the moment of the last one on, up to the last moment
 pub in_time : (s : Shown) (moment : ℕ) → s.moment ≤ moment → moment ≤ last_moment → is_in_time s moment ≡ true
 in_time s moment early late = and_from (nat_le s.moment moment) (nat_le moment last_moment) (le_true s.moment moment early) (le_true moment last_moment late)
-
--- also where that one was added just now, as an Upgrade before a Told
-pub in_time_after : (h : HistoryView) (next : Record) (edits : List Edit) (moment : ℕ) → moment_of next ≤ moment → moment ≤ last_moment
-    → is_in_time (with_record h next edits).seen moment ≡ true
-in_time_after h next edits moment early late = in_time (with_record h next edits).seen moment early late
 
 -- ---- Begin
 

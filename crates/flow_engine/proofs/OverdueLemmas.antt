@@ -1,5 +1,5 @@
 -- Deadlines of issues that were put.
-use Rattle.std.proofs.Common.{◌≡◌, ◌≢◌, ℕ, zero, suc, ◌==◌, ◌≤◌, ◌&&◌, not, Bool, true, false, cond, List, [], ◌∷◌, length, Option, Some, None, IsSome, nat_eq, true≢false, arith, refl, ap, sym, subst, ◌∙◌}
+use Rattle.std.proofs.Common.{◌≡◌, ◌≢◌, ℕ, ◌==◌, ◌≤◌, ◌&&◌, not, Bool, true, false, cond, List, Option, Some, None, IsSome, nat_eq, true≢false, arith, refl, ap, sym, subst, ◌∙◌}
 use Rattle.std.specs.Prelude.{slice_get, option_and_then, option_map, IfSome}
 use Rattle.std.proofs.lemmas.List.Elements.{All-contains}
 use Rattle.std.proofs.lemmas.Map.Views.{Contains-from_lookup}
@@ -92,24 +92,6 @@ one_overdue v moment n are some first =
       ap (is_by moment) (put_deadline_at v n h.0 h.1 h.2) ∙ first.0,
       λ k less. not_overdue v moment k are (first.1 k less),
     )
-
--- an issue that is none of the run's is not put
-pub past_none : (v : EngineView) (moment n : ℕ) → ArePut v.history.seen v.puts → length v.history.seen.lists.issues ≤ n → is_by moment (put_deadline v n) ≡ false
-past_none v moment n are past = by (puts_of v.puts n) refl
-  where
-    no_issue : (is : List Issue) (k : ℕ) (issue : Issue) → slice_get is k ≡ Some issue → length is ≤ k → ⊥
-    no_issue [] k issue e h = no e
-      where
-        no : None ≡ Some issue → ⊥
-        no g = cc
-    no_issue (x ∷ xs) zero issue e h = omega (arith, h)
-    no_issue (x ∷ xs) (suc k) issue e h = no_issue xs k issue e (omega (arith, h))
-
-    by : (o : Option Puts) → puts_of v.puts n ≡ o → is_by moment (put_deadline v n) ≡ false
-    by None is = ap (is_by moment) (put_deadline_none v n is)
-    by (Some puts) is =
-        let put = put_at v.history.seen v.puts n puts are is in
-        absurd (no_issue v.history.seen.lists.issues n put.issue put.there past)
 
 -- an issue that is overdue was put, and its deadline is not after the moment
 pub record IsOverdue (v : EngineView) (moment n : ℕ) : Type 0 where

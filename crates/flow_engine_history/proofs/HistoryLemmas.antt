@@ -81,7 +81,7 @@ module _ {A : Type 0} where
   take_last [] x = refl
   take_last (y ∷ ys) x = ap (λ (l : List A). y ∷ l) (take_last ys x)
 
-last_or : (n m : ℕ) → n < suc m → (n < m) ⊎ (n ≡ m)
+pub last_or : (n m : ℕ) → n < suc m → (n < m) ⊎ (n ≡ m)
 last_or zero zero lt = inr refl
 last_or zero (suc m) lt = inl (omega arith)
 last_or (suc n) zero lt = absurd (omega (arith, lt))
@@ -93,7 +93,8 @@ last_or (suc n) (suc m) lt =
 
 -- ---- stands
 
-shown_before : (given : Given) (run : ℕ) (rs : List Record) (seen : Shown) → seen.given ≡ given → seen.run ≡ run → IsSoFar rs seen → IsShownBefore given run rs seen
+-- what is shown after records is shown before the next one
+pub shown_before : (given : Given) (run : ℕ) (rs : List Record) (seen : Shown) → seen.given ≡ given → seen.run ≡ run → IsSoFar rs seen → IsShownBefore given run rs seen
 shown_before given run [] seen g n h = tt
 shown_before given run (first ∷ others) seen g n h =
     subst (λ (x : Given). IsShownBefore x run (first ∷ others) seen) g (subst (λ (m : ℕ). IsShownBefore seen.given m (first ∷ others) seen) n h)

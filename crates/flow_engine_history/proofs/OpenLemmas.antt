@@ -1,189 +1,30 @@
 -- Records of a file that were not taken.
-use Rattle.std.proofs.Common.{◌≡◌, inl, inr, ℕ, zero, suc, ◌+◌, ◌<◌, ◌≤◌, ◌==◌, ◌&&◌, ◌||◌, Bool, true, false, cond, List, [], ◌∷◌, ◌++◌, map, length, take, drop, Option, Some, None, slice_get, refl, sym, subst, ap, ap₂, ◌∙◌, arith, length-take-le, drop-cons}
-use Rattle.std.specs.Prelude.{count_by, nat_eq, nat_le, nat_lt, option_and_then, option_map, slice_index_or}
-use Rattle.std.specs.List.{list_all, list_any}
-use Rattle.std.specs.Str.{bytes_eq}
-use Rattle.std.specs.Cmp.Lexicographic.{pointwise}
+use Rattle.std.proofs.Common.{◌≡◌, inl, inr, ℕ, zero, suc, ◌+◌, ◌<◌, ◌≤◌, List, [], ◌∷◌, ◌++◌, length, take, drop, Option, Some, None, slice_get, refl, sym, subst, ap, ap₂, ◌∙◌, arith, length-take-le, drop-cons}
+use Rattle.std.specs.Prelude.{slice_index_or}
 use Rattle.std.proofs.lemmas.List.{length-map, take-append-drop, take_more}
-use Rattle.std.proofs.lemmas.List.Recursion.{is_count_by}
-use Rattle.std.proofs.lemmas.Slice.Eq.{bytes_eq-Decides, slice_eq-Decides}
 use Rattle.std.proofs.lemmas.Option.{none-some}
 use Rattle.run_journal.specs.Layout.{front}
 use Rattle.run_journal.proofs.Headers.{count-le}
 use Rattle.run_records.specs.Layout.{layout}
-use Rattle.run_records.specs.Ranges.{BeginsInRange, InRange, last_moment, most_text}
+use Rattle.run_records.specs.Ranges.{BeginsInRange, InRange}
 use Rattle.run_records.specs.Reading.{record_of}
 use Rattle.run_records.specs.declared.record.Record.{Record}
 use Rattle.run_records.specs.declared.record.Record.TheVariants as entry
-use Rattle.flow_core_rules.specs.declared.issues.Issue.{Issue}
-use Rattle.flow_core_rules.specs.declared.issues.IssuePhase.{IssuePhase}
-use Rattle.flow_core_rules.specs.declared.tasks.Task.{Task}
-use Rattle.flow_core_rules.specs.Changes.{change, moment_of}
+use Rattle.flow_core_rules.specs.Changes.{change}
 use Rattle.flow_core_rules.specs.Edits.{Edit}
-use Rattle.flow_core_rules.specs.Edits.Edit.{opens, writes, makes, moves, issues, closes, upgrades}
 use Rattle.flow_core_rules.specs.Givens.{Given}
-use Rattle.flow_core_rules.specs.Runs.{begin_of, first_edits, first_task}
 use Rattle.flow_core_rules.specs.State.{Shown}
 use Rattle.flow_core_rules.proofs.RunLemmas.{some_inner}
-use Rattle.flow_core_rules.proofs.QuietLemmas.{IsQuiet, is_quiet}
-use Rattle.flow_core_rules.proofs.ShapeLemmas.{IssueShape, change_shape, new_issue}
-use Rattle.flow_core.specs.Views.{View, begins, blank_shown, is_long_command, is_makes, most_tasks, passed, taken}
-use Rattle.flow_core.specs.declared.flow_errors.LimitKind.{LimitKind}
-use Rattle.flow_core.specs.declared.flow_errors.LimitKind.TheVariants as limit
-use Rattle.flow_core.proofs.FlowLemmas.{begins_first}
+use Rattle.flow_core.specs.Views.{View, blank_shown, most_tasks, taken}
+pub use Rattle.flow_core.proofs.TakenLemmas.{first_passes_none, limit_is}
 use Rattle.flow_engine_history.specs.Histories.{IsShownAfter, IsSoFar}
-use Rattle.flow_engine_history.specs.Openings.{GoesOnWith, RefusesEntries, first_gate}
+use Rattle.flow_engine_history.specs.Openings.{GoesOnWith, RefusesEntries}
 use Rattle.flow_engine_history.specs.Replays.{CannotFollow, IsBeginOf, IsReplayed, MakesTooMany, RefusesBegin, RefusesFirst, RefusesMoment, RefusesNext, RefusesRecord, RefusesReplay, Stands, TakesEntry}
 use Rattle.flow_engine_history.specs.declared.error.EngineError.{EngineError}
 use Rattle.flow_engine_history.specs.declared.error.EngineError.TheVariants as refused
-use Rattle.flow_engine_history.proofs.ReplayLemmas.{replayed_more, replayed_none, taken_first, taken_later}
-
-clash : (b : Bool) → b ≡ true → b ≡ false → ⊥
-clash true x y = cc
-clash false x y = cc
-
--- ---- commands are short
-
-quiet_short : (es : List Edit) → IsQuiet es → list_any is_long_command es ≡ false
-quiet_short [] q = refl
-quiet_short (opens parent vars ∷ es) q = quiet_short es q
-quiet_short (writes scope name text ∷ es) q = quiet_short es q
-quiet_short (makes task ∷ es) q = quiet_short es q
-quiet_short (moves t task ∷ es) q = quiet_short es q
-quiet_short (issues issue ∷ es) q = absurd (clash false q refl)
-quiet_short (closes i end ∷ es) q = absurd (clash false q refl)
-quiet_short (upgrades ∷ es) q = absurd (clash false q refl)
-
-short_lt : (n : ℕ) → n ≤ most_text → nat_lt most_text n ≡ false
-short_lt n le = grind arith
-
-issued_short : (es rest : List Edit) (issue : Issue) → es ≡ issues issue ∷ rest → IsQuiet rest → length issue.bytes ≤ most_text → list_any is_long_command es ≡ false
-issued_short es rest issue e q le =
-    ap (λ (l : List Edit). list_any is_long_command l) e ∙ ap (λ b. b || list_any is_long_command rest) (short_lt (length issue.bytes) le) ∙ quiet_short rest q
-
-closed_short : (es rest : List Edit) (n : ℕ) (end : IssuePhase) → es ≡ closes n end ∷ rest → IsQuiet rest → list_any is_long_command es ≡ false
-closed_short es rest n end e q = ap (λ (l : List Edit). list_any is_long_command l) e ∙ quiet_short rest q
-
-shape_short : (s : Shown) (r : Record) (es : List Edit) → InRange r → IssueShape s r es → list_any is_long_command es ≡ false
-shape_short s (entry.Begin run moment books bind) es i h = absurd h
-shape_short s (entry.Walk task moment) es i h = quiet_short es h
-shape_short s (entry.Send task issue agent moment bytes) es i h =
-    issued_short es h.issued.rest (new_issue task agent moment bytes) h.issued.edits_are h.issued.quiet i.short_bytes
-shape_short s (entry.Reply issue moment status rule text) es i h = closed_short es h.rest issue _ h.edits_are h.quiet
-shape_short s (entry.Expire issue moment) es i h = closed_short es h.rest issue _ h.edits_are h.quiet
-shape_short s (entry.Upgrade version moment) es i h = ap (λ (l : List Edit). list_any is_long_command l) h
-shape_short s (entry.Ask task issue moment bytes) es i h =
-    issued_short es h.rest (new_issue task 0 moment bytes) h.edits_are h.quiet i.short_text
-shape_short s (entry.Told issue moment status text) es i h = closed_short es h.rest issue _ h.edits_are h.quiet
-
--- ---- the edits of a Begin
-
-bound_quiet : (bound : List (List ℕ × List ℕ)) (task : Task) → IsQuiet (map (λ b. writes 0 b.0 b.1) bound ++ makes task ∷ [])
-bound_quiet [] task = refl
-bound_quiet (b ∷ bound) task = bound_quiet bound task
-
-abbrev makes_in : List Edit → ℕ
-makes_in [] = 0
-makes_in (e ∷ es) = cond (is_makes e) (1 + makes_in es) (makes_in es)
-
-bound_makes : (bound : List (List ℕ × List ℕ)) (task : Task) → makes_in (map (λ b. writes 0 b.0 b.1) bound ++ makes task ∷ []) ≡ 1
-bound_makes [] task = refl
-bound_makes (b ∷ bound) task = bound_makes bound task
-
-record OfFirst (edits : List Edit) : Type 0 where
-  quiet : IsQuiet edits
-  one : count_by is_makes edits ≡ 1
-
-of_parts : (e : Edit) (bound : List (List ℕ × List ℕ)) (task : Task) → is_quiet e ≡ true → is_makes e ≡ false
-    → OfFirst (e ∷ (map (λ b. writes 0 b.0 b.1) bound ++ makes task ∷ []))
-of_parts e bound task q m =
-    let rest : List Edit = map (λ b. writes 0 b.0 b.1) bound ++ makes task ∷ [] in
-    record {
-      quiet = ap (λ b. b && list_all is_quiet rest) q ∙ bound_quiet bound task;
-      one = sym (is_count_by makes_in is_makes refl (λ x xs. refl) (e ∷ rest)) ∙ ap (λ b. cond b (1 + makes_in rest) (makes_in rest)) m ∙ bound_makes bound task;
-    }
-
-of_first : {A : Type 0} (o : Option A) (f : A → List Edit) (edits : List Edit) → ((x : A) → OfFirst (f x)) → option_map f o ≡ Some edits → OfFirst edits
-of_first None f edits each e = absurd (none-some edits e)
-of_first (Some x) f edits each e = subst OfFirst (some_inner (f x) edits e) (each x)
-
-begin_edits : (v : View) (r : Record) (edits : List Edit) → v.count ≡ 0 → taken v r ≡ Some edits → OfFirst edits
-begin_edits v r edits c e =
-    of_first (slice_get v.seen.given.books 0)
-    (λ book. opens None book.variables ∷ (map (λ b. writes 0 b.0 b.1) v.seen.given.variables ++ makes (first_task v.seen.given (moment_of r) book) ∷ [])) edits
-    (λ book. of_parts (opens None book.variables) v.seen.given.variables (first_task v.seen.given (moment_of r) book) refl refl)
-    (begins_first v.seen r edits (taken_first v r (Some edits) c e)).1
-
--- ---- limits
-
-short_at : (n : ℕ) (v : View) (r : Record) (edits : List Edit) → v.count ≡ n → InRange r → taken v r ≡ Some edits → list_any is_long_command edits ≡ false
-short_at zero v r edits c i e = quiet_short edits (begin_edits v r edits c e).quiet
-short_at (suc n) v r edits c i e = shape_short v.seen r edits i (change_shape v.seen r edits (taken_later v r (Some edits) n c e))
-
-lt_true : (a b : ℕ) → nat_lt a b ≡ true → a < b
-lt_true a b h = grind arith
-
-limit_of_test : (v : View) (r : Record) (edits : List Edit) (what : LimitKind) (many long : Bool) → nat_lt most_tasks (length v.seen.lists.tasks + count_by is_makes edits) ≡ many
-    → long ≡ false → taken v r ≡ Some edits → cond many (Some limit.Tasks) (cond long (Some limit.Command) None) ≡ Some what → (what ≡ limit.Tasks) × MakesTooMany v r
-limit_of_test v r edits what true long m l e h =
-    (sym (some_inner limit.Tasks what h), record { edits = edits; takes = e; many = lt_true most_tasks (length v.seen.lists.tasks + count_by is_makes edits) m })
-limit_of_test v r edits what false true m l e h = absurd (clash true refl l)
-limit_of_test v r edits what false false m l e h = absurd (none-some what h)
-
-limit_by : (v : View) (r : Record) (what : LimitKind) (o : Option (List Edit)) → InRange r → taken v r ≡ o → option_and_then (passed v.seen) o ≡ Some what
-    → (what ≡ limit.Tasks) × MakesTooMany v r
-limit_by v r what None i e h = absurd (none-some what h)
-limit_by v r what (Some edits) i e h =
-    limit_of_test v r edits what (nat_lt most_tasks (length v.seen.lists.tasks + count_by is_makes edits)) (list_any is_long_command edits) refl
-    (short_at v.count v r edits refl i e) e h
-
--- a record in range passes no limit but that on tasks
-pub limit_is : (v : View) (r : Record) (what : LimitKind) → InRange r → option_and_then (passed v.seen) (taken v r) ≡ Some what → (what ≡ limit.Tasks) × MakesTooMany v r
-limit_is v r what i h = limit_by v r what (taken v r) i refl h
-
--- and the first one passes none
-pub first_passes_none : (v : View) (r : Record) (given : Given) (run : ℕ) → v.count ≡ 0 → v.seen ≡ blank_shown given run → MakesTooMany v r → ⊥
-first_passes_none v r given run c blank m =
-    let one : count_by is_makes m.edits ≡ 1 = (begin_edits v r m.edits c m.takes).one in
-    let none : length v.seen.lists.tasks ≡ 0 = ap (λ (x : Shown). length x.lists.tasks) blank in
-    let many : most_tasks < length v.seen.lists.tasks + count_by is_makes m.edits = m.many in
-    omega (arith, many, one, none)
+use Rattle.flow_engine_history.proofs.ReplayLemmas.{replayed_more, replayed_none, taken_later}
 
 -- ---- the first record
-
-le_true : (a b : ℕ) → nat_le a b ≡ false → b < a
-le_true a b h = grind arith
-
-number_same : (n : ℕ) → (n == n) ≡ true
-number_same n = grind arith
-
-some_first : {A : Type 0} (xs : List A) (f : A → List Edit) → 1 ≤ length xs → option_map f (slice_get xs 0) ≡ None → ⊥
-some_first [] f some h = omega (arith, some)
-some_first (x ∷ xs) f some h = none-some (f x) (sym h)
-
-begins_by : (given : Given) (moment : ℕ) (a b d f : Bool) → b ≡ true → d ≡ true → f ≡ true → nat_le moment last_moment ≡ a → 1 ≤ length given.books
-    → cond (a && b && d && f) (first_edits given moment) None ≡ None → last_moment < moment
-begins_by given moment false b d f p q r m some h = le_true moment last_moment m
-begins_by given moment true true true true p q r m some h =
-    absurd (some_first given.books (λ book. opens None book.variables ∷ (map (λ b. writes 0 b.0 b.1) given.variables ++ makes (first_task given moment book) ∷ [])) some h)
-begins_by given moment true false d f p q r m some h = absurd (clash false p refl)
-begins_by given moment true true false f p q r m some h = absurd (clash false q refl)
-begins_by given moment true true true false p q r m some h = absurd (clash false r refl)
-
-begin_late : (s : Shown) (moment : ℕ) → 1 ≤ length s.given.books → begins s (begin_of s.given s.run moment) ≡ None → last_moment < moment
-begin_late s moment some h =
-    let given : Given = s.given in
-    begins_by given moment (nat_le moment last_moment) (s.run == s.run) (pointwise (pointwise nat_eq) given.texts given.texts) (bytes_eq given.bind given.bind)
-    (number_same s.run) ((slice_eq-Decides (λ (x y : List ℕ). bytes_eq-Decides x y) given.texts given.texts (pointwise (pointwise nat_eq) given.texts given.texts) refl).1 refl)
-    ((bytes_eq-Decides given.bind given.bind).1 refl) refl some h
-
--- a Begin of this run that is not taken comes too late
-pub first_late : (v : View) (r : Record) (given : Given) (run : ℕ) → v.count ≡ 0 → v.seen ≡ blank_shown given run → IsBeginOf given run r → 1 ≤ length given.books
-    → taken v r ≡ None → last_moment < moment_of r
-first_late v r given run c blank b some e =
-    let first : begins v.seen r ≡ None = taken_first v r None c e in
-    let named : begins (blank_shown given run) (begin_of given run b.moment) ≡ None = ap₂ (λ (s : Shown) (q : Record). begins s q) (sym blank) (sym b.is) ∙ first in
-    subst (λ (q : Record). last_moment < moment_of q) (sym b.is) (begin_late (blank_shown given run) b.moment some named)
 
 -- why the Begin of this run is not taken
 pub first_refused : (v : View) (r : Record) (given : Given) (run : ℕ) (error : EngineError) → v.count ≡ 0 → v.seen ≡ blank_shown given run → RefusesRecord v r error → RefusesMoment r error
@@ -216,10 +57,6 @@ refused_begin given run item r (refused.Limit what) e h = absurd h
 refused_begin given run item r refused.Disk e h = absurd h
 refused_begin given run item r refused.Broken e h = absurd h
 refused_begin given run item r refused.Memory e h = absurd h
-
-pub refused_none : (given : Given) (run : ℕ) (item : List ℕ) → None ≡ record_of item → RefusesFirst given run item (refused.Damaged first_gate)
-refused_none given run item e = λ others.
-    inl (record { first = item; others = others; are = refl; no_begin = λ held moment books bind g. none-some (entry.Begin held moment books bind) (e ∙ g) }, refl)
 
 pub refused_first : (given : Given) (run : ℕ) (item : List ℕ) (others items : List (List ℕ)) (error : EngineError) → items ≡ item ∷ others → RefusesFirst given run item error
     → RefusesReplay given run items error
@@ -339,7 +176,3 @@ pub replayed_by_seen : (given : Given) (run : ℕ) (items : List (List ℕ)) (w 
     → IsReplayed w.seen.given w.seen.run items w more
 replayed_by_seen given run items w more h =
     subst (λ (k : ℕ). IsReplayed w.seen.given k items w more) (sym h.run_is) (subst (λ (g : Given). IsReplayed g run items w more) (sym h.given_is) h)
-
-pub refused_as : (given g : Given) (run k : ℕ) (items : List (List ℕ)) (error : EngineError) → g ≡ given → k ≡ run → RefusesReplay g k items error → RefusesReplay given run items error
-refused_as given g run k items error p q h =
-    subst (λ (n : ℕ). RefusesReplay given n items error) q (subst (λ (x : Given). RefusesReplay x k items error) p h)

@@ -24,7 +24,8 @@ use Rattle.flow_core_rules.proofs.RunLemmas.{list_heads, run_one, some_inner}
 use Rattle.flow_core.specs.Views.{is_makes, most_tasks}
 use Rattle.flow_core.specs.declared.flow_errors.LimitKind.{LimitKind}
 use Rattle.flow_core.specs.declared.flow_errors.LimitKind.TheVariants as limit
-use Rattle.flow_core.proofs.FlowLemmas.{tasks_grow}
+use Rattle.flow_core.proofs.FrontLemmas.{Halves, halves, next_tasks, tasks_on}
+use Rattle.flow_core.proofs.ReachedLemmas.{leads_placed}
 use Rattle.flow_engine_history.specs.Books.{DiffersAt, IsFirstOther}
 use Rattle.flow_engine_history.specs.HistoryView.{entries_of}
 use Rattle.flow_engine_history.specs.Histories.{IsShownAfter, IsSoFar}
@@ -32,7 +33,6 @@ use Rattle.flow_engine_history.specs.Laws.{NoRunWhereRefused, OneRefusal}
 use Rattle.flow_engine_history.specs.Openings.{BeginsWith, BreaksOff, GoesOnWith, Overgrows, RefusesEntries, first_gate}
 use Rattle.flow_engine_history.specs.declared.error.EngineError.{EngineError}
 use Rattle.flow_engine_history.specs.declared.error.EngineError.TheVariants as refused
-use Rattle.flow_engine_history.proofs.SoFarLemmas.{leads_placed}
 
 -- ---- the records of a run, cut in two
 
@@ -61,34 +61,6 @@ split (a ∷ records) (b ∷ before) item rest p q e =
       is = ap₂ (λ (x : Record) (l : List Record). x ∷ l) (same_record a b p.0 q.0 parts.0) inner.is;
       reads = inner.reads;
     }
-
-record Cut (s : State) (xs ys : List Record) (new : State) : Type 0 where
-  mid : State
-  before : GoesOn s xs mid
-  behind : GoesOn mid ys new
-
-cut : (xs ys : List Record) (s new : State) → GoesOn s (xs ++ ys) new → Cut s xs ys new
-cut [] ys s new g = record { mid = s; before = refl; behind = g }
-cut (x ∷ xs) ys s new g =
-    let rest : Cut g.0 xs ys new = cut xs ys g.0 new g.2 in
-    record { mid = rest.mid; before = (g.0, g.1, rest.before); behind = rest.behind }
-
--- ---- tasks become no fewer
-
-next_tasks : (s new : State) (r : Record) → HasPlacedWrites s → (n : Next s r new) → length new.tasks ≡ length s.tasks + count_by is_makes n.edits
-next_tasks s new r placed n =
-    let alone : IsShownAlone s r new = records_shown s new r placed n in
-    let same : alone.edits ≡ n.edits = some_inner alone.edits n.edits (sym alone.edits_are ∙ n.change_is) in
-    ap (λ (x : Shown). length x.lists.tasks) alone.shown_is ∙ tasks_grow alone.edits (shown s).lists ∙ ap (λ (es : List Edit). length s.tasks + count_by is_makes es) same
-
-tasks_on : (rs : List Record) (s new : State) → HasPlacedWrites s → GoesOn s rs new → length s.tasks ≤ length new.tasks
-tasks_on [] s new placed g = let e : length s.tasks ≡ length new.tasks = ap (λ (x : State). length x.tasks) g in omega arith
-tasks_on (r ∷ rs) s new placed g =
-    let n : Next s r g.0 = g.1 in
-    let alone : IsShownAlone s r g.0 = records_shown s g.0 r placed n in
-    let one : length (g.0).tasks ≡ length s.tasks + count_by is_makes n.edits = next_tasks s g.0 r placed n in
-    let rest : length (g.0).tasks ≤ length new.tasks = tasks_on rs g.0 new alone.placed g.2 in
-    omega arith
 
 -- ---- a longer run of the same entries
 
@@ -126,7 +98,7 @@ next_in given run records before seen earlier item rest p q long short e =
     let whole : begin_of given run l.now ∷ l.others ≡ begin_of given run k.now ∷ (k.others ++ s.r ∷ s.back) =
     sym l.records_are ∙ s.is ∙ ap (λ (x : List Record). x ++ s.r ∷ s.back) k.records_are in
     let parts = list_heads (begin_of given run l.now) (begin_of given run k.now) l.others (k.others ++ s.r ∷ s.back) whole in
-    let c : Cut l.first k.others (s.r ∷ s.back) long.state = cut k.others (s.r ∷ s.back) l.first long.state (subst (λ (x : List Record). GoesOn l.first x long.state) parts.1 l.goes_on) in
+    let c : Halves l.first k.others (s.r ∷ s.back) long.state = halves k.others (s.r ∷ s.back) l.first long.state (subst (λ (x : List Record). GoesOn l.first x long.state) parts.1 l.goes_on) in
     let there : Leads given run before c.mid = record {
       now = l.now;
       others = k.others;
@@ -134,9 +106,9 @@ next_in given run records before seen earlier item rest p q long short e =
       in_time = l.in_time;
       records_are = k.records_are ∙ ap (λ (x : Record). x ∷ k.others) (sym parts.0);
       begins = l.begins;
-      goes_on = c.before;
+      goes_on = c.first;
     } in
-    let g = c.behind in
+    let g = c.rest in
     next_on earlier seen item short.state c.mid g.0 long.state s.r s.back (leads_placed given run before c.mid there) short.is (run_one given run before c.mid short.state there k) long.is g.1 g.2 s.reads
 
 -- an entry whose record may not come next

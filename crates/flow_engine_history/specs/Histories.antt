@@ -8,22 +8,10 @@ use Rattle.run_records.specs.declared.record.Record.{Record}
 use Rattle.flow_core_rules.specs.Accepted.{Accepted}
 use Rattle.flow_core_rules.specs.Givens.{Given}
 use Rattle.flow_core_rules.specs.Lines.{record_line}
-use Rattle.flow_core_rules.specs.Runs.{Leads}
-use Rattle.flow_core_rules.specs.State.{State, Shown, shown}
+use Rattle.flow_core_rules.specs.State.{Shown}
 use Rattle.flow_core.specs.Setups.{AreAccepted}
-use Rattle.flow_core.specs.Views.{blank_shown}
+pub use Rattle.flow_core.specs.TakenRecords.{IsShownAfter, IsSoFar}
 use Rattle.flow_engine_history.specs.HistoryView.{HistoryView, entries_of}
-
--- the records lead by what was given to a state, which shows this
-pub record IsShownAfter (given : Given) (run : ℕ) (records : List Record) (seen : Shown) : Type 0 where
-  pub state : State
-  pub leads : Leads given run records state
-  pub is : seen ≡ shown state
-
--- what is shown after the records of a run so far; nothing is before its Begin
-abbrev pub IsSoFar : List Record → Shown → Type 0
-IsSoFar [] seen = seen ≡ blank_shown seen.given seen.run
-IsSoFar (first ∷ others) seen = IsShownAfter seen.given seen.run (first ∷ others) seen
 
 -- What holds of each history.
 pub record IsHistory (h : HistoryView) : Type 0 where

@@ -1,5 +1,5 @@
 -- Scaffold: How an opening takes the entries of a file one after another.
-use Rattle.std.specs.Prelude.{◌≡◌, ◌≢◌, ℕ, ◌+◌, ◌<◌, List, [], ◌∷◌, ◌++◌, length, count_by, Option, Some, None, ⊤}
+use Rattle.std.specs.Prelude.{◌≡◌, ◌≢◌, ℕ, ◌<◌, List, [], ◌∷◌, ◌++◌, length, Option, Some, None, ⊤}
 use Rattle.std.specs.List.{AllByRecursion}
 use Rattle.run_records.specs.Layout.{layout}
 use Rattle.run_records.specs.Ranges.{InRange, last_moment}
@@ -7,10 +7,11 @@ use Rattle.run_records.specs.Reading.{record_of}
 use Rattle.run_records.specs.declared.record.Record.{Record}
 use Rattle.run_records.specs.declared.record.Record.TheVariants as entry
 use Rattle.flow_core_rules.specs.Changes.{moment_of}
-use Rattle.flow_core_rules.specs.Edits.{Edit}
 use Rattle.flow_core_rules.specs.Givens.{Given}
 use Rattle.flow_core_rules.specs.Runs.{begin_of}
-use Rattle.flow_core.specs.Views.{View, is_makes, most_tasks, stepped, taken}
+use Rattle.flow_core.specs.TakenRecords.{Took}
+pub use Rattle.flow_core.specs.TakenRecords.{MakesTooMany}
+use Rattle.flow_core.specs.Views.{View, taken}
 use Rattle.flow_core.specs.declared.flow_errors.LimitKind.TheVariants as limit
 use Rattle.flow_engine_history.specs.Books.{DiffersAt}
 use Rattle.flow_engine_history.specs.HistoryView.{entries_of}
@@ -38,9 +39,7 @@ pub record IsReplayed (given : Given) (run : ℕ) (items : List (List ℕ)) (flo
 
 -- a record was taken
 pub record TakesRecord (old : View) (kept : Stands) (r : Record) (new : View) (more : Stands) : Type 0 where
-  pub edits : List Edit
-  pub takes : taken old r ≡ Some edits
-  pub new_is : new ≡ stepped (moment_of r, edits) old
+  pub took : Took old r new
   pub more_is : more ≡ kept ++ stand_before old.seen r ∷ []
 
 -- the record of an entry was taken
@@ -55,12 +54,6 @@ pub record TakesEntry (old : View) (kept : Stands) (item : List ℕ) (new : View
 -- the entry is no record, or its record may not come next
 abbrev pub CannotFollow : View → List ℕ → Type 0
 CannotFollow flow item = (r : Record) → record_of item ≡ Some r → taken flow r ≡ None
-
--- a record may come next, and would make more than 1,000,000 tasks
-pub record MakesTooMany (flow : View) (r : Record) : Type 0 where
-  pub edits : List Edit
-  pub takes : taken flow r ≡ Some edits
-  pub many : most_tasks < length flow.seen.lists.tasks + count_by is_makes edits
 
 -- why a record was not taken that may come next
 abbrev pub RefusesRecord : View → Record → EngineError → Type 0

@@ -13,3 +13,4 @@ pub use flow_core::{Flow, LimitKind, Setup, accepted_is_runnable};
 pub use flow_core_rules::Move;
 pub use history::History;
 pub use laws::opening_law;
+pub use opening::FIRST_GATE;

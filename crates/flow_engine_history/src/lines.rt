@@ -3,44 +3,19 @@ ghost use Rattle.std.specs.Prelude.{◌≡◌, ◌∷◌, ◌++◌, ◌<◌, [],
 ghost use Rattle.run_records.specs.Ranges.{InRange};
 ghost use Rattle.cacao_text.specs.Canon.{string_text};
 ghost use Rattle.std.specs.Prelude.{IsUtf8};
-ghost use Rattle.flow_core_rules.specs.Changes.{moment_of};
 ghost use Rattle.flow_core_rules.specs.Lines.{line, record_line, said};
 ghost use Rattle.flow_core_rules.specs.State.{Shown};
 ghost use Rattle.flow_engine_history.specs.Histories.{IsLineAt};
 ghost use Rattle.flow_engine_history.specs.LineParts.{IsKeyAt, IsKeyFor, key_at};
 
 use crate::history::{History, Stand};
+use base_lines::{add, add_decimal, add_number, add_word};
 use cacao_site::Bytes;
 use cacao_text::canonical_string;
-use flow_core::Setup;
-use itoa::Buffer;
+use flow_core::{Setup, moment_of};
 use run_records::{Record, read_record};
 use std::alloc::{AllocError, Global};
 use std::str::from_utf8;
-
-/// Adds a text.
-fn add(out: &mut Vec<u8>, text: &[u8]) -> Result<(), AllocError>
-    ensures { OnOk result (out.new.items ≡ out.old.items ++ text.now) }
-{
-    out.extend_from_slice(text)?;
-    Ok(())
-}
-
-/// Adds a word behind a space.
-fn add_word(out: &mut Vec<u8>, word: &[u8]) -> Result<(), AllocError>
-    ensures { OnOk result (out.new.items ≡ out.old.items ++ 32 ∷ word.now) }
-{
-    add(out, b" ")?;
-    add(out, word)
-}
-
-/// Adds a number in decimal behind a space.
-fn add_number(out: &mut Vec<u8>, number: u64) -> Result<(), AllocError>
-    ensures { OnOk result (out.new.items ≡ out.old.items ++ 32 ∷ decimal number) }
-{
-    let mut buffer = Buffer::new();
-    add_word(out, buffer.format(number).as_bytes())
-}
 
 /// Ends the line.
 fn end(out: &mut Vec<u8>) -> Result<(), AllocError>
@@ -128,28 +103,11 @@ fn add_said(alloc: Global, out: &mut Vec<u8>, item: &Record, key: &str) -> Resul
     }
 }
 
-/// The moment of a record, in milliseconds.
-fn moment_of(item: &Record) -> u64
-    ensures { result ≡ moment_of item.now }
-{
-    match item {
-        Record::Begin { moment, .. } => *moment,
-        Record::Walk { moment, .. } => *moment,
-        Record::Send { moment, .. } => *moment,
-        Record::Reply { moment, .. } => *moment,
-        Record::Expire { moment, .. } => *moment,
-        Record::Upgrade { moment, .. } => *moment,
-        Record::Ask { moment, .. } => *moment,
-        Record::Told { moment, .. } => *moment,
-    }
-}
-
 /// Adds the number and the moment of a record.
 fn add_head(out: &mut Vec<u8>, n: u32, moment: u64) -> Result<(), AllocError>
     ensures { OnOk result (out.new.items ≡ out.old.items ++ (decimal n ++ 32 ∷ decimal moment)) }
 {
-    let mut buffer = Buffer::new();
-    add(out, buffer.format(n).as_bytes())?;
+    add_decimal(out, n as u64)?;
     add_number(out, moment)
 }
 

@@ -3,7 +3,7 @@ ghost use Rattle.std.specs.Prelude.{◌≡◌, ◌≢◌, ◌+◌, ◌/◌, ◌<
 ghost use Rattle.std.specs.Option.{option_copied};
 ghost use Rattle.cacao_site.specs.DiskCalls.{IsDurable, IsLeft, OnlyFile};
 ghost use Rattle.run_records.specs.Ranges.{InRange};
-ghost use Rattle.flow_core.specs.Views.{IsReadyFor, blank_shown, taken};
+ghost use Rattle.flow_core.specs.Views.{blank_shown, taken};
 ghost use Rattle.flow_engine_history.specs.Books.{IsFirstOther};
 ghost use Rattle.flow_engine_history.specs.HistoryView.{HoldsRecords, IsReady, entries_of};
 ghost use Rattle.flow_engine_history.specs.Openings.{IsRefusedOpening};
@@ -13,13 +13,13 @@ use crate::appending::stand_for;
 use crate::error::EngineError;
 use crate::history::{History, Stand};
 use cacao_site::{Bytes, Disk};
-use flow_core::{Flow, FlowError, Setup, setup_law};
+use flow_core::{Flow, FlowError, LimitKind, Setup, setup_law};
 use run_journal::Journal;
 use run_records::{BytesList, Record, read_record};
 use std::alloc::Global;
 
-/// The place of the gate of the first entry, in bytes.
-const FIRST_GATE: u64 = 8;
+/// The place of the gate of the first entry of a file, in bytes.
+pub const FIRST_GATE: u64 = 8;
 
 impl History {
     /// Opens file 0 for the run of that number of what is given: it syncs, reads the entries in one pass, and takes their records
@@ -214,33 +214,19 @@ fn take_record(
     ensures refused { IfErr result (RefusesRecord flow.old item.now) }
 {
     let stand = stand_for(flow, item);
-    match make_ready(flow, item) {
-        Ok(true) => {}
-        Ok(false) => return Ok(false),
-        Err(error) => return Err(error),
+    match flow.take(item) {
+        Ok(()) => {}
+        Err(FlowError::NotEnabled) => return Ok(false),
+        Err(FlowError::Limit { .. }) => {
+            return Err(EngineError::Limit {
+                what: LimitKind::Tasks,
+            });
+        }
+        Err(FlowError::Memory) => return Err(EngineError::Memory),
     }
-    if stands.push(stand).is_err() {
-        return Err(EngineError::Memory);
-    }
-    flow.apply(item);
-    Ok(true)
-}
-
-/// Takes the memory for a record; false where it may not come next.
-fn make_ready(flow: &mut Flow, item: &Record) -> Result<bool, EngineError>
-    requires few { flow.old.count < 100_000_000 }
-    requires in_range { InRange item.now }
-    ensures ready { result ≡ Ok true → IsReadyFor flow.new item.now }
-    ensures count { flow.new.count ≡ flow.old.count }
-    ensures seen { flow.new.seen ≡ flow.old.seen }
-    ensures bad { result ≡ Ok false → taken flow.old item.now ≡ None }
-    ensures refused { IfErr result (RefusesRecord flow.old item.now) }
-{
-    match flow.ready(item) {
+    match stands.push(stand) {
         Ok(()) => Ok(true),
-        Err(FlowError::NotEnabled) => Ok(false),
-        Err(FlowError::Limit { what }) => Err(EngineError::Limit { what }),
-        Err(FlowError::Memory) => Err(EngineError::Memory),
+        Err(_) => Err(EngineError::Memory),
     }
 }
 

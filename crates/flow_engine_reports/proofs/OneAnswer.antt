@@ -1,10 +1,9 @@
 -- The bytes of the engine's file have one answer.
-use Rattle.std.proofs.Common.{◌≡◌, inl, inr, refl, ap, subst, ℕ, List, [], ◌∷◌}
+use Rattle.std.proofs.Common.{◌≡◌, inl, inr, refl, subst, ℕ, List, [], ◌∷◌}
 use Rattle.run_journal.specs.Layout.{Stands}
 use Rattle.run_journal.proofs.LayoutLaws.{no_list_where_damaged, one_list}
 use Rattle.run_records.specs.declared.record.Record.{Record}
 use Rattle.flow_core_rules.specs.Givens.{Given}
-use Rattle.flow_core_rules.specs.Runs.{begin_of}
 use Rattle.flow_core_rules.specs.State.{Shown}
 use Rattle.flow_core.specs.declared.flow_errors.LimitKind.TheVariants as limit
 use Rattle.flow_engine_history.specs.HistoryView.{entries_of}
@@ -16,18 +15,9 @@ use Rattle.flow_engine_history.specs.declared.error.EngineError.TheVariants as r
 use Rattle.flow_engine_history.proofs.RefusalLaws.{no_run_where_refused, one_refusal}
 use Rattle.flow_engine_reports.specs.RunFiles.{Begins, BeginsOtherwise, BreaksOff, IsBegin, IsDamaged, IsTooLarge, Overgrows, TellsRun}
 use Rattle.flow_engine_reports.specs.RunLines.{HoldsReport, Reports}
-use Rattle.flow_engine_reports.proofs.AcceptLemmas.{accepted-one}
-use Rattle.flow_engine_reports.proofs.BeginLemmas.{held, run_in, same-begin}
+use Rattle.flow_engine_reports.proofs.BeginLemmas.{SameRun, one-begin}
 
 -- ---- one Begin
-
-abbrev SameRun : Given → Given → ℕ → ℕ → Type 0
-SameRun g h k n = (g ≡ h) × (k ≡ n)
-
-one-begin : (entry : List ℕ) (g h : Given) (k n : ℕ) → IsBegin entry g k → IsBegin entry h n → SameRun g h k n
-one-begin entry g h k n a b =
-    let same : begin_of g k a.moment ≡ begin_of h n b.moment = same-begin entry (begin_of g k a.moment) h n a.reads b in
-    (accepted-one g.texts g.bind g h a.accepted (held entry k a.moment g.texts g.bind h n a.reads b), ap run_in same)
 
 first-of : (x y : List ℕ) (xs ys entries : List (List ℕ)) → entries ≡ x ∷ xs → entries ≡ y ∷ ys → x ≡ y
 first-of x y xs ys entries e f = cc

@@ -20,7 +20,7 @@ taken_more given run items v w item h t = (
     r = t.r;
     in_range = t.in_range;
     is = t.is;
-    took = record { edits = t.edits; takes = t.takes; new_is = t.new_is; more_is = refl };
+    took = record { took = record { edits = t.edits; takes = t.takes; new_is = t.new_is }; more_is = refl };
   }),
 )
 

@@ -13,7 +13,7 @@ use Rattle.flow_engine_reports.specs.RunFiles.{IsBegin}
 use Rattle.flow_engine_reports.specs.RunLines.{Reports}
 
 -- behind a first entry the records are some
-shown-after : (records : List Record) (items : List (List ℕ)) (first : List ℕ) (rest : List (List ℕ)) (seen : Shown) → items ≡ first ∷ rest → items ≡ entries_of records → IsSoFar records seen
+pub shown-after : (records : List Record) (items : List (List ℕ)) (first : List ℕ) (rest : List (List ℕ)) (seen : Shown) → items ≡ first ∷ rest → items ≡ entries_of records → IsSoFar records seen
     → IsShownAfter seen.given seen.run records seen
 shown-after [] items first rest seen e are so = absurd (let f : first ∷ rest ≡ [] = sym e ∙ are in cc)
 shown-after (r ∷ records) items first rest seen e are so = so

@@ -9,7 +9,8 @@ use Rattle.flow_core_rules.specs.Givens.{Given}
 use Rattle.flow_core.specs.Views.{View, stepped, taken}
 use Rattle.flow_core.specs.declared.flow_errors.LimitKind.TheVariants as limit
 use Rattle.flow_engine_history.specs.Openings.{RefusesEntries}
-use Rattle.flow_engine_history.specs.Replays.{MakesTooMany, Stands}
+use Rattle.flow_core.specs.TakenRecords.{MakesTooMany}
+use Rattle.flow_engine_history.specs.Replays.{Stands}
 use Rattle.flow_engine_history.specs.Replays as engine
 use Rattle.flow_engine_history.specs.declared.error.EngineError.TheVariants as refused
 use Rattle.run_records.specs.Reading.{record_of}

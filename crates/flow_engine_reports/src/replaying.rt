@@ -43,11 +43,8 @@ fn take_next(alloc: Global, flow: &mut Flow, entry: &[u8]) -> Result<bool, Repor
         Ok(None) => return Ok(false),
         Err(_) => return Err(ReportError::Memory),
     };
-    match flow.ready(&item) {
-        Ok(()) => {
-            flow.apply(&item);
-            Ok(true)
-        }
+    match flow.take(&item) {
+        Ok(()) => Ok(true),
         Err(FlowError::NotEnabled) => Ok(false),
         Err(FlowError::Limit { .. }) => Err(ReportError::TooManyTasks),
         Err(FlowError::Memory) => Err(ReportError::Memory),

@@ -7,11 +7,9 @@ use crate::beginning::begun;
 use crate::error::ReportError;
 use crate::replaying::replay;
 use cacao_site::Bytes;
+use flow_engine_history::FIRST_GATE;
 use run_journal::Journal;
 use std::alloc::Global;
-
-/// The place of the gate of the first entry, in bytes.
-const FIRST_GATE: u64 = 8;
 
 /// What `show` says of the engine's journal: `no run` where it has no record, else the run's number, the number of its records, the
 /// last moment, each task, each issue, each variable of the first playbook, and how the run stands, a line each.

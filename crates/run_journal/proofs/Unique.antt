@@ -15,9 +15,6 @@ field_inverse n le = omega arith
 pub no_entry_closed : (gate : ℕ) (rest : List ℕ) → gate ≢ 1 → NoEntry (gate ∷ rest)
 no_entry_closed gate rest shut x after short e = shut (cc)
 
-head_is : (x y : ℕ) (xs ys : List ℕ) → x ∷ xs ≡ y ∷ ys → x ≡ y
-head_is x y xs ys e = cc
-
 tail_is : (x y : ℕ) (xs ys : List ℕ) → x ∷ xs ≡ y ∷ ys → xs ≡ ys
 tail_is x y xs ys e = cc
 

@@ -14,6 +14,6 @@ mod writing;
 pub use act::Act;
 pub use bytes_list::BytesList;
 pub use laws::{entries_law, one_value_a_layout};
-pub use reading::{read_act, read_record};
+pub use reading::{LAST_MOMENT, read_act, read_record};
 pub use record::Record;
 pub use writing::{write_act, write_record};

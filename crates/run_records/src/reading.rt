@@ -15,8 +15,8 @@ use crate::record::Record;
 use cacao_site::Bytes;
 use std::alloc::{AllocError, Global};
 
-/// The last moment of an act, in milliseconds.
-const LAST_MOMENT: u64 = 9_000_000_000_000_000;
+/// The last moment of a record and of an act, in milliseconds.
+pub const LAST_MOMENT: u64 = 9_000_000_000_000_000;
 
 #[tactic(auto, unfolding(crate::specs::Reading::begin_at))]
 fn read_begin(alloc: Global, bytes: &[u8]) -> Result<Option<Record>, AllocError>

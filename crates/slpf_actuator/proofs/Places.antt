@@ -1,31 +1,16 @@
 -- Where acts stand by run and issue.
-use Rattle.std.proofs.Common.{◌≡◌, ◌≢◌, ℕ, suc, ◌+◌, ◌<◌, Bool, true, false, cond, ◌==◌, ◌&&◌, List, [], ◌∷◌, ◌++◌, length, find, Contains, Option, Some, None, Ordering, Less, Equal, Greater, nat_cmp, refl, sym, subst, ap, ap₂, ◌∙◌, arith, slice_get}
+use Rattle.std.proofs.Common.{◌≡◌, ◌≢◌, ℕ, suc, ◌+◌, ◌<◌, Bool, true, false, cond, ◌==◌, ◌&&◌, List, [], ◌∷◌, ◌++◌, length, find, Contains, Option, Some, None, refl, sym, subst, ap, ap₂, ◌∙◌, arith, slice_get}
 use Rattle.std.specs.Borrow.{Bor}
 use Rattle.std.specs.Prelude.{IsSome, get_or, unwrap_or, option_copied, option_map, option_and_then}
 use Rattle.std.specs.Option.{option_or}
-use Rattle.std.specs.Ordering.{is_eq, ordering_then}
-use Rattle.std.specs.BTreeMap.{is_at}
 use Rattle.std.proofs.lemmas.Bool.{and_parts, eqb-true, false_from_ne_true}
 use Rattle.std.proofs.lemmas.Bool.Decides.{nat_tests}
 use Rattle.std.proofs.lemmas.Option.{none-some, same_Some, slice_get-get_or, slice_get_within, get_or_from_slice_get}
 use Rattle.std.proofs.lemmas.List.Elements.{All-nil, All-cons, All-head, All-tail}
 use Rattle.run_records.specs.declared.act.Act.{Act}
 use Rattle.slpf_actuator.specs.ActLists.{HasActed, IsNew}
-use Rattle.slpf_actuator.specs.History.{ArePlacesOf, Places, is_of, key_cmp, place_in, place_of}
-
--- ---- keys
-
-eq_nat : (n k : ℕ) → is_eq (nat_cmp n k) ≡ (n == k)
-eq_nat n k = grind (arith, nat_tests)
-
-eq_then : (a b : Ordering) → is_eq (ordering_then a b) ≡ (is_eq a && is_eq b)
-eq_then Less b = refl
-eq_then Equal b = refl
-eq_then Greater b = refl
-
-pub same_key : (run issue r i : ℕ) → is_at (key_cmp (run, issue)) (r, i) ≡ (run == r && issue == i)
-same_key run issue r i =
-    eq_then (nat_cmp run r) (nat_cmp issue i) ∙ ap₂ (λ (a b : Bool). a && b) (eq_nat run r) (eq_nat issue i)
+use Rattle.slpf_rules_acts.specs.Index.{Places, place_in}
+use Rattle.slpf_actuator.specs.History.{ArePlacesOf, is_of, place_of}
 
 -- ---- the place of an act
 

@@ -1,24 +1,10 @@
 -- Promise: What a filter keeps of its acts: their table, and where each stands.
 use Rattle.std.specs.Prelude.{◌≡◌, ℕ, suc, Bool, ◌==◌, ◌&&◌, List, [], ◌∷◌, Option, Some, None, option_map, if◌then◌else◌}
-use Rattle.std.specs.Map.{lookup}
-use Rattle.std.specs.BTreeMap.{is_at}
-use Rattle.std.specs.Ordering.{nat_cmp, ordering_then}
-use Rattle.std.specs.declared.cmp.Ordering.{Ordering}
 use Rattle.run_records.specs.declared.act.Act.{Act}
 use Rattle.slpf_rules.specs.declared.rules.Rule.{Rule}
 use Rattle.slpf_rules_acts.specs.Acts.{table_of}
+use Rattle.slpf_rules_acts.specs.Index.{Places, place_in}
 use Rattle.slpf_actuator.specs.ActLists.{IsHistory}
-
-abbrev pub Places : Type 0
-Places = List ((ℕ × ℕ) × ℕ)
-
--- runs first, and then issues
-abbrev pub key_cmp : ℕ × ℕ → ℕ × ℕ → Ordering
-key_cmp a b = ordering_then (nat_cmp a.0 b.0) (nat_cmp a.1 b.1)
-
--- the place that is kept for a run and an issue
-abbrev pub place_in : Places → ℕ → ℕ → Option ℕ
-place_in places run issue = lookup (is_at (key_cmp (run, issue))) places
 
 -- whether an act has this run and issue
 abbrev pub is_of : ℕ → ℕ → Act → Bool

@@ -8,9 +8,9 @@ ghost use Rattle.slpf_actuator.specs.ActLists.{IsHistory, MayFollow, moment_of_l
 ghost use Rattle.slpf_actuator.specs.History.{is_of};
 
 use crate::answering::{Asked, enact};
-use crate::index::ActIndex;
 use run_records::Act;
 use slpf_rules::Table;
+use slpf_rules_acts::ActIndex;
 use std::alloc::{AllocError, Global};
 use std::marker::Model;
 

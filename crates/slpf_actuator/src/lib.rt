@@ -7,7 +7,6 @@ mod answering;
 pub mod error;
 mod handling;
 mod history;
-mod index;
 mod keeping;
 mod laws;
 mod opening;

@@ -7,12 +7,12 @@ ghost use Rattle.cacao_vars.specs.Declarations.{IsInNameOrder, declared, placed}
 use super::Var;
 use crate::variable_names::Name;
 
-// The declaration of a name.
-pub fn find_in<'a>(vars: &'a [Var], name: &Name) -> Option<&'a Var>
+// The declaration of the name with these bytes.
+pub fn find_in<'a>(vars: &'a [Var], name: &[u8]) -> Option<&'a Var>
     requires { IsInNameOrder vars.now }
     ensures { option_copied result ≡ declared vars.now name.now }
 {
-    match vars.binary_search_by(|var| var.name.cmp(name)) {
+    match vars.binary_search_by(|var| var.name.text().as_bytes().cmp(name)) {
         Ok(place) => Some(&vars[place]),
         Err(_) => None,
     }

@@ -8,15 +8,15 @@ use crate::declarations::Var;
 use crate::variable_names::Name;
 
 // What a scope itself declares of a name.
-pub fn declaration_in<'a>(scopes: &'a [Scope], scope: u32, name: &Name) -> Option<&'a Var>
+pub fn declaration_in<'a>(scopes: &'a [Scope], scope: u32, name: &[u8]) -> Option<&'a Var>
     requires { scope < length scopes.now }
     ensures { option_copied result ≡ declaration scopes.now scope name.now }
 {
-    scopes[scope as usize].vars.find(name)
+    scopes[scope as usize].vars.find_bytes(name)
 }
 
 // Whether a scope itself declares a name.
-pub fn declares(scopes: &[Scope], scope: u32, name: &Name) -> bool
+pub fn declares(scopes: &[Scope], scope: u32, name: &[u8]) -> bool
     requires { scope < length scopes.now }
     ensures { result ≡ is_some (declaration scopes.now scope name.now) }
 {
@@ -24,7 +24,7 @@ pub fn declares(scopes: &[Scope], scope: u32, name: &Name) -> bool
 }
 
 // Whether a scope itself declares a name as constant.
-pub fn is_constant(scopes: &[Scope], scope: u32, name: &Name) -> bool
+pub fn is_constant(scopes: &[Scope], scope: u32, name: &[u8]) -> bool
     requires { scope < length scopes.now }
     ensures { IsTrue result ↔ IsConstant scopes.now scope name.now }
 {
@@ -42,8 +42,8 @@ fn parent_in(scopes: &[Scope], scope: u32) -> Option<u32>
     scopes[scope as usize].parent
 }
 
-// The first scope that declares a name, from this one along the parents.
-pub fn home_of(scopes: &[Scope], scope: u32, name: &Name) -> Option<u32>
+/// The first scope that declares the name with these bytes, from this one along the parents. It takes no memory.
+pub fn home_of(scopes: &[Scope], scope: u32, name: &[u8]) -> Option<u32>
     requires scope { scope < length scopes.now }
     requires parents { HasParentsBefore scopes.now }
     ensures home { result ≡ home scopes.now scope name.now }

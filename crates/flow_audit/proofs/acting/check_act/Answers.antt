@@ -68,7 +68,7 @@ returns-clause-index c = λ e.
     let next : take (n + 1) acts ≡ take n acts ++ item ∷ [] = ap (λ k. take k acts) (let s : n + 1 ≡ suc n = omega arith in s) ∙ take_next acts n item there in
     let long : length (take n acts) ≡ n = take_length acts n (omega (arith, c.requires.there)) in
     subst (λ (l : List Act). ArePlacesOf l c.insert.new.self) (sym next)
-    (places_push (take n acts) item c.args.index.now c.insert.new.self n (sym long) c.requires.index c.in_ok-insert.ensures)
+    (places_push (take n acts) item c.args.index.now c.insert.new.self n (sym long) c.requires.index c.in_ok-insert.ensures.ok)
 
 pub returns-clause-table : goal.returns-clause-table
 returns-clause-table c = λ e.

@@ -1,8 +1,9 @@
 use Rattle.std.proofs.Common.{List, [], Ok, refl, sym, ap, subst, ◌∙◌, arith}
 use Rattle.std.proofs.lemmas.List.{take_all}
 use Rattle.run_records.specs.declared.act.Act.{Act}
+use Rattle.slpf_rules_acts.specs.Index.{Places}
 use Rattle.flow_audit.specs.Breaks.{ActsFit, BreaksActs}
-use Rattle.flow_audit.specs.Index.{ArePlacesOf, Places}
+use Rattle.flow_audit.specs.Index.{ArePlacesOf}
 use Rattle.flow_audit.proofs.ActLemmas.{fit_next, fit_none, no_places}
 use Rattle.flow_audit.proofs.ListLemmas.{get_there}
 use Rattle.flow_audit.proofs.acting.check_acts.Goals as goal

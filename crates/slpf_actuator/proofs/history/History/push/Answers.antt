@@ -2,7 +2,8 @@ use Rattle.std.proofs.Common.{◌≡◌, ℕ, ◌<◌, cond, ◌==◌, ◌&&◌,
 use Rattle.run_records.specs.declared.act.Act.{Act}
 use Rattle.slpf_rules.specs.Replies.{reply_to}
 use Rattle.slpf_actuator.specs.ActLists.{IsHistory, MayFollow}
-use Rattle.slpf_actuator.specs.History.{KeepsHistory, place_in}
+use Rattle.slpf_rules_acts.specs.Index.{place_in}
+use Rattle.slpf_actuator.specs.History.{KeepsHistory}
 use Rattle.slpf_actuator.proofs.ActLemmas.{history_push, table_push}
 use Rattle.slpf_actuator.proofs.Places.{index_back, index_push}
 use Rattle.slpf_actuator.proofs.history.History.push.Goals as goal
