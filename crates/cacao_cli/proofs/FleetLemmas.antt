@@ -1,14 +1,12 @@
 -- The clauses of a call whose words ask for a fleet.
-use Rattle.std.proofs.Common.{◌≡◌, ◌⊎◌, inl, inr, ◌∙◌, refl, sym, ap, subst, arith, ℕ, ◌≤◌, Bool, true, false, List, [], ◌∷◌, length, map, Option, Some, None, codes}
+use Rattle.std.proofs.Common.{◌≡◌, inl, inr, ◌∙◌, refl, sym, ap, subst, arith, ℕ, ◌≤◌, Bool, true, false, List, [], ◌∷◌, length, map, Option, Some, None}
 use Rattle.std.specs.Prelude.{IfSome, IsTrue, nat_eq}
 use Rattle.std.specs.List.{list_any}
-use Rattle.std.specs.Str.{bytes_eq}
 use Rattle.cacao_site.specs.Counts.{next_count}
 use Rattle.cacao_site.specs.View.{SiteView}
-use Rattle.cacao_cli_words.specs.Requests.{FleetRequest, fleet_of, fleet_request, peer_request}
+use Rattle.cacao_cli_words.specs.Requests.{FleetRequest, fleet_of}
 use Rattle.cacao_cli_words.specs.Commands.{fleet_request_by}
 use Rattle.cacao_cli_words.specs.RunBooks.{run_of}
-use Rattle.cacao_cli_words.specs.Words.{Text}
 use Rattle.cacao_cli_words.specs.declared.fleet_words.FleetWords.{FleetWords}
 use Rattle.cacao_cli_words.specs.declared.run_book.RunBook.{RunBook}
 use Rattle.cacao_cli_words.proofs.ClapRules.{same}
@@ -25,22 +23,13 @@ use Rattle.flow_fleet_laws.specs.Speeches.{numbered}
 use Rattle.flow_fleet_laws.specs.Views.{seen_from}
 use Rattle.cacao_cli_fleets.specs.FleetTexts.{fleet_files}
 use Rattle.cacao_cli_fleets.specs.RackTold.{TellsFleetRack, TellsOfRack}
-use Rattle.cacao_cli_fleets.proofs.OutcomeLemmas.{fleet-failed, fleet-memory, fleet-own, fleet-reads, fleet-steady, judged_statuses}
+use Rattle.cacao_cli_fleets.proofs.OutcomeLemmas.{fleet-failed, fleet-memory, fleet-own, fleet-reads, judged_statuses}
 use Rattle.cacao_cli_fleets.proofs.EndLemmas.{held_statuses}
 use Rattle.cacao_cli_fleets.proofs.TextLemmas.{file_statuses}
 use Rattle.cacao_cli.specs.WithFleets.{AgreesForEach, EndedFleet, EndsWithFleet, FindsNoDamage, IsFleetStatus, KeepsRuns, WantsForWords, fleet_statuses, run_numbers}
 
 none-some : (wanted : FleetRequest) → None ≡ Some wanted → ⊥
 none-some wanted e = cc
-
--- words that ask for a fleet ask for no peer
-pub fleet-peerless : (words : List Text) (wanted : FleetRequest) → fleet_request words ≡ Some wanted → peer_request words ≡ None
-fleet-peerless [] wanted e = absurd (cc)
-fleet-peerless (first ∷ words) wanted e = go (bytes_eq first (codes "fleet")) refl e
-  where
-    go : (b : Bool) → b ≡ bytes_eq first (codes "fleet") → fleet_request (first ∷ words) ≡ Some wanted → peer_request (first ∷ words) ≡ None
-    go true is h = ap (λ (word : Text). peer_request (word ∷ words)) (same first (codes "fleet") (sym is))
-    go false is h = absurd (let none : fleet_request (first ∷ words) ≡ None = rw (sym is) refl in none-some wanted (sym none ∙ h))
 
 module _ (wanted : FleetRequest) (shelf : ShelfCall) (old new : SiteView) (answer : ℕ) (h : EndedFleet wanted shelf old new answer) where
   pub ended-own : IsOneOf answer fleet_statuses
@@ -53,9 +42,6 @@ module _ (wanted : FleetRequest) (shelf : ShelfCall) (old new : SiteView) (answe
   pub ended-failed : answer ≡ 3 → shelf.after ≡ next_count shelf.before
   ended-failed = fleet-failed wanted shelf old h.between new h.last answer h.goes h.tells
 
-  pub ended-steady : (answer ≡ 3 → ⊥) → (answer ≡ 9 → ⊥) → shelf.after ≡ shelf.before
-  ended-steady = fleet-steady wanted shelf old h.between new h.last answer h.goes h.tells
-
   pub ended-memory : answer ≡ 10 → NoFault shelf.before shelf.after old new
   ended-memory = fleet-memory wanted shelf old h.between new h.last answer h.goes h.tells
 
@@ -66,12 +52,6 @@ module _ (wanted : FleetRequest) (shelf : ShelfCall) (old new : SiteView) (answe
 
 pub some-none : {asked : Option FleetRequest} (wanted : FleetRequest) → asked ≡ Some wanted → asked ≡ None → ⊥
 some-none wanted is none = none-some wanted (sym none ∙ is)
-
-pub with-fleet : (asked : Option FleetRequest) (wanted : FleetRequest) (shelf : ShelfCall) (old new : SiteView) (answer : ℕ) → asked ≡ Some wanted → EndedFleet wanted shelf old new answer → EndsWithFleet asked shelf old new answer
-with-fleet asked wanted shelf old new answer is h = subst (λ (a : Option FleetRequest). EndsWithFleet a shelf old new answer) (sym is) (inl h)
-
-pub keeps-fleet : (asked : Option FleetRequest) (wanted : FleetRequest) (old new : SiteView) → asked ≡ Some wanted → KeepsRuns (Some wanted) old new → KeepsRuns asked old new
-keeps-fleet asked wanted old new is h = subst (λ (a : Option FleetRequest). KeepsRuns a old new) (sym is) h
 
 pub own-fleet : (asked : Option FleetRequest) (wanted : FleetRequest) (answer : ℕ) → asked ≡ Some wanted → IsOneOf answer fleet_statuses → IsFleetStatus asked answer
 own-fleet asked wanted answer is h = subst (λ (a : Option FleetRequest). IsFleetStatus a answer) (sym is) h

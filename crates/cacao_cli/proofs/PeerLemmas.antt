@@ -5,7 +5,7 @@ use Rattle.std.specs.List.{list_any}
 use Rattle.std.proofs.lemmas.Bool.{true≢false}
 use Rattle.cacao_site.specs.Counts.{Rose, next_count}
 use Rattle.cacao_site.specs.View.{SiteView}
-use Rattle.oc2_wire_link.specs.Peering.{PeerCalls, PeersView}
+use Rattle.oc2_wire_link.specs.Peering.{PeersView}
 use Rattle.cacao_cli_words.specs.Requests.{PeerRequest, RunRequest, pairs, serves}
 use Rattle.cacao_cli_words.specs.Words.{Text}
 use Rattle.cacao_cli_ends.specs.Asked.{Asked, audits, canonises, checks, decides, lists_rules, rehearses, runs, shadows, shows}
@@ -20,7 +20,7 @@ use Rattle.cacao_cli_ends.proofs.StatusLists.{not-among, widen}
 use Rattle.cacao_cli_ends.proofs.UnsaidLemmas.{last-disk, last-said}
 use Rattle.cacao_cli_ends.proofs.ReadLemmas.{counts-none, reads-few}
 use Rattle.cacao_cli_peers.specs.Pairing.{HoldsPair, PairsSo}
-use Rattle.cacao_cli_peers.specs.PeerCounts.{CallsAtMost, behind_close, comes_before_peers}
+use Rattle.cacao_cli_peers.specs.PeerCounts.{behind_close, comes_before_peers}
 use Rattle.oc2_wire_site.specs.Wires.{WireView}
 use Rattle.cacao_cli_status_laws.specs.Ended.{PerformedBy}
 use Rattle.cacao_cli_peers.proofs.OverLemmas.{over-said}
@@ -28,7 +28,7 @@ use Rattle.cacao_cli_status_laws.proofs.PerformLemmas.{performed-memory}
 use Rattle.cacao_cli_peers.proofs.OutcomeLemmas.{Outcome, goes-performed, quiet, shelf_fails, holds, quiet_statuses, pair-outcome}
 use Rattle.cacao_cli_peers.proofs.PairLemmas.{link_statuses, pairs-listed, pairs-rose}
 use Rattle.cacao_cli_peers.proofs.ServeLemmas.{ServeCounts, filter_statuses, serves-counts, serves-listed, serves-rose}
-use Rattle.cacao_cli.specs.WithPeers.{CallsPeersFew, EndedPairing, EndedServing, EndsWithPeer, IsPeerStatus, PerformsWithPeer, files_for, peer_statuses}
+use Rattle.cacao_cli.specs.WithPeers.{EndedPairing, EndedServing, EndsWithPeer, IsPeerStatus, PerformsWithPeer, files_for, peer_statuses}
 use Rattle.cacao_cli_status_laws.specs.Statuses.{statuses_of}
 
 -- the answer is the status of the last end, or one that stands in its place
@@ -245,18 +245,6 @@ memory-with (Some (pairs wanted)) shelf peers site same steady =
     inl (performed-memory (Some (runs wanted)) shelf site same steady, refl)
 memory-with (Some serves) shelf peers site same steady = inr (inr (record { peers = refl; same = refl; ends = refl }))
 
-at-most-same : (starts binds accepts closes : ℕ) (calls : Option PeerCalls) → CallsAtMost starts binds accepts closes calls calls
-at-most-same starts binds accepts closes None = tt
-at-most-same starts binds accepts closes (Some calls) = record { started = omega arith; bound = omega arith; accepted = omega arith; closed = omega arith }
-
-pub few-none : (asked : Option PeerRequest) (calls : Option PeerCalls) → CallsPeersFew asked calls calls
-few-none None calls = refl
-few-none (Some (pairs wanted)) calls = at-most-same 1 0 0 1 calls
-few-none (Some serves) calls = at-most-same 0 1 1 1 calls
-
 -- the words ask for no peer
 pub with-none : (asked : Option PeerRequest) (shelf : ShelfCall) (before after : PeersView) (old new : SiteView) (last : End) → asked ≡ None → PerformsWithPeer asked shelf before after old new last
 with-none asked shelf before after old new last is = subst (λ (a : Option PeerRequest). PerformsWithPeer a shelf before after old new last) (sym is) tt
-
-pub calls-none : (asked : Option PeerRequest) (old new : Option PeerCalls) → asked ≡ None → new ≡ old → CallsPeersFew asked old new
-calls-none asked old new is e = subst (λ (a : Option PeerRequest). CallsPeersFew a old new) (sym is) e

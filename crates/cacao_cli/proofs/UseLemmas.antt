@@ -1,9 +1,9 @@
 -- What a call uses that asks for a peer, and what it leaves.
-use Rattle.std.proofs.Common.{◌≡◌, sym, subst, ℕ, Option, Some, None}
+use Rattle.std.proofs.Common.{ℕ, Option, Some, None}
 use Rattle.cacao_site.specs.View.{SiteView}
 use Rattle.oc2_wire_link.specs.Peering.{PeersView}
 use Rattle.cacao_cli_words.specs.Requests.{PeerRequest, pairs, serves}
-use Rattle.cacao_cli_ends.specs.Files.{Files, ShelfCall}
+use Rattle.cacao_cli_ends.specs.Files.{ShelfCall}
 use Rattle.cacao_cli_peers.proofs.LeaveLemmas.{filters-leave, pair-leaves}
 use Rattle.cacao_cli_peers.proofs.UseLemmas.{filters-use, pair-uses}
 use Rattle.cacao_cli.specs.WithPeers.{EndsWithPeer, LeavesLinkBeneath, UsesFewWithPeer}
@@ -18,10 +18,3 @@ pub link-with : (asked : Option PeerRequest) (shelf : ShelfCall) (before after :
 link-with None shelf before after old new answer h = tt
 link-with (Some (pairs wanted)) shelf before after old new answer h = pair-leaves before after old h.between new h.last answer h.tells wanted shelf h.goes
 link-with (Some serves) shelf before after old new answer h = filters-leave before after old h.between new h.last answer h.tells h.serves
-
--- words that ask for no peer
-pub peerless-uses : (asked : Option PeerRequest) (told : Option Files) (before after : PeersView) (old new : SiteView) → asked ≡ None → UsesFewWithPeer asked told before after old new
-peerless-uses asked told before after old new none = subst (λ (a : Option PeerRequest). UsesFewWithPeer a told before after old new) (sym none) tt
-
-pub peerless-link : (asked : Option PeerRequest) (old new : SiteView) → asked ≡ None → LeavesLinkBeneath asked old new
-peerless-link asked old new none = subst (λ (a : Option PeerRequest). LeavesLinkBeneath a old new) (sym none) tt

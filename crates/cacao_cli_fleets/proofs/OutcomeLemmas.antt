@@ -1,23 +1,22 @@
 -- The clauses of a call that holds a fleet, or none.
-use Rattle.std.proofs.Common.{◌≡◌, ◌⊎◌, inl, inr, ◌∙◌, refl, sym, ap, subst, arith, ℕ, ◌==◌, Bool, true, false, List, [], ◌∷◌, length, Some, Ok, Err}
-use Rattle.std.specs.Prelude.{if◌then◌else◌, map}
+use Rattle.std.proofs.Common.{◌≡◌, ◌⊎◌, inl, inr, ◌∙◌, refl, sym, ap, subst, arith, ℕ, ◌==◌, Bool, true, false, List, [], ◌∷◌, length, Ok, Err}
+use Rattle.std.specs.Prelude.{if◌then◌else◌}
 use Rattle.std.proofs.lemmas.Bool.{eqb-true}
 use Rattle.cacao_site.specs.Counts.{next_count}
 use Rattle.cacao_site.specs.View.{SiteView}
 use Rattle.cacao_cli_words.specs.Requests.{FleetRequest}
-use Rattle.cacao_cli_words.specs.Words.{Text}
 use Rattle.cacao_cli_ends.specs.Comes.{IsOneOf}
-use Rattle.cacao_cli_ends.specs.Ends.{End, disk_failed, is_fault, no_memory, refused, shelf_failed, status_of, unsaid}
-use Rattle.cacao_cli_ends.specs.Files.{NamedText, ReadsTo, ShelfCall, book_file, faults_behind}
+use Rattle.cacao_cli_ends.specs.Ends.{End, disk_failed, is_fault, status_of, unsaid}
+use Rattle.cacao_cli_ends.specs.Files.{NamedText, ReadsTo, ShelfCall}
 use Rattle.cacao_cli_ends.specs.Stays.{NoFault, ReadsAtMost}
 use Rattle.cacao_cli_ends.proofs.EndLemmas.{end-failed}
 use Rattle.cacao_cli_ends.proofs.LineLemmas.{IsCutOff}
 use Rattle.cacao_cli_ends.proofs.ReadLemmas.{Read, reads-few}
-use Rattle.cacao_cli_ends.proofs.StatusLists.{not-among, widen}
+use Rattle.cacao_cli_ends.proofs.StatusLists.{not-among}
 use Rattle.flow_fleet_steps.specs.Openings.{Runs}
 use Rattle.cacao_cli_fleets.specs.FleetEnds.{FleetEnd, TellsFleet, plain}
 use Rattle.cacao_cli_fleets.specs.FleetTexts.{fleet_files}
-use Rattle.cacao_cli_fleets.specs.Fleeting.{BreaksRules, ClosesFleet, FleetHeld, GivesNone, GoesAsFleet, HoldsFleet, LacksTree, RefusesFleet, StopsJudging, StopsReading}
+use Rattle.cacao_cli_fleets.specs.Fleeting.{ClosesFleet, FleetHeld, GivesNone, GoesAsFleet, RefusesFleet}
 use Rattle.cacao_cli_fleets.proofs.EndLemmas.{CountsNone, close-listed, error-listed, fleet-fault-ten, fleet-ten, fleet-tells-status, fleet_status, held_statuses}
 use Rattle.cacao_cli_fleets.proofs.FleetCounts.{held-said}
 use Rattle.cacao_cli_fleets.proofs.TextLemmas.{file_statuses, reads-listed, trees-listed}
@@ -86,21 +85,6 @@ module _ (wanted : FleetRequest) (shelf : ShelfCall) (old mid new : SiteView) (l
       go (inl h) = h.reads.faults ∙ ap (λ (n : ℕ). if n == 3 then next_count shelf.before else shelf.before) (sym (ap fleet_status h.ends) ∙ at)
       go (inr (inl h)) = absurd (not-among 3 judged_statuses refl (out judged_statuses (none-listed h.texts last h.why)))
       go (inr (inr h)) = absurd (not-among 3 held_statuses refl (out held_statuses (held-listed h.runs wanted.most old mid last h.holds)))
-
-  pub fleet-steady : (answer ≡ 3 → ⊥) → (answer ≡ 9 → ⊥) → shelf.after ≡ shelf.before
-  fleet-steady no3 no9 = go goes
-    where
-      go : GoesAsFleet wanted shelf old mid last → shelf.after ≡ shelf.before
-      go (inl h) = quiet-read h.end h.reads (λ f. by (fleet-tells-status last mid new answer tells) f)
-        where
-          by : (answer ≡ fleet_status last) ⊎ IsCutOff answer → status_of h.end ≡ 3 → ⊥
-          by (inl e) f = no3 (e ∙ ap fleet_status h.ends ∙ f)
-          by (inr (inl e)) f = no9 e
-          by (inr (inr (inl e))) f = let failed = end-failed h.end f in
-              fleet-fault-ten last h.end mid new answer h.ends (ap is_fault failed.1) (λ g. omega (arith, f, g)) tells e
-          by (inr (inr (inr e))) f = e
-      go (inr (inl h)) = h.reads.faults
-      go (inr (inr h)) = h.reads.faults
 
   pub fleet-memory : answer ≡ 10 → NoFault shelf.before shelf.after old new
   fleet-memory e = go goes

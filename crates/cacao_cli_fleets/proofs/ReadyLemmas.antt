@@ -1,22 +1,21 @@
 -- One run more of a fleet, behind those of the places before it.
-use Rattle.std.proofs.Common.{◌≡◌, ◌⊎◌, inl, inr, ◌∙◌, refl, sym, ap, subst, arith, append_assoc, ℕ, ◌+◌, ◌-◌, ◌<◌, ◌≤◌, Bool, Bor, true, List, [], ◌∷◌, ◌++◌, length, length-take-le, map, take, get_or, take_all, Option, Some, None, Result, Ok, Err}
+use Rattle.std.proofs.Common.{◌≡◌, inl, inr, ◌∙◌, refl, sym, ap, subst, arith, append_assoc, ℕ, ◌+◌, ◌-◌, ◌<◌, ◌≤◌, true, List, [], ◌∷◌, ◌++◌, length, length-take-le, map, take, get_or, Some}
 use Rattle.std.specs.Prelude.{All, Contains, IsSome, option_map, slice_get}
 use Rattle.std.proofs.lemmas.List.{append-nil, get_or-map, get_or-take, length-append, length-map, map-append}
 use Rattle.std.proofs.lemmas.Option.{get_or_from_slice_get, slice_get-get_or, slice_get-map, slice_get_within}
 use Rattle.cacao_json.specs.Reading.{tree}
-use Rattle.cacao_check.specs.declared.breaks.Break.{Break}
 use Rattle.flow_core_rules.specs.Givens.{Given}
 use Rattle.flow_fleet_steps.specs.Openings.{Runs, numbers}
-use Rattle.cacao_cli_words.specs.Requests.{FleetRequest, are_apart}
+use Rattle.cacao_cli_words.specs.Requests.{are_apart}
 use Rattle.cacao_cli_words.specs.RunBooks.{run_of}
 use Rattle.cacao_cli_words.specs.Words.{Text}
 use Rattle.cacao_cli_words.specs.declared.run_book.RunBook.{RunBook}
-use Rattle.cacao_cli_ends.specs.Ends.{End, no_memory, refused}
+use Rattle.cacao_cli_ends.specs.Ends.{End}
 use Rattle.cacao_cli_ends.specs.Files.{NamedText}
 use Rattle.cacao_cli_looks.specs.Command.{text_of}
 use Rattle.cacao_cli_looks.specs.declared.file_text.FileText.{FileText}
 use Rattle.cacao_cli_ends.proofs.ReadLemmas.{map-more}
-use Rattle.cacao_cli_fleets.specs.FleetTexts.{GiveAll, Gives, IsFirstRefused, told_at}
+use Rattle.cacao_cli_fleets.specs.FleetTexts.{GiveAll}
 use Rattle.cacao_cli_fleets.specs.FleetTexts.GiveAll.{nothing, one_more}
 use Rattle.cacao_cli_fleets.specs.Judging.{AreFirst, IsRefusal, JoinsRun, RefusesSome}
 use Rattle.cacao_cli_fleets.proofs.RunLemmas.{first_of, numbers_of, once}
@@ -38,9 +37,6 @@ module _ (pairs : List RunBook) (place : ℕ) (one : RunBook) (before : Runs) (t
 
   long : length before ≡ place
   long = sym (length-map before run_number) ∙ ap (λ (l : List ℕ). length l) numbered ∙ length-map (take place pairs) number_of ∙ length-take-le place pairs (omega (arith, here))
-
-  pub join-few : length pairs ≤ 16 → length before < 16
-  join-few few = omega (arith, few, here, long)
 
   -- the one at a lower place, among the first
   lower : (k : ℕ) → k < place → get_or (take place pairs) k one ≡ get_or pairs k one
@@ -146,8 +142,3 @@ far-some (one ∷ pairs) texts first some = let none : [] ≡ map number_of (tak
 
 abbrev pub name_of : RunBook → Text
 name_of one = one.book.now
-
-pub names-more : (runs : List RunBook) (n : ℕ) (one : RunBook) (names : List (Bor Text)) (name : Bor Text) → n < length runs → one ≡ get_or runs n one → name.now ≡ one.book.now → map (λ (x : Bor Text). x.now) names ≡ map name_of (take n runs)
-    → map (λ (x : Bor Text). x.now) (names ++ name ∷ []) ≡ map name_of (take (n + 1) runs)
-names-more runs n one names name lt is same so_far =
-    map-append (λ (x : Bor Text). x.now) names (name ∷ []) ∙ ap (λ (l : List Text). l ++ name.now ∷ []) so_far ∙ ap (λ (t : Text). map name_of (take n runs) ++ t ∷ []) (same ∙ ap name_of is) ∙ sym (map-more name_of runs n one lt)

@@ -3,8 +3,6 @@ use Rattle.std.specs.Prelude.{◌≡◌, ◌⊎◌, ℕ, Some, List, [], ◌∷�
 use Rattle.std.specs.declared.alloc.Global.{Global}
 use Rattle.serde_json.specs.Data.{Data}
 use Rattle.cacao_check.specs.FirstBreak.{IsAccepted, IsFirstBreak}
-use Rattle.cacao_book_shape.specs.declared.refusals.BookError.{BookError}
-use Rattle.cacao_book_shape.specs.declared.refusals.BookError.TheVariants as book_error
 use Rattle.cacao_check.specs.declared.breaks.Break.{Break}
 use Rattle.cacao_check.specs.declared.breaks.CheckError.{CheckError}
 use Rattle.cacao_check.specs.declared.breaks.CheckError.TheVariants as check_error
@@ -100,12 +98,7 @@ IsJudgement trees mode end =
 abbrev pub IsJudgedOrMemory : List Data → Mode → End → Type 0
 IsJudgedOrMemory trees mode end = IsJudgement trees mode (end_of end)
 
--- how a call ends where the playbook of this number has a break of shape
-abbrev pub shape_end : ℕ → BookError → as_said.End
-shape_end book (book_error.Shape step rule) = as_said.refused (record { book = book; step = step; rule = rule })
-shape_end book book_error.Memory = as_said.no_memory
-
--- and where the playbooks have a break of sense
-abbrev pub sense_end : CheckError → as_said.End
-sense_end (check_error.Broken broken) = as_said.refused broken
-sense_end check_error.Memory = as_said.no_memory
+-- how a call ends where playbooks are refused
+abbrev pub refusal_end : CheckError → as_said.End
+refusal_end (check_error.Broken broken) = as_said.refused broken
+refusal_end check_error.Memory = as_said.no_memory

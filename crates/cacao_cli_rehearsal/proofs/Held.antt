@@ -5,7 +5,6 @@ use Rattle.std.proofs.lemmas.List.{length-map}
 use Rattle.std.specs.List.{AllByRecursion}
 use Rattle.std.proofs.lemmas.Bool.{cases_eq}
 use Rattle.std.proofs.lemmas.Option.{same_Some}
-use Rattle.cacao_site.specs.Counts.{Rose}
 use Rattle.cacao_site.specs.DiskCalls.{AllLeft, IsLeft, OnlyFile}
 use Rattle.cacao_site.specs.Sound.{IsSound}
 use Rattle.cacao_site.specs.View.{DiskView, SiteView}
@@ -46,9 +45,6 @@ keeps_then a b c one two = record {
   faults = omega (arith, one.faults, two.faults);
   each = λ file image told left. one.each file image told (two.each file image (subst IsTrue (sym one.told) told) left);
 }
-
-pub rose_later : (a b c : DiskView) → KeepsImages a b → Rose b.faults c.faults → Rose a.faults c.faults
-rose_later a b c keeps rose = omega (arith, keeps.faults, rose)
 
 -- what a file reads as is one of the images that it had before
 was_left : (file : ℕ) (old new : SiteView) → KeepsImages old.disk new.disk → IsSound new → IsTrue old.disk.told → IsLeft old.disk file old.disk.beat (new.disk.reads file)

@@ -2,7 +2,6 @@
 use Rattle.std.proofs.Common.{◌≡◌, ◌≢◌, ℕ, zero, suc, ◌+◌, ◌-◌, ◌*◌, ◌/◌, ◌≤◌, List, length, refl, sym, ◌∙◌, subst, ap, arith}
 use Rattle.cacao_site.specs.View.{DiskView}
 use Rattle.flow_world.specs.Openings.{blocks_to}
-use Rattle.cacao_cli_rehearsal.specs.Counts.{OpensFew}
 
 blocks_stay : (n : ℕ) (old new : DiskView) → ((file : ℕ) → 1 ≤ file → file ≤ n → new.reads file ≡ old.reads file) → blocks_to n new ≡ blocks_to n old
 blocks_stay zero old new same = refl
@@ -34,9 +33,3 @@ calls_next agent old mid new low before here others =
 
 pub first_stays : (agent : ℕ) (old mid new : DiskView) → 1 ≤ agent → mid.reads 0 ≡ old.reads 0 → ((other : ℕ) → other ≢ agent → new.reads other ≡ mid.reads other) → new.reads 0 ≡ old.reads 0
 first_stays agent old mid new low same others = others 0 (λ e. omega (arith, e, low)) ∙ same
-
-pub opens_first : (old new : DiskView) → new.calls ≤ old.calls + 3 + length (new.reads 0) / 4096 → OpensFew old new
-opens_first old new first = within (blocks_to 16 new)
-  where
-    within : (n : ℕ) → new.calls ≤ old.calls + 3 * 17 + (length (new.reads 0) / 4096 + n)
-    within n = omega (arith, first)

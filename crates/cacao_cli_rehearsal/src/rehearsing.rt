@@ -13,6 +13,7 @@ use crate::error::RehearsalError;
 use crate::setting::{no_answers, read_setup};
 use crate::site::RehearsalSite;
 use crate::summary::Summary;
+use cacao_json::TEXT_LIMIT;
 use flow_core::Setup;
 use flow_engine_answers::Answers;
 use flow_world::{Close, session};
@@ -23,9 +24,6 @@ const RUN: u64 = 1;
 
 /// How many records the session may append.
 const MOST_RECORDS: u64 = 1_000_000_000;
-
-/// The most bytes of a playbook.
-const MOST_BYTES: usize = 1_048_576;
 
 /// Whether the run has ended, and well.
 fn is_well(close: Close) -> bool
@@ -81,7 +79,7 @@ pub fn rehearse(
     ensures by_plan { MatchResult result (λ summary. GoesByPlan (inside site.new)) (EndsByPlan (inside site.new)) }
 {
     let text = rehearsal_text(alloc, positions)?;
-    if text.len() > MOST_BYTES {
+    if text.len() > TEXT_LIMIT {
         return Err(RehearsalError::TooLong);
     }
     let answers = no_answers(alloc)?;

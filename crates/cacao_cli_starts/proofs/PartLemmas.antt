@@ -254,11 +254,10 @@ module _ (wanted : RunRequest) (texts : List NamedText) (parts : RunTexts) (is :
       at = unread-at (book_texts wanted texts ++ bind_read (bind_text wanted texts)) h.file h.error first.text first.text_is first.refused first.earlier
 
       go : IsUnreadableEnd wanted h.file h.error last → PerformsBy NoSession (RunWork wanted texts) old new last
-      go (inl (name, there, stops)) =
+      go (name, there, stops) =
           let same : at.text.name ≡ name = one-name wanted.books wanted.bind h.file at.text.name name (names-at wanted.books wanted.bind wanted.answers texts names h.file at.text at.there) there in
           at-trees wanted texts (Err last) old new last (read-more (book_texts wanted texts) (bind_text wanted texts) last (at.ends last (stops ∙ ap (λ (n : Text). tree_or_end n (Err h.error)) (sym same))))
           (subst (λ (s : SiteView). PerformsBy NoSession (Judged wanted texts (Err last)) old s last) (sym h.same) (says-end last old))
-      go (inr memory) = memory-as wanted texts old new last h.same memory
 
   books-trees : (trees : List Data) → AreTreesOf parts.books.items trees → Treeless (book_texts wanted texts) → ⊥
   books-trees trees are t = has-no-treeless (book_texts wanted texts) trees (subst (λ (xs : List Text). AreTreesOf xs trees) books-are are) t

@@ -6,8 +6,8 @@ use Rattle.cacao_cli_words.specs.Requests.{RunRequest}
 use Rattle.cacao_cli_words.specs.Words.{Text}
 use Rattle.cacao_cli_ends.specs.Asked.{runs}
 use Rattle.cacao_cli_ends.specs.Files.{File, Files, NamedText, Reads, all_read, wants_memory, stops, goes_on, book_file, files_of, item_then, listed, run_names}
-use Rattle.cacao_cli_starts.specs.Starting.{IsStartFrom}
-use Rattle.cacao_cli_ends.specs.Work.{Start, book_texts}
+use Rattle.cacao_cli_starts.specs.Starting.{AreNamed, IsStartFrom}
+use Rattle.cacao_cli_ends.specs.Work.{Start, behind_books, book_texts, bytes_of, first_if}
 use Rattle.cacao_cli_starts.specs.declared.run_texts.RunTexts.{RunTexts}
 use Rattle.cacao_cli_starts.proofs.PartLemmas.{the-name}
 use Rattle.cacao_cli_looks.proofs.PerformLemmas.{files-named, nat_lt-no}
@@ -49,3 +49,10 @@ pub start-long : (wanted : RunRequest) (texts : List NamedText) (parts : RunText
 start-long wanted texts parts is many =
     let sum = length-append wanted.books (listed wanted.bind ++ listed wanted.answers) in
     ap (λ (s : Start). length s.books) is ∙ length-map (book_texts wanted texts) (λ (text : NamedText). text.bytes) ∙ length-take-le (length wanted.books) texts (omega (arith, many, sum))
+
+-- no text of bindings is there where none is named
+pub parts-named : (wanted : RunRequest) (texts : List NamedText) (parts : RunTexts) → IsStartFrom wanted texts parts → length texts ≡ length (run_names wanted) → AreNamed wanted parts
+parts-named wanted texts parts is many = record {
+  books = start-long wanted texts parts is many;
+  bind = λ none. ap (λ (s : Start). s.bind) is ∙ ap (λ (bind : Option Text). bytes_of (first_if bind (behind_books wanted texts))) none;
+}

@@ -1,5 +1,5 @@
 -- Scaffold: How the code has the texts of a run, and what its parts come to before a session.
-use Rattle.std.specs.Prelude.{◌≡◌, ◌≢◌, ◌⊎◌, ℕ, ◌≤◌, List, length, [], Some, Err, IsSome, option_map, slice_get}
+use Rattle.std.specs.Prelude.{◌≡◌, ◌≢◌, ◌⊎◌, ℕ, ◌<◌, ◌≤◌, List, length, [], Some, None, Err, IsSome, option_map, slice_get}
 use Rattle.serde_json.specs.Data.{Data}
 use Rattle.cacao_json.specs.declared.error.JsonError.{JsonError}
 use Rattle.cacao_site.specs.View.{SiteView}
@@ -39,6 +39,11 @@ given_by wanted texts = record {
 abbrev pub IsStartFrom : RunRequest → List NamedText → RunTexts → Type 0
 IsStartFrom wanted texts parts = given_by wanted parts ≡ start_of wanted texts
 
+-- there are as many playbooks as are named, and no text of bindings where none is named
+pub record AreNamed (wanted : RunRequest) (texts : RunTexts) : Type 0 where
+  pub books : length texts.books.items ≡ length wanted.books
+  pub bind : wanted.bind ≡ None → texts.bind ≡ []
+
 abbrev pub answers_of : RunTexts → Text
 answers_of texts = bytes_of (option_map text_of texts.answers)
 
@@ -68,11 +73,14 @@ LacksOthers wanted texts end = IsBlankBind wanted texts (end_of end) ⊎ (HasBin
 abbrev pub IsNameAt : RunRequest → ℕ → Text → Type 0
 IsNameAt wanted file name = (slice_get wanted.books file ≡ Some name) ⊎ ((length wanted.books ≤ file) × (wanted.bind ≡ Some name))
 
--- how a call ends where the text with this number has no tree for this reason; or memory was wanted
+-- bindings are named, or the number is that of a playbook
+abbrev pub IsNumbered : RunRequest → ℕ → Type 0
+IsNumbered wanted file = wanted.bind ≡ None → file < length wanted.books
+
+-- how a call ends where the text with this number has no tree for this reason
 abbrev pub IsUnreadableEnd : RunRequest → ℕ → JsonError → End → Type 0
 IsUnreadableEnd wanted file error end =
-    ((name : Text) × IsNameAt wanted file name × (Err end ≡ tree_or_end name (Err error)))
-    ⊎ (end ≡ no_memory)
+    (name : Text) × IsNameAt wanted file name × (Err end ≡ tree_or_end name (Err error))
 
 -- a text has no tree, and nothing was done
 pub record IsUnread (wanted : RunRequest) (texts : RunTexts) (old new : SiteView) (last : End) : Type 0 where

@@ -3,7 +3,7 @@ ghost use Rattle.std.specs.Prelude.{◌≤◌, IfOk, IfErr, length};
 ghost use Rattle.flow_engine_answers.specs.Answers.{Answers as TellAnswers};
 ghost use Rattle.cacao_cli_words.specs.Commands.{run_request};
 ghost use Rattle.cacao_cli_ends.specs.Told.{end_of};
-ghost use Rattle.cacao_cli_starts.specs.Starting.{AreJudged, AreRefused, HasBind, IsNoAnswers, IsUnreadableEnd, LacksOthers, answers_of};
+ghost use Rattle.cacao_cli_starts.specs.Starting.{AreJudged, AreNamed, AreRefused, HasBind, IsNoAnswers, IsNumbered, IsUnreadableEnd, LacksOthers, answers_of};
 
 use crate::ready::Ready;
 use crate::run_texts::RunTexts;
@@ -57,6 +57,7 @@ fn others_of<'w>(
 
 /// How a call ends where the text of this number has no tree: the playbooks count from 0, and that of bindings stands behind them.
 fn unreadable_end<'w>(wanted: &RunWords<'w>, file: u32, error: JsonError) -> End<'w>
+    requires { IsNumbered (run_request wanted.now) file }
     ensures { IsUnreadableEnd (run_request wanted.entry.now) file error (end_of result) }
 {
     let books = wanted.books.as_slice();
@@ -65,7 +66,7 @@ fn unreadable_end<'w>(wanted: &RunWords<'w>, file: u32, error: JsonError) -> End
     }
     match wanted.bind {
         Some(name) => json_end(name, error),
-        None => End::NoMemory,
+        None => unreachable!(),
     }
 }
 
@@ -77,6 +78,7 @@ pub(crate) fn judge_texts<'w>(
 ) -> Result<Ready, End<'w>>
     requires some { 1 ≤ length texts.now.books.items }
     requires few { length texts.now.books.items ≤ 16 }
+    requires named { AreNamed (run_request wanted.now) texts.now }
     ensures judged { IfOk result (λ ready. AreJudged (run_request wanted.entry.now) texts.entry.now ready.setup ready.answers) }
     ensures refused { IfErr result (λ end. AreRefused (run_request wanted.entry.now) texts.entry.now (end_of end)) }
 {

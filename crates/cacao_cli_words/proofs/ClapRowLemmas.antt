@@ -11,9 +11,6 @@ use Rattle.cacao_cli_words.specs.ClapCommand.{names_id}
 pub use Rattle.cacao_cli_words.specs.ClapRows.{found, some_list, one_value, Shows, IsApart}
 use Rattle.cacao_cli_words.proofs.ClapRules.{same, bytes_eq-refl}
 
-abbrev picked : Bool → Row → Text → List Row → Option (List Text)
-picked b r x rows = if b then Some r.values else found x rows
-
 -- `all_of`, row by row
 found-cons : (x : Text) (r : Row) (rows : List Row) → found x (r ∷ rows) ≡ (if bytes_eq r.id x then Some r.values else found x rows)
 found-cons x r rows = go (bytes_eq r.id x)

@@ -116,9 +116,6 @@ option_repeats x vs rows e = or_right (range_kinds 1 1 (length vs)) (set_fault f
 pub option_wants : (x : Text) (rows : List Row) → use_fault false (option_rule x) [] rows ≢ []
 option_wants x rows = no_kinds kind.InvalidValue []
 
-pub name_fits : (v : Text) (rows : List Row) → use_fault false names_rule (v ∷ []) rows ≡ []
-name_fits v rows = refl
-
 -- ---- what is pending
 
 pub option_settles : (os : List Text) (x : Text) (vs : List Text) (rows : List Row) (k : ℕ) → is_known os x ≡ true → settle_fault (rules os) false (held rows (Some (x, vs)) k) ≡ use_fault false (option_rule x) vs rows

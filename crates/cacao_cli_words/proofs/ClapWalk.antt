@@ -142,10 +142,6 @@ not_true : (b c : Bool) → (not b || c) ≡ true → c ≡ false → b ≡ fals
 not_true true c h e = absurd (true≢false (sym h ∙ e))
 not_true false c h e = refl
 
-or_false : (b : Bool) → (b || false) ≡ b
-or_false true = refl
-or_false false = refl
-
 -- a name, at rest
 name_step : (os : List Text) → IsApart os → (w : Walk) (r : Reading) (t : Bool) (word : Text) (f : RestsAt os w r t) → begins_hyphen word ≡ false
     → turn_fault (shape os) [] (mk f.rows f.pending f.skip (resting f.is_idle) t) word ≡ settle_fault (rules os) false (held f.rows f.pending f.skip)

@@ -20,6 +20,7 @@ pub use fleet_reading::read_fleet_words;
 pub use fleet_words::FleetWords;
 pub use numbers::{Agent, Positions};
 pub use peer_words::{PeerCommand, read_peer_words};
+pub use reading::NAME_LIMIT;
 pub use run_book::RunBook;
 pub use run_words::RunWords;
 pub use words::{Command, read_words};

@@ -15,7 +15,7 @@ use clap::{Arg, ArgAction, ArgMatches, Command};
 use std::alloc::{AllocError, Global};
 
 /// The most bytes of a name or a value among the words.
-const NAME_LIMIT: usize = 1024;
+pub const NAME_LIMIT: usize = 1024;
 
 /// What stands behind the first word.
 #[derive(Drop)]

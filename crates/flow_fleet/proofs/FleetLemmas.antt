@@ -1,5 +1,5 @@
 -- Where the calls of a fleet lead, from those of one run; and what stands then.
-use Rattle.std.proofs.Common.{◌≡◌, ◌≢◌, inl, inr, ℕ, ◌+◌, ◌<◌, ◌≤◌, true, false, List, length, refl, sym, ◌∙◌, subst, ap, arith}
+use Rattle.std.proofs.Common.{◌≡◌, ◌≢◌, inl, inr, ℕ, ◌+◌, ◌<◌, ◌≤◌, true, List, length, refl, sym, ◌∙◌, subst, ap, arith}
 use Rattle.std.specs.Prelude.{Option, Some, None, Result, Ok, Err, slice_get, slice_set}
 use Rattle.cacao_site.specs.View.{SiteView}
 use Rattle.cacao_site.specs.Sound.{IsSound}
@@ -7,7 +7,6 @@ use Rattle.flow_core_rules.specs.Changes.{is_in_time}
 use Rattle.flow_engine.specs.EngineView.{EngineView}
 use Rattle.slpf_actuator.specs.ActuatorView.{ActuatorView}
 use Rattle.flow_world_steps.specs.Sides.{AllPut, AreFilters}
-use Rattle.flow_world_steps.specs.Turns.{most_ignored}
 use Rattle.flow_world_steps.specs.Worlds.{Phase, looked, rests}
 use Rattle.flow_world_steps.proofs.Filters.{get_set, ready_stays}
 use Rattle.flow_world_parts.specs.Leads.{IsAtWork}
@@ -19,7 +18,7 @@ use Rattle.flow_fleet_steps.specs.Turns.{HasLooked, IsSettled, StandsAt}
 use Rattle.flow_fleet_steps.specs.Worlds.{EachBelow, EachRun, FleetWorld, Own, Shared}
 use Rattle.flow_fleet_steps.specs.declared.close.FleetClose.{FleetClose}
 use Rattle.flow_fleet_steps.specs.declared.error.FleetError.{FleetError}
-use Rattle.flow_fleet.specs.Leads.{ClosesFrom, Counts, Did, Ended, Goes, HasBegun, IsBetweenTurns, IsWorking, Leads, LeavesRest, Refuses, RunGoes, RunRefuses, SomeGoes, Turned, at, world_of}
+use Rattle.flow_fleet.specs.Leads.{ClosesFrom, Counts, Ended, Goes, HasBegun, IsBetweenTurns, IsWorking, LeavesRest, Refuses, RunGoes, RunRefuses, SomeGoes, Turned, at, world_of}
 use Rattle.flow_fleet.specs.declared.fleet_state.Fleet.{Fleet}
 use Rattle.flow_fleet.proofs.Places.{length_set, low_place, settled_stays, stands_after}
 use Rattle.flow_fleet.proofs.RunSteps.{steps_then}
@@ -72,10 +71,6 @@ goes_to_close close so mid sn s t p q first second own notes k counts =
     let one = first own notes k counts in
     let two = second one.own one.notes one.at_place one.counts in
     record { to = two.to; steps = steps_then one.steps two.steps; left_is = two.left_is; closes = two.closes }
-
-pub then_did : {T : Type 0} (result : Result T FleetError) (so mid sn : SiteView) (s t u : Fleet) (p q : Phase) → Goes so s p mid t q → Did result mid t q sn u → Did result so s p sn u
-then_did (Ok x) so mid sn s t u p q first second = goes_on_to so mid sn s t u p q rests first second
-then_did (Err error) so mid sn s t u p q first second = goes_to_refuse error so mid sn s t p q first second
 
 pub then_turned : (result : Result (Option FleetClose) FleetError) (so mid sn : SiteView) (s t u : Fleet) (p q : Phase) → Goes so s p mid t q → Turned result mid t q sn u → Turned result so s p sn u
 then_turned (Ok None) so mid sn s t u p q first second = goes_on_to so mid sn s t u p q rests first second

@@ -7,6 +7,7 @@ pub mod FleetLemmas
 pub mod TurnLemmas
 pub mod SearchLemmas
 pub mod RecordLemmas
+pub mod DueLemmas
 pub mod ParcelLemmas
 pub mod RunsLemmas
 pub mod RunWork

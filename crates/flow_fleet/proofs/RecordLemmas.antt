@@ -34,7 +34,7 @@ use Rattle.flow_fleet.proofs.Places.{set_self}
 pub its_run : (engines : List EngineView) (place : ℕ) (v : EngineView) → place < length engines → v ≡ get_or engines place v → slice_get engines place ≡ Some v
 its_run engines place v lt is = slice_get_read engines (length engines) place v refl lt is
 
-same_run : (engines : List EngineView) (place : ℕ) (v w : EngineView) → slice_get engines place ≡ Some v → slice_get engines place ≡ Some w → v ≡ w
+pub same_run : (engines : List EngineView) (place : ℕ) (v w : EngineView) → slice_get engines place ≡ Some v → slice_get engines place ≡ Some w → v ≡ w
 same_run engines place v w here there = same_some (sym here ∙ there)
 
 module _ (so : SiteView) (s : Fleet) (place : ℕ) (v : EngineView) (there : slice_get s.engines.items place ≡ Some v) where

@@ -1,5 +1,5 @@
 -- What a look through the runs by place knows on its way.
-use Rattle.std.proofs.Common.{◌≡◌, ◌≢◌, inl, inr, ℕ, ◌+◌, ◌-◌, ◌<◌, ◌≤◌, Bool, true, false, List, length, refl, sym, ◌∙◌, subst, ap, arith}
+use Rattle.std.proofs.Common.{◌≡◌, inl, inr, ℕ, ◌+◌, ◌-◌, ◌<◌, ◌≤◌, Bool, true, false, List, length, refl, sym, ◌∙◌, subst, ap, arith}
 use Rattle.std.specs.Prelude.{Option, Some, None, MatchOption, min, nat_le, slice_get, if◌then◌else◌}
 use Rattle.std.specs.Option.{option_map_or}
 use Rattle.std.proofs.lemmas.Bool.{cases_lt}
@@ -9,9 +9,9 @@ use Rattle.flow_engine.specs.OpenIssues.{IsNextPut, IsNoLater, OpenIssues}
 use Rattle.flow_engine.specs.EngineView.{EngineView}
 use Rattle.flow_laws.proofs.Basics.{same_some}
 use Rattle.flow_world_steps.proofs.Issues.{below}
-use Rattle.flow_fleet_steps.specs.Turns.{ComesNextOf, HasMove, HasNoMove, IsLeastNext, IsTurnOf, from_to}
+use Rattle.flow_fleet_steps.specs.Turns.{ComesNextOf, HasNoMove, IsLeastNext, from_to}
 use Rattle.flow_fleet_steps.specs.Worlds.{EachBelow, EachRun}
-use Rattle.flow_fleet.specs.Searches.{IsAround, IsLesser}
+use Rattle.flow_fleet.specs.Searches.{IsLesser}
 
 module _ (engines : List EngineView) (P : ℕ → EngineView → Type 0) (n : ℕ) where
   -- those at lower places have it, and so has the next one
@@ -30,10 +30,6 @@ module _ (engines : List EngineView) (P : ℕ → EngineView → Type 0) (n : �
   pub all_have : length engines ≤ n → EachBelow n engines P → EachRun engines P
   all_have most lower k x at = lower k x (let lt = below engines k x at in omega (arith, most, lt)) at
 
--- none is at a lower place than the first
-pub none_below : (engines : List EngineView) (P : ℕ → EngineView → Type 0) → EachBelow 0 engines P
-none_below engines P k x lt at = absurd (omega (arith, lt))
-
 -- ---- around the circle
 
 le_true : (a b : ℕ) → a ≤ b → nat_le a b ≡ true
@@ -48,26 +44,6 @@ from_far n turn k h = ap (λ (b : Bool). if b then k - turn else k + n - turn) (
 from_near : (n turn k : ℕ) → k < turn → from_to n turn k ≡ k + n - turn
 from_near n turn k h = ap (λ (b : Bool). if b then k - turn else k + n - turn) (le_false turn k h)
 
-module _ (n turn back place : ℕ) (turns : turn < n) (less : back < n) (is : IsAround n turn back place) where
-  pub around_low : place < n
-  around_low = elim (cases_lt (turn + back) n) [
-    | inl lt ↦ let e = is.low lt in omega (arith, e, lt)
-    | inr ge ↦ let e = is.high ge in omega (arith, e, turns, less)
-  ]
-
-  pub around_far : from_to n turn place ≡ back
-  around_far = elim (cases_lt (turn + back) n) [
-    | inl lt ↦ let e = is.low lt in from_far n turn place (omega (arith, e)) ∙ omega (arith, e)
-    | inr ge ↦ let e = is.high ge in from_near n turn place (omega (arith, e, less)) ∙ omega (arith, e, turns)
-  ]
-
-  -- there is no other
-  pub around_one : (k : ℕ) → k < n → from_to n turn k ≡ back → k ≡ place
-  around_one k lt far = elim (cases_lt k turn) [
-    | inl near ↦ let e : k + n - turn ≡ back = sym (from_near n turn k near) ∙ far in let f = is.high (omega (arith, e, turns)) in omega (arith, e, f, turns)
-    | inr beyond ↦ let e : k - turn ≡ back = sym (from_far n turn k beyond) ∙ far in let f = is.low (omega (arith, e, beyond, lt)) in omega (arith, e, f, beyond)
-  ]
-
 pub from_few : (n turn k : ℕ) → turn < n → k < n → from_to n turn k < n
 from_few n turn k turns lt = elim (cases_lt k turn) [
   | inl near ↦ let e = from_near n turn k near in omega (arith, e, near, lt, turns)
@@ -78,29 +54,8 @@ from_few n turn k turns lt = elim (cases_lt k turn) [
 abbrev pub HasNoneNear : List EngineView → ℕ → ℕ → ℕ → Type 0
 HasNoneNear engines turn now back = (other : ℕ) → from_to (length engines) turn other < back → (x : EngineView) → slice_get engines other ≡ Some x → HasNoMove now x
 
-pub near_next : (engines : List EngineView) (turn now back place : ℕ) (v : EngineView) → turn < length engines → back < length engines → IsAround (length engines) turn back place → slice_get engines place ≡ Some v
-    → HasNoMove now v → HasNoneNear engines turn now back → HasNoneNear engines turn now (back + 1)
-near_next engines turn now back place v turns less is there none near other lt x at = elim (cases_lt (from_to (length engines) turn other) back) [
-  | inl nearer ↦ near other nearer x at
-  | inr ge ↦ here (around_one (length engines) turn back place turns less is other (below engines other x at) (omega (arith, lt, ge)))
-]
-  where
-    here : other ≡ place → HasNoMove now x
-    here e =
-        let same : v ≡ x = same_some (sym there ∙ subst (λ (m : ℕ). slice_get engines m ≡ Some x) e at) in
-        subst (λ (z : EngineView). HasNoMove now z) same none
-
 pub near_all : (engines : List EngineView) (turn now back : ℕ) → turn < length engines → length engines ≤ back → HasNoneNear engines turn now back → EachRun engines (λ place. HasNoMove now)
 near_all engines turn now back turns most near k x at = near k (let few = from_few (length engines) turn k turns (below engines k x at) in omega (arith, few, most)) x at
-
-pub near_turn : (engines : List EngineView) (turn now back place : ℕ) (v : EngineView) → turn < length engines → back < length engines → IsAround (length engines) turn back place → slice_get engines place ≡ Some v
-    → HasMove now v → HasNoneNear engines turn now back → IsTurnOf engines turn now place
-near_turn engines turn now back place v turns less is there has near = record {
-  v = v;
-  there = there;
-  has = has;
-  first = λ other lt x at. near other (let far = around_far (length engines) turn back place turns less is in omega (arith, far, lt)) x at;
-}
 
 -- ---- what comes next
 

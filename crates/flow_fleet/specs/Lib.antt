@@ -1,3 +1,4 @@
+pub mod Dues
 pub mod Fleets
 pub mod Journals
 pub mod Leads

@@ -1,6 +1,7 @@
 //! A fleet: runs side by side over the same filters, each with a journal of its own on a rack of files.
 #![tactic(auto)]
 
+mod due;
 mod fleet_state;
 mod opening;
 mod parcels;

@@ -10,21 +10,8 @@ use crate::fleet_state::Fleet;
 use cacao_site::{Parcel, Rack};
 use flow_core::LimitKind;
 use flow_fleet_steps::{FleetClose, FleetError};
+use flow_world_parts::turns::{MOST_IGNORED, is_addressed};
 use slpf_actuator::ActError;
-
-/// The most parcels of a fleet that change no journal.
-const MOST_IGNORED: u32 = 1_000_000;
-
-/// The most bytes of a parcel that is handed on.
-const MOST_BYTES: usize = 1_048_576;
-
-/// Whether a parcel is for an agent 1 to 16, and has at most 1,048,576 bytes.
-fn is_addressed(parcel: &Parcel) -> bool
-    ensures yes { result ≡ true → IsAddressed parcel.now }
-    ensures no { result ≡ false → IsAddressed parcel.now → ⊥ }
-{
-    1 <= parcel.agent && parcel.agent <= 16 && parcel.bytes.as_slice().len() <= MOST_BYTES
-}
 
 /// The refusal of a fleet one of whose filters refused a command.
 fn of_filter(error: ActError) -> FleetError

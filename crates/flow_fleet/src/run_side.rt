@@ -1,6 +1,5 @@
 // What a fleet does with one of its engines. These functions know nothing of the other runs, nor of the filters.
 ghost use Rattle.std.specs.Prelude.{◌≡◌, ◌≢◌, ◌+◌, ◌≤◌, ◌++◌, ℕ, [], None, Some, true, false, Ok, OnOk, IfErr, IfOk};
-ghost use Rattle.std.specs.Fmt.{decimal};
 ghost use Rattle.run_records.specs.Ranges.{last_moment};
 ghost use Rattle.oc2_msg.specs.declared.answers.Answer.{Answer};
 ghost use Rattle.base_dues.specs.Pairs.{IsFirstBy};
@@ -19,35 +18,19 @@ ghost use Rattle.flow_world_parts.specs.Errors.{MayRefuseAppend, append_refusal}
 ghost use Rattle.flow_fleet.specs.Leads.{Below, IsNumberedLine, LeavesRest, MayAppend, MayExpire, MayMove, MayResend, Owing, RunDid, RunTried, next_turn, same_turn};
 
 use crate::seen::{expire_at, reply_at, send_at, start_at, step_at};
+use base_lines::{add, add_decimal};
 use cacao_site::{Parcel, Rack};
 use flow_engine::{Engine, EngineError};
 use flow_fleet_steps::FleetError;
 use flow_world_parts::error::of_append;
-use itoa::Buffer;
 use std::alloc::{AllocError, Global};
-
-/// Adds a text.
-fn add(out: &mut Vec<u8>, text: &[u8]) -> Result<(), AllocError>
-    ensures { OnOk result (out.new.items ≡ out.old.items ++ text.now) }
-{
-    out.extend_from_slice(text)?;
-    Ok(())
-}
-
-/// Adds a number in decimal.
-fn add_number(out: &mut Vec<u8>, number: u64) -> Result<(), AllocError>
-    ensures { OnOk result (out.new.items ≡ out.old.items ++ decimal number) }
-{
-    let mut buffer = Buffer::new();
-    add(out, buffer.format(number).as_bytes())
-}
 
 /// A line with the number of its run before it, and a space.
 fn numbered(alloc: Global, run: u64, line: &[u8]) -> Result<Vec<u8>, AllocError>
     ensures { IfOk result (λ text. text.items ≡ head_of run ++ line.now) }
 {
     let mut text = Vec::new(alloc);
-    add_number(&mut text, run)?;
+    add_decimal(&mut text, run)?;
     add(&mut text, b" ")?;
     add(&mut text, line)?;
     Ok(text)

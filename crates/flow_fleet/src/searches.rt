@@ -1,16 +1,16 @@
 // What a fleet looks for among its runs, by place.
-ghost use Rattle.std.specs.Prelude.{◌≡◌, ◌≢◌, ◌+◌, ◌<◌, ◌≤◌, length, MatchOption, Some, None, [], false, true};
+ghost use Rattle.std.specs.Prelude.{◌≡◌, ◌≢◌, ◌+◌, ◌<◌, ◌≤◌, length, MatchOption, Some, None, [], false};
 ghost use Rattle.flow_core_rules.specs.Changes.{outcome};
 ghost use Rattle.flow_core_rules.specs.Moves.{asks, due};
 ghost use Rattle.flow_engine.specs.OpenIssues.{IsNextPut};
 ghost use Rattle.flow_world_parts.specs.Openings.{IsFirstRunAt};
-ghost use Rattle.flow_fleet_steps.specs.Turns.{ComesNextOf, HasMove, HasNoMove, HasNoneOverdue, HasNoResend, IsLeastNext, IsTurnOf, last_of};
+ghost use Rattle.flow_fleet_steps.specs.Turns.{ComesNextOf, HasNoMove, HasNoneOverdue, HasNoResend, IsLeastNext, IsTurnOf, last_of};
 ghost use Rattle.flow_fleet_steps.specs.Worlds.{EachRun};
 ghost use Rattle.flow_fleet.specs.Searches.{FailedFirst, GoesOnHere, IsAround, IsFirstAsked, IsFirstOverdue, IsFirstResend, IsFirstUsed, IsLesser, IsUnusedBy};
 
 use flow_engine::Engine;
 use flow_world_parts::Filters;
-use flow_world_parts::moves::soonest;
+use flow_world_parts::due::{has_move, soonest};
 
 /// The place that is so far behind the turn, once around the circle.
 fn around(turn: u8, back: u8, count: u8) -> u8
@@ -23,14 +23,6 @@ fn around(turn: u8, back: u8, count: u8) -> u8
         return turn + back;
     }
     turn + back - count
-}
-
-/// Whether a move of the run is enabled at this moment.
-fn has_move(engine: &Engine, now: u64) -> bool
-    ensures has { result ≡ true → HasMove now engine.now }
-    ensures none { result ≡ false → HasNoMove now engine.now }
-{
-    engine.flow().enabled(now).is_some()
 }
 
 /// The first place, around the circle from the turn on, whose run has a move at this moment.

@@ -33,10 +33,6 @@ keeps-seen place keeps = record {
   faults = keeps.faults;
 }
 
--- which file of the rack it is, by cases
-own_file : (place : ℕ) → rack_file place 0 ≡ file_of place
-own_file place = refl
-
 moved_file : (place file : ℕ) → (file == 0) ≡ false → (file == file_of place) ≡ true → rack_file place file ≡ 0
 moved_file place file a b = ap (λ (x : Bool). if x then file_of place else if file == file_of place then 0 else file) a ∙ ap (λ (x : Bool). if x then 0 else file) b
 

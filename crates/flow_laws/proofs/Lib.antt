@@ -9,7 +9,6 @@ pub mod Again
 pub mod Blank
 pub mod Fresh
 pub mod Calls
-pub mod Written
 pub mod Needed
 pub mod Foreign
 pub mod Sites

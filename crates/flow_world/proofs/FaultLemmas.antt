@@ -14,7 +14,7 @@ use Rattle.flow_world_parts.specs.Errors.{opening_refusal}
 use Rattle.flow_world_parts.specs.Openings.{AreOpen, RefusesOpening}
 use Rattle.flow_world_parts.specs.declared.error.WorldError.{WorldError}
 use Rattle.flow_world_parts.specs.declared.error.WorldError.TheVariants as error
-use Rattle.flow_world.specs.Sessions.{HasRefused, Went}
+use Rattle.flow_world.specs.Sessions.{HasRefused}
 
 -- ---- the causes of refusals once the files are open
 
@@ -81,11 +81,6 @@ module _ (given : Given) (run : ℕ) (old new : SiteView) where
 -- ---- the session
 
 module _ (given : Given) (run most : ℕ) (answers : List OperatorAnswer) (old new : SiteView) where
-  pub went-faults : Went given run most answers old new → old.disk.faults ≤ new.disk.faults
-  went-faults h =
-      let last : h.to.site.disk.faults ≡ new.disk.faults = ap (λ (s : SiteView). s.disk.faults) h.to_is in
-      omega (arith, open-faults given run old new h.start h.files, h.cause.faults, last)
-
   -- where a line could not be said, the count of such lines rose
   pub refuses-unsaid : HasRefused error.Say given run most answers old new → Rose old.counts.unsaid new.counts.unsaid
   refuses-unsaid (inl o) = absurd (refused-say given run old new o)

@@ -1,4 +1,5 @@
 pub mod ActSteps
+pub mod DueSteps
 pub mod EngineSide
 pub mod EngineSteps
 pub mod FilterSteps

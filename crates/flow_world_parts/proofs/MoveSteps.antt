@@ -28,6 +28,7 @@ use Rattle.flow_world_steps.specs.Worlds.{Notes, looked, owes, rests}
 use Rattle.flow_world_steps.proofs.AllPuts.{all_stay_put, put_after}
 use Rattle.flow_world_steps.proofs.Issues.{below, is_put_of, puts_were}
 use Rattle.flow_world_steps.proofs.Timely.{in_time_after, in_time_bounds}
+use Rattle.flow_world_parts.specs.Dues.{IsToUpgrade}
 use Rattle.flow_world_parts.specs.Errors.{append_refusal}
 use Rattle.flow_world_parts.specs.Leads.{AnyNotes, ArePutBelow, EngineDid, EngineGoes, EngineRefuses, IsAtWork, MayAnswer, WhereLooked, at}
 use Rattle.flow_world_parts.specs.declared.error.WorldError.{WorldError}
@@ -125,10 +126,9 @@ module _ (answers : List OperatorAnswer) (so : SiteView) (v : EngineView) where
   try_move now sound work is = subst (λ (n : ℕ). IsTry (MayAnswer answers) (IsMove v.history n) so v looked) (sym is)
       (λ filters notes given new tries. moves (record { has_looked = looks filters notes sound work given; tries = tries }))
 
-  pub try_upgrade : (issue now : ℕ) (told : OperatorAnswer) → WhereLooked (λ w. IsToBeTold w issue told) answers so v → v.history.seen.lists.is_upgraded ≡ false → now ≡ so.clock.now
-      → IsTry (MayAnswer answers) (Is (entry.Upgrade 2 now)) so v looked
-  try_upgrade issue now told to_be earlier is = subst (λ (n : ℕ). IsTry (MayAnswer answers) (Is (entry.Upgrade 2 n)) so v looked) (sym is)
-      (λ filters notes given new tries. upgrades issue told (record { to_be_told = to_be filters notes given; earlier = earlier; tries = tries }))
+  pub try_upgrade : (now : ℕ) → WhereLooked IsToUpgrade answers so v → now ≡ so.clock.now → IsTry (MayAnswer answers) (Is (entry.Upgrade 2 now)) so v looked
+  try_upgrade now due is = subst (λ (n : ℕ). IsTry (MayAnswer answers) (Is (entry.Upgrade 2 n)) so v looked) (sym is)
+      (λ filters notes given new tries. let it = due filters notes given in upgrades it.issue it.told (record { to_be_told = it.to_be_told; earlier = it.earlier; tries = tries }))
 
   pub try_told : (now : ℕ) (told : OperatorAnswer) → WhereLooked (λ w. IsToBeTold w told.issue told) answers so v → v.history.seen.lists.is_upgraded ≡ true → now ≡ so.clock.now
       → IsTry (MayAnswer answers) (Is (entry.Told told.issue now told.status told.text)) so v looked

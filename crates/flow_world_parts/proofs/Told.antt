@@ -57,7 +57,7 @@ not_found answers issue told none is = not_at issue told is.of_issue answers is.
 
 -- ---- what it is in a turn
 
-told_of : (v : EngineView) (site : SiteView) (filters : List ActuatorView) (notes : Notes) (answers : List OperatorAnswer) (issue : ℕ) (told : OperatorAnswer) → notes.answers ≡ answers
+pub told_of : (v : EngineView) (site : SiteView) (filters : List ActuatorView) (notes : Notes) (answers : List OperatorAnswer) (issue : ℕ) (told : OperatorAnswer) → notes.answers ≡ answers
     → HasAnswer (at site v filters notes looked) issue told → IsTold v answers issue
 told_of v site filters notes answers issue told are has =
     let is = found_is answers issue told (ap (λ (l : List OperatorAnswer). answer_for l issue) (sym are) ∙ has.first) in
@@ -95,15 +95,6 @@ IsLeastOf v answers n (Some issue) =
     IsTold v answers issue × ((k : ℕ) (told : OperatorAnswer) → k < n → slice_index_or answers k told ≡ told → IsWaitingFor v told.issue → issue ≤ told.issue)
 
 module _ (v : EngineView) (answers : List OperatorAnswer) where
-  pub least_of_all : (o : Option ℕ) → IsLeastOf v answers (length answers) o → IsLeastTold v answers o
-  least_of_all None none = λ issue is. none is.has.0 is.told is.has.1 is.has.2 (subst (λ (n : ℕ). IsWaitingFor v n) (sym is.of_issue) is.waiting)
-  least_of_all (Some issue) least = (least.0, λ lower lt is. absurd (apart lower lt is))
-    where
-      apart : (lower : ℕ) → lower < issue → IsTold v answers lower → ⊥
-      apart lower lt is =
-          let le = least.1 is.has.0 is.told is.has.1 is.has.2 (subst (λ (n : ℕ). IsWaitingFor v n) (sym is.of_issue) is.waiting) in
-          absurd (omega (arith, le, lt, is.of_issue))
-
   module _ (n : ℕ) (x : OperatorAnswer) (in_ : n < length answers) (there : slice_index_or answers n x ≡ x) where
     -- one among one more is among the others, or it is this one
     which : (k : ℕ) (told : OperatorAnswer) → k < n + 1 → slice_index_or answers k told ≡ told → (k < n) ⊎ (x ≡ told)

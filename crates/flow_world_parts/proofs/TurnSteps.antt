@@ -1,11 +1,9 @@
 -- Turns of a session.
-use Rattle.std.proofs.Common.{◌≡◌, ◌<◌, ◌≤◌, List, sym, subst, ap, arith}
+use Rattle.std.proofs.Common.{◌≡◌, ◌<◌, ◌≤◌, List, subst, arith}
 use Rattle.std.specs.Prelude.{Option, None, Result, Ok}
 use Rattle.cacao_site.specs.View.{SiteView}
 use Rattle.flow_world_steps.specs.SetupLaws.{AcceptedIsRunnable}
 use Rattle.flow_engine_answers.specs.declared.answers.OperatorAnswer.{OperatorAnswer}
-use Rattle.flow_world_steps.specs.EngineView.{EngineView}
-use Rattle.flow_core_rules.specs.Moves.{enabled_move}
 use Rattle.flow_world_steps.specs.Sides.{AllPut}
 use Rattle.flow_world_steps.specs.Spent.{most_spent, place}
 use Rattle.flow_world_steps.specs.Worlds.{Phase, rests}
@@ -18,17 +16,6 @@ use Rattle.flow_world_parts.specs.declared.close.Close.{Close}
 use Rattle.flow_world_parts.specs.declared.error.WorldError.{WorldError}
 use Rattle.flow_world_parts.specs.declared.turns.Session.{Session}
 use Rattle.flow_world_parts.proofs.Standing.{sample, sample_counts}
-
--- ---- where nothing changed
-
-pub same_session : (s : Session) (v : EngineView) → v ≡ s.engine → ◌≡◌ {A = Session} (record s { engine = v }) s
-same_session s v e = ap (λ (x : EngineView). let t : Session = record s { engine = x } in t) e
-
-pub turned_same : (result : Result (Option Close) WorldError) (answers : List OperatorAnswer) (s t u : Session) (so mid sn : SiteView) (p : Phase) → t ≡ s → mid ≡ so → Turned result answers mid t p sn u → Turned result answers so s p sn u
-turned_same result answers s t u so mid sn p same stays is = subst (λ (x : SiteView). Turned result answers x s p sn u) stays (subst (λ (x : Session). Turned result answers mid x p sn u) same is)
-
-pub idle_same : (v w : EngineView) (so sn : SiteView) → w ≡ v → sn ≡ so → enabled_move v.history.seen so.clock.now ≡ None → enabled_move w.history.seen sn.clock.now ≡ None
-idle_same v w so sn same stays is = subst (λ (x : SiteView). enabled_move w.history.seen x.clock.now ≡ None) (sym stays) (subst (λ (x : EngineView). enabled_move x.history.seen so.clock.now ≡ None) (sym same) is)
 
 -- ---- what a turn uses up
 

@@ -1,7 +1,6 @@
 -- Where the questions to the clock lead, and how a session closes.
-use Rattle.std.proofs.Common.{◌≡◌, ◌≢◌, ◌⊎◌, inl, inr, ℕ, ◌<◌, ◌≤◌, Bool, true, false, nat_lt, ◌==◌, not, List, [], ◌∷◌, length, refl, sym, ◌∙◌, subst, ap, arith, min}
-use Rattle.std.specs.Prelude.{Option, Some, None, Any, MatchOption, IfSome, IsSome, Result, Ok, Err, if◌then◌else◌}
-use Rattle.std.specs.Option.{option_map_or}
+use Rattle.std.proofs.Common.{◌≡◌, ◌≢◌, ◌⊎◌, inl, inr, ℕ, ◌<◌, ◌≤◌, Bool, true, false, nat_lt, ◌==◌, not, List, [], ◌∷◌, length, refl, sym, ◌∙◌, subst, ap, arith}
+use Rattle.std.specs.Prelude.{Option, Some, None, Any, MatchOption, IsSome, Result, Ok, Err, if◌then◌else◌}
 use Rattle.std.proofs.lemmas.Bool.Decides.{nat_tests}
 use Rattle.cacao_site.specs.SiteCalls.{Reaches}
 use Rattle.cacao_site.specs.Sound.{IsSound}
@@ -12,7 +11,6 @@ use Rattle.run_records.specs.declared.record.Record.{Record}
 use Rattle.flow_world_steps.specs.LimitKind.TheVariants as limit
 use Rattle.flow_engine_answers.specs.declared.answers.OperatorAnswer.{OperatorAnswer}
 use Rattle.flow_world_steps.specs.EngineView.{EngineView}
-use Rattle.flow_world_steps.specs.OpenIssues.{IsNextPut}
 use Rattle.flow_core_rules.specs.Changes.{is_in_time, outcome}
 use Rattle.flow_core_rules.specs.Moves.{asks, due, enabled_move}
 use Rattle.flow_core_rules.specs.Sane.{IsNotStuck}
@@ -23,11 +21,12 @@ use Rattle.flow_world_steps.specs.Steps.{GoesTowards, Step, Steps, after_reach, 
 use Rattle.flow_world_steps.specs.Steps.Step.{asks_clock, finds_late, opens_clock, finds_run_used}
 use Rattle.flow_world_steps.specs.Steps.Steps.{nothing, and_then}
 use Rattle.flow_world_steps.proofs.Timely.{in_time_bounds, in_time_later}
-use Rattle.flow_world_steps.specs.Turns.{ComesNext, IsIdle, IsOnTime}
+use Rattle.flow_world_steps.specs.Turns.{ComesNext}
 use Rattle.flow_world_steps.specs.Worlds.{Notes, Phase, World, looked, opened, past, refused, rests, run_used, waits}
 use Rattle.flow_world_parts.specs.Clock.{FallsShort, IsReached, IsTooLate}
 use Rattle.flow_world_parts.specs.Closes.{IsAtTurn}
-use Rattle.flow_world_parts.specs.Leads.{ClosesAt, ClosesFrom, Counts, Ended, EndedAt, Goes, IsAtWork, IsBetweenTurns, IsNewTo, IsWorking, Refuses, RefusesAt, WhereLooked, at, world_of}
+use Rattle.flow_world_parts.specs.Dues.{IsToAsk}
+use Rattle.flow_world_parts.specs.Leads.{ClosesAt, ClosesFrom, Counts, Ended, EndedAt, Goes, IsBetweenTurns, IsNewTo, IsWorking, Refuses, RefusesAt, WhereLooked, at, world_of}
 use Rattle.flow_world_parts.specs.Openings.{HasRunAt, IsFirstRunAt}
 use Rattle.flow_world_parts.specs.declared.close.Close.{Close}
 use Rattle.flow_world_parts.specs.declared.close.Close.TheVariants as close
@@ -36,7 +35,7 @@ use Rattle.flow_world_parts.specs.declared.error.WorldError.TheVariants as error
 use Rattle.flow_world_parts.specs.declared.turns.Session.{Session}
 use Rattle.flow_world_parts.proofs.EngineSteps.{steps_then}
 use Rattle.flow_world_parts.proofs.SessionSteps.{may_answer}
-use Rattle.flow_world_parts.proofs.Standing.{filters_stay, sample, whole_stays}
+use Rattle.flow_world_parts.proofs.Standing.{filters_stay, whole_stays}
 
 not_less : (a b : ℕ) → b ≤ a → nat_lt a b ≡ false
 not_less a b h = grind (arith, nat_tests)
@@ -76,24 +75,9 @@ towards so sn v filters notes p q moment now sound reaches is =
 
 -- ---- at the end of a turn
 
-module _ (answers : List OperatorAnswer) (so : SiteView) (s : Session) (resend : Option (ℕ × ℕ)) (next : ℕ) (sound : IsSound so) (some : 1 ≤ s.left) (now_is : s.now ≡ so.clock.now)
-    (on_time : WhereLooked IsOnTime answers so s.engine) (next_put : IsNextPut s.engine.puts resend) (later : IfSome resend (λ put. s.now < put.0))
-    (due_is : due s.engine.history.seen ≡ Some next)
-    (moment : ℕ) (moment_is : moment ≡ option_map_or (λ (put : ℕ × ℕ). min next put.0) resend next) where
-  later_than : IfSome resend (λ put. so.clock.now < put.0)
-  later_than = by resend later
-    where
-      by : (o : Option (ℕ × ℕ)) → IfSome o (λ put. s.now < put.0) → IfSome o (λ put. so.clock.now < put.0)
-      by None h = h
-      by (Some put) h = omega (arith, h, now_is)
-
+module _ (answers : List OperatorAnswer) (so : SiteView) (s : Session) (moment : ℕ) (sound : IsSound so) (some : 1 ≤ s.left) (comes : WhereLooked (λ w. ComesNext w moment) answers so s.engine) where
   comes_next : (notes : Notes) → Counts answers s notes → ComesNext (world_of so s notes looked) moment
-  comes_next notes counts = record {
-    up_to_date = record { on_time = on_time s.filters notes (may_answer answers s some notes counts); resend = resend; next = next_put; later = later_than };
-    at = next;
-    due_is = due_is;
-    is = moment_is;
-  }
+  comes_next notes counts = comes s.filters notes (may_answer answers s some notes counts)
 
   pub waited : (now : ℕ) (sn : SiteView) → moment ≤ last_moment → IsReached moment now so sn → Goes answers so s looked sn (record s { now = now }) rests
   waited now sn high is notes counts = record {
@@ -144,14 +128,13 @@ module _ (answers : List OperatorAnswer) (so : SiteView) (s : Session) (resend :
 
 -- ---- closes
 
--- IsUntold follows from what is on time
-pub asking : (answers : List OperatorAnswer) (so : SiteView) (s : Session) (issue : ℕ) → 1 ≤ s.left → WhereLooked IsOnTime answers so s.engine → due s.engine.history.seen ≡ None
-    → asks s.engine.history.seen ≡ Some issue → ClosesFrom (close.Asked issue) answers so s looked so
-asking answers so s issue some on_time nothing_due least notes counts = record {
+-- an operator is asked
+pub asking : (answers : List OperatorAnswer) (so : SiteView) (s : Session) (issue : ℕ) → 1 ≤ s.left → WhereLooked (λ w. IsToAsk w issue) answers so s.engine → ClosesFrom (close.Asked issue) answers so s looked so
+asking answers so s issue some due notes counts = record {
   to = world_of so s notes looked;
   steps = nothing;
   left_is = refl;
-  closes = record { untold = (on_time s.filters notes (may_answer answers s some notes counts)).untold; nothing_due = nothing_due; least = least };
+  closes = (due s.filters notes (may_answer answers s some notes counts)).asking;
 }
 
 at_turn : (answers : List OperatorAnswer) (so : SiteView) (s : Session) → IsBetweenTurns s so → (notes : Notes) → Counts answers s notes → IsAtTurn (world_of so s notes rests)
@@ -256,12 +239,12 @@ not_zero [] count e some = absurd (some refl)
 not_zero (r ∷ records) count e some = grind (arith, nat_tests)
 
 -- something is due, or an operator was asked
-pub never_stuck : (v : EngineView) (so : SiteView) (seen : Shown) (count : ℕ) → IsAtWork v so → outcome v.history.seen.lists ≡ None → enabled_move v.history.seen so.clock.now ≡ None
-    → seen ≡ v.history.seen → count ≡ length v.history.records → (not (count == 0) ≡ true → IsNotStuck seen) → due v.history.seen ≡ None → asks v.history.seen ≡ None → ⊥
-never_stuck v so seen count work goes_on idle same many not_stuck no_due no_asks =
-    let bounds = in_time_bounds v.history.seen so.clock.now work.in_time in
-    let law = subst (λ (s : Shown). IsNotStuck s) same (not_stuck (not_zero v.history.records count many work.up.begun)) in
-    one (due v.history.seen) (asks v.history.seen) no_due no_asks (law so.clock.now bounds.0 bounds.1 goes_on idle)
+pub never_stuck : (v : EngineView) (now : ℕ) (seen : Shown) (count : ℕ) → v.history.records ≢ [] → outcome v.history.seen.lists ≡ None → is_in_time v.history.seen now ≡ true
+    → enabled_move v.history.seen now ≡ None → seen ≡ v.history.seen → count ≡ length v.history.records → (not (count == 0) ≡ true → IsNotStuck seen) → due v.history.seen ≡ None → asks v.history.seen ≡ None → ⊥
+never_stuck v now seen count begun goes_on in_time idle same many not_stuck no_due no_asks =
+    let bounds = in_time_bounds v.history.seen now in_time in
+    let law = subst (λ (s : Shown). IsNotStuck s) same (not_stuck (not_zero v.history.records count many begun)) in
+    one (due v.history.seen) (asks v.history.seen) no_due no_asks (law now bounds.0 bounds.1 goes_on idle)
   where
     one : (a b : Option ℕ) → a ≡ None → b ≡ None → IsSome a ⊎ IsSome b → ⊥
     one None None e f (inl h) = let g : false ≡ true = h in cc
@@ -288,6 +271,3 @@ match_some o x A B e is = subst (λ p. MatchOption p A B) e is
 
 pub match_none : {T : Type 0} (o : Option T) (A : Type 0) (B : T → Type 0) → o ≡ None → MatchOption o A B → A
 match_none o A B e is = subst (λ p. MatchOption p A B) e is
-
-pub no_move : (answers : List OperatorAnswer) (so : SiteView) (v : EngineView) → WhereLooked IsIdle answers so v → enabled_move v.history.seen so.clock.now ≡ None
-no_move answers so v idle = (idle [] (sample answers 1 0) (record { answers_are = refl; budget = omega arith })).no_move

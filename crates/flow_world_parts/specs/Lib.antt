@@ -1,6 +1,7 @@
 pub mod Acting
 pub mod Clock
 pub mod Closes
+pub mod Dues
 pub mod Errors
 pub mod Leads
 pub mod Openings

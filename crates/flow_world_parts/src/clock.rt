@@ -6,9 +6,7 @@ ghost use Rattle.flow_world_parts.specs.Clock.{FallsShort, IsTooLate, IsReached}
 use crate::error::WorldError;
 use cacao_site::Site;
 use flow_world_steps::LimitKind;
-
-/// The last moment of a record, in milliseconds.
-pub const LAST_MOMENT: u64 = 9_000_000_000_000_000;
+use run_records::LAST_MOMENT;
 
 /// Lets time go on towards a moment: the present moment, or nothing where the clock answered less than was asked. It is refused where
 /// the present moment is past the last one.

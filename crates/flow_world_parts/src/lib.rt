@@ -4,6 +4,7 @@
 
 pub mod clock;
 pub mod close;
+pub mod due;
 pub mod engine_side;
 pub mod error;
 pub mod filters;

@@ -1,15 +1,17 @@
-// What an engine does in a turn whose take found no parcel, in this order: a move, what an operator told, an Expire, a resend.
-// The first three are true exactly where they applied; else nothing changed, and the next one is tried. `soonest` tells what the resend is.
-ghost use Rattle.std.specs.Prelude.{◌≡◌, ◌≤◌, ℕ, min, List, Some, None, true, false, Ok, OnOk};
-ghost use Rattle.std.specs.Option.{option_map_or};
+// What an engine does in a turn whose take found no parcel, once it is known what is due.
+ghost use Rattle.std.specs.Prelude.{◌≡◌, ◌≢◌, ◌≤◌, ℕ, List, Some, None, true, false, OnOk};
+ghost use Rattle.base_dues.specs.Pairs.{IsFirstBy};
 ghost use Rattle.flow_core_rules.specs.Changes.{outcome};
+ghost use Rattle.flow_core_rules.specs.Moves.{enabled_move};
 ghost use Rattle.flow_engine_answers.specs.Answers.{IsOperatorAnswer};
 ghost use Rattle.flow_engine_answers.specs.declared.answers.OperatorAnswer.{OperatorAnswer};
+ghost use Rattle.flow_world_steps.specs.EngineCalls.{put_deadline};
 ghost use Rattle.flow_world_steps.specs.OpenIssues.{IsNextPut};
 ghost use Rattle.flow_world_steps.specs.Sides.{AllPut};
 ghost use Rattle.flow_world_steps.specs.Turns.{IsIdle, IsOnTime, IsToBeTold, IsUntold};
 ghost use Rattle.flow_world_steps.specs.Worlds.{looked};
-ghost use Rattle.flow_world_parts.specs.Leads.{EngineDid, EngineTried, IsAtWork, IsLeastTold, KeepsFilters, IsWaitingFor, MayAnswer, WhereLooked};
+ghost use Rattle.flow_world_parts.specs.Dues.{IsToUpgrade};
+ghost use Rattle.flow_world_parts.specs.Leads.{EngineDid, IsAtWork, IsLeastTold, KeepsFilters, IsWaitingFor, MayAnswer, WhereLooked};
 
 use crate::engine_side::{put_first, put_issue, say_last};
 use crate::error::{WorldError, of_append};
@@ -18,13 +20,13 @@ use flow_engine_answers::{Answers, OperatorAnswer};
 use flow_world_steps::Engine;
 
 /// Appends the record of the enabled move at the present moment, says its line, and puts the command that it sends.
-pub fn move_on<S: Site>(engine: &mut Engine, site: &mut S, now: u64) -> Result<bool, WorldError>
+pub fn make_move<S: Site>(engine: &mut Engine, site: &mut S, now: u64) -> Result<(), WorldError>
     requires work { IsAtWork engine.old (S.view site.old) }
     requires now { now ≡ (S.view site.old).clock.now }
     requires put { AllPut engine.old }
-    ensures tried { (answers : List OperatorAnswer) → EngineTried result (MayAnswer answers)
-        (WhereLooked IsIdle answers (S.view site.old) engine.old) 1 (S.view site.old) engine.old looked (S.view site.new) engine.new }
-    ensures stays { result ≡ Ok false → (engine.new ≡ engine.old) × (S.view site.new ≡ S.view site.old) }
+    requires moves { enabled_move engine.old.history.seen now ≢ None }
+    ensures did { (answers : List OperatorAnswer)
+        → EngineDid result (MayAnswer answers) 1 (S.view site.old) engine.old looked (S.view site.new) engine.new }
     ensures put { OnOk result (AllPut engine.new) }
     ensures work { OnOk result (IsAtWork engine.new (S.view site.new)) }
     ensures filters { OnOk result (KeepsFilters (S.view site.old) (S.view site.new)) }
@@ -36,47 +38,23 @@ pub fn move_on<S: Site>(engine: &mut Engine, site: &mut S, now: u64) -> Result<b
     match done {
         Ok(true) => match say_last(engine, site) {
             Ok(()) => match put_first(engine, site, issues, now) {
-                Ok(()) => Ok(true),
+                Ok(()) => Ok(()),
                 Err(error) => Err(error),
             },
             Err(error) => Err(error),
         },
-        Ok(false) => Ok(false),
+        Ok(false) => unreachable!(),
         Err(error) => Err(of_append(error)),
     }
 }
 
-/// The lesser of two issues, where there are two.
-fn lesser(found: Option<u32>, issue: u32) -> u32
-    ensures { result ≡ option_map_or (min issue) found issue }
-{
-    match found {
-        Some(other) => issue.min(other),
-        None => issue,
-    }
-}
-
-/// The least issue that waits and has an answer.
-fn least_told(engine: &Engine, answers: &Answers) -> Option<u32>
-    ensures { IsLeastTold engine.now answers.now result }
-{
-    let mut least = None;
-    for told in answers.as_slice() {
-        if engine.flow().is_waiting(told.issue) {
-            least = Some(lesser(least, told.issue));
-        }
-    }
-    least
-}
-
 /// Appends the Upgrade of the run, and says its line.
-fn upgrade<S: Site>(engine: &mut Engine, site: &mut S, now: u64) -> Result<(), WorldError>
+pub fn upgrade<S: Site>(engine: &mut Engine, site: &mut S, now: u64) -> Result<(), WorldError>
     requires work { IsAtWork engine.old (S.view site.old) }
     requires now { now ≡ (S.view site.old).clock.now }
     requires goes_on { outcome engine.old.history.seen.lists ≡ None }
     requires earlier { engine.old.history.seen.lists.is_upgraded ≡ false }
-    ensures did { (answers : List OperatorAnswer) (issue : ℕ) (told : OperatorAnswer)
-        → WhereLooked (λ w. IsToBeTold w issue told) answers (S.view site.old) engine.old
+    ensures did { (answers : List OperatorAnswer) → WhereLooked IsToUpgrade answers (S.view site.old) engine.old
         → EngineDid result (MayAnswer answers) 1 (S.view site.old) engine.old looked (S.view site.new) engine.new }
     ensures put { OnOk result (AllPut engine.old → AllPut engine.new) }
     ensures work { OnOk result (IsAtWork engine.new (S.view site.new)) }
@@ -120,67 +98,52 @@ fn tell_issue<S: Site>(
     }
 }
 
-/// Takes the first answer for the least issue that waits and has one: it ends the issue, once the run is upgraded; else the Upgrade
-/// comes first.
+/// Appends the first answer for the least issue that waits and has one, and says its line.
 pub fn tell<S: Site>(
     engine: &mut Engine,
     site: &mut S,
     answers: &Answers,
+    issue: u32,
     now: u64,
-) -> Result<bool, WorldError>
+) -> Result<(), WorldError>
     requires work { IsAtWork engine.old (S.view site.old) }
     requires now { now ≡ (S.view site.old).clock.now }
-    requires goes_on { outcome engine.old.history.seen.lists ≡ None }
     requires idle { WhereLooked IsIdle answers.now (S.view site.old) engine.old }
-    ensures tried { EngineTried result (MayAnswer answers.now) (WhereLooked IsUntold answers.now (S.view site.old) engine.old) 1
-        (S.view site.old) engine.old looked (S.view site.new) engine.new }
-    ensures stays { result ≡ Ok false → (engine.new ≡ engine.old) × (S.view site.new ≡ S.view site.old) }
+    requires least { IsLeastTold engine.old answers.now (Some issue) }
+    requires upgraded { engine.old.history.seen.lists.is_upgraded ≡ true }
+    ensures did { EngineDid result (MayAnswer answers.now) 1 (S.view site.old) engine.old looked (S.view site.new) engine.new }
     ensures put { OnOk result (AllPut engine.old → AllPut engine.new) }
     ensures work { OnOk result (IsAtWork engine.new (S.view site.new)) }
     ensures filters { OnOk result (KeepsFilters (S.view site.old) (S.view site.new)) }
     ensures now { OnOk result ((S.view site.new).clock.now ≡ (S.view site.old).clock.now) }
 {
-    let Some(issue) = least_told(engine, answers) else {
-        return Ok(false);
-    };
     let Some(told) = answers.first(issue) else {
-        return Ok(false);
+        unreachable!()
     };
-    if !engine.flow().is_upgraded() {
-        return match upgrade(engine, site, now) {
-            Ok(()) => Ok(true),
-            Err(error) => Err(error),
-        };
-    }
-    match tell_issue(engine, site, told, now) {
-        Ok(()) => Ok(true),
-        Err(error) => Err(error),
-    }
+    tell_issue(engine, site, told, now)
 }
 
 /// Appends the Expire of the least issue that was put and is at or past its deadline, and says its line.
-pub fn expire<S: Site>(engine: &mut Engine, site: &mut S, now: u64) -> Result<bool, WorldError>
+pub fn expire<S: Site>(
+    engine: &mut Engine,
+    site: &mut S,
+    issue: u32,
+    now: u64,
+) -> Result<(), WorldError>
     requires work { IsAtWork engine.old (S.view site.old) }
     requires now { now ≡ (S.view site.old).clock.now }
-    ensures tried { (answers : List OperatorAnswer) → WhereLooked IsUntold answers (S.view site.old) engine.old
-        → EngineTried result (MayAnswer answers) (WhereLooked IsOnTime answers (S.view site.old) engine.old) 1
-        (S.view site.old) engine.old looked (S.view site.new) engine.new }
-    ensures stays { result ≡ Ok false → (engine.new ≡ engine.old) × (S.view site.new ≡ S.view site.old) }
+    requires overdue { IsFirstBy now (put_deadline engine.old) (Some issue) }
+    ensures did { (answers : List OperatorAnswer) → WhereLooked IsUntold answers (S.view site.old) engine.old
+        → EngineDid result (MayAnswer answers) 1 (S.view site.old) engine.old looked (S.view site.new) engine.new }
     ensures put { OnOk result (AllPut engine.old → AllPut engine.new) }
     ensures work { OnOk result (IsAtWork engine.new (S.view site.new)) }
     ensures filters { OnOk result (KeepsFilters (S.view site.old) (S.view site.new)) }
     ensures now { OnOk result ((S.view site.new).clock.now ≡ (S.view site.old).clock.now) }
 {
-    let Some(issue) = engine.overdue(now) else {
-        return Ok(false);
-    };
     let done = engine.expire(site, issue, now);
     engine.law();
     match done {
-        Ok(()) => match say_last(engine, site) {
-            Ok(()) => Ok(true),
-            Err(error) => Err(error),
-        },
+        Ok(()) => say_last(engine, site),
         Err(error) => Err(of_append(error)),
     }
 }
@@ -189,14 +152,12 @@ pub fn expire<S: Site>(engine: &mut Engine, site: &mut S, now: u64) -> Result<bo
 pub fn resend<S: Site>(
     engine: &mut Engine,
     site: &mut S,
-    moment: u64,
     issue: u32,
     now: u64,
 ) -> Result<(), WorldError>
     requires work { IsAtWork engine.old (S.view site.old) }
     requires now { now ≡ (S.view site.old).clock.now }
-    requires next { IsNextPut engine.old.puts (Some (moment, issue)) }
-    requires come { moment ≤ now }
+    requires next { (moment : ℕ) × IsNextPut engine.old.puts (Some (moment, issue)) × (moment ≤ now) }
     ensures did { (answers : List OperatorAnswer) → WhereLooked IsOnTime answers (S.view site.old) engine.old
         → EngineDid result (MayAnswer answers) 0 (S.view site.old) engine.old looked (S.view site.new) engine.new }
     ensures put { OnOk result (AllPut engine.old → AllPut engine.new) }
@@ -206,14 +167,4 @@ pub fn resend<S: Site>(
 {
     engine.law();
     put_issue(engine, site, issue, now)
-}
-
-/// What comes next: the lesser of what is due and the next resend.
-pub fn soonest(due: u64, resend: Option<(u64, u32)>) -> u64
-    ensures { result ≡ option_map_or (λ next. min due next.0) resend due }
-{
-    match resend {
-        Some((moment, _)) => due.min(moment),
-        None => due,
-    }
 }

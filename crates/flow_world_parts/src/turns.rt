@@ -1,29 +1,34 @@
 // A session between its calls.
-ghost use Rattle.std.specs.Prelude.{◌≡◌, ◌+◌, ◌<◌, ◌≤◌, ℕ, List, [], length, Some, None, true, false, Ok, OnOk, IfSome};
+ghost use Rattle.std.specs.Prelude.{◌≡◌, ◌≢◌, ◌+◌, ◌<◌, ◌≤◌, ℕ, List, [], length, Some, None, true, false, Ok, OnOk};
+ghost use Rattle.base_dues.specs.Pairs.{IsFirstBy};
 ghost use Rattle.run_records.specs.Ranges.{last_moment};
 ghost use Rattle.flow_core_rules.specs.Changes.{outcome};
 ghost use Rattle.flow_core_rules.specs.Moves.{enabled_move};
 ghost use Rattle.flow_engine_answers.specs.declared.answers.OperatorAnswer.{OperatorAnswer};
+ghost use Rattle.flow_world_steps.specs.EngineCalls.{put_deadline};
 ghost use Rattle.flow_world_steps.specs.OpenIssues.{IsNextPut};
 ghost use Rattle.flow_world_steps.specs.Sides.{AllPut, FiltersReady, IsWhole};
 ghost use Rattle.flow_world_steps.specs.Steps.{IsAddressed};
-ghost use Rattle.flow_world_steps.specs.Turns.{IsIdle, IsOnTime, IsUntold, most_ignored};
+ghost use Rattle.flow_world_steps.specs.Turns.{ComesNext, IsIdle, IsOnTime, IsUntold, most_ignored};
 ghost use Rattle.flow_world_steps.specs.Worlds.{holds, looked, rests};
-ghost use Rattle.flow_world_parts.specs.Leads.{Did, Ended, IsBetweenTurns, IsWorking, Turned, WhereLooked};
+ghost use Rattle.flow_world_parts.specs.Dues.{IsToUpgrade};
+ghost use Rattle.flow_world_parts.specs.Leads.{Did, Ended, IsBetweenTurns, IsLeastTold, IsWorking, Turned, WhereLooked};
 ghost use Rattle.flow_world_parts.specs.Used.{used};
 
-use crate::clock::{LAST_MOMENT, reach};
+use crate::clock::reach;
 use crate::close::Close;
+use crate::due::{Due, first_due};
 use crate::engine_side::{begin, put_waiting, take_reply};
 use crate::error::WorldError;
 use crate::filters::Filters;
-use crate::moves::{expire, move_on, resend, soonest, tell};
+use crate::moves::{expire, make_move, resend, tell, upgrade};
 use cacao_site::{Parcel, Site};
 use flow_engine_answers::Answers;
 use flow_world_steps::{Engine, LimitKind, accepted_is_runnable};
+use run_records::LAST_MOMENT;
 
-/// The most parcels of a session that change neither journal.
-const MOST_IGNORED: u32 = 1_000_000;
+/// The most parcels of a session, or of a fleet, that change no journal.
+pub const MOST_IGNORED: u32 = 1_000_000;
 
 /// The most bytes of a parcel that is handed on.
 const MOST_BYTES: usize = 1_048_576;
@@ -42,7 +47,7 @@ pub struct Session {
 }
 
 /// Whether a parcel is for an agent 1 to 16, and has at most 1,048,576 bytes.
-fn is_addressed(parcel: &Parcel) -> bool
+pub fn is_addressed(parcel: &Parcel) -> bool
     ensures yes { result ≡ true → IsAddressed parcel.now }
     ensures no { result ≡ false → IsAddressed parcel.now → ⊥ }
 {
@@ -160,29 +165,108 @@ impl Session {
         }
     }
 
-    /// Where nothing is due the session closes as asked; else the clock is asked for what comes next, up to the last moment.
-    fn wait<S: Site>(
-        &mut self,
-        site: &mut S,
-        resend: Option<(u64, u32)>,
-    ) -> Result<Option<Close>, WorldError>
+    /// Appends the record of the enabled move, and puts the command that it sends.
+    fn make_move<S: Site>(&mut self, site: &mut S) -> Result<Option<Close>, WorldError>
+        requires between { IsBetweenTurns self.old (S.view site.old) }
+        requires some { 1 ≤ self.old.left }
+        requires moves { enabled_move self.old.engine.history.seen self.old.now ≢ None }
+        ensures turned { (answers : List OperatorAnswer)
+            → Turned result answers (S.view site.old) self.old looked (S.view site.new) self.new }
+        ensures between { result ≡ Ok None → IsBetweenTurns self.new (S.view site.new) }
+    {
+        match make_move(&mut self.engine, site, self.now) {
+            Ok(()) => {
+                self.left -= 1;
+                Ok(None)
+            }
+            Err(error) => Err(error),
+        }
+    }
+
+    /// Appends the Upgrade of the run.
+    fn upgrade<S: Site>(&mut self, site: &mut S) -> Result<Option<Close>, WorldError>
         requires between { IsBetweenTurns self.old (S.view site.old) }
         requires some { 1 ≤ self.old.left }
         requires goes_on { outcome self.old.engine.history.seen.lists ≡ None }
-        requires idle { enabled_move self.old.engine.history.seen (S.view site.old).clock.now ≡ None }
-        requires next { IsNextPut self.old.engine.puts resend }
-        requires later { IfSome resend (λ next. self.old.now < next.0) }
+        requires earlier { self.old.engine.history.seen.lists.is_upgraded ≡ false }
+        ensures turned { (answers : List OperatorAnswer) → WhereLooked IsToUpgrade answers (S.view site.old) self.old.engine
+            → Turned result answers (S.view site.old) self.old looked (S.view site.new) self.new }
+        ensures between { result ≡ Ok None → IsBetweenTurns self.new (S.view site.new) }
+    {
+        match upgrade(&mut self.engine, site, self.now) {
+            Ok(()) => {
+                self.left -= 1;
+                Ok(None)
+            }
+            Err(error) => Err(error),
+        }
+    }
+
+    /// Appends what an operator told of the least issue that waits and has an answer.
+    fn tell<S: Site>(
+        &mut self,
+        site: &mut S,
+        answers: &Answers,
+        issue: u32,
+    ) -> Result<Option<Close>, WorldError>
+        requires between { IsBetweenTurns self.old (S.view site.old) }
+        requires some { 1 ≤ self.old.left }
+        requires idle { WhereLooked IsIdle answers.now (S.view site.old) self.old.engine }
+        requires least { IsLeastTold self.old.engine answers.now (Some issue) }
+        requires upgraded { self.old.engine.history.seen.lists.is_upgraded ≡ true }
+        ensures turned { Turned result answers.now (S.view site.old) self.old looked (S.view site.new) self.new }
+        ensures between { result ≡ Ok None → IsBetweenTurns self.new (S.view site.new) }
+    {
+        match tell(&mut self.engine, site, answers, issue, self.now) {
+            Ok(()) => {
+                self.left -= 1;
+                Ok(None)
+            }
+            Err(error) => Err(error),
+        }
+    }
+
+    /// Appends the Expire of the least issue at its deadline.
+    fn expire<S: Site>(&mut self, site: &mut S, issue: u32) -> Result<Option<Close>, WorldError>
+        requires between { IsBetweenTurns self.old (S.view site.old) }
+        requires some { 1 ≤ self.old.left }
+        requires overdue { IsFirstBy self.old.now (put_deadline self.old.engine) (Some issue) }
+        ensures turned { (answers : List OperatorAnswer) → WhereLooked IsUntold answers (S.view site.old) self.old.engine
+            → Turned result answers (S.view site.old) self.old looked (S.view site.new) self.new }
+        ensures between { result ≡ Ok None → IsBetweenTurns self.new (S.view site.new) }
+    {
+        match expire(&mut self.engine, site, issue, self.now) {
+            Ok(()) => {
+                self.left -= 1;
+                Ok(None)
+            }
+            Err(error) => Err(error),
+        }
+    }
+
+    /// Puts the command again that is to be put next, whose moment has come.
+    fn send_again<S: Site>(&mut self, site: &mut S, issue: u32) -> Result<Option<Close>, WorldError>
+        requires between { IsBetweenTurns self.old (S.view site.old) }
+        requires some { 1 ≤ self.old.left }
+        requires next { (moment : ℕ) × IsNextPut self.old.engine.puts (Some (moment, issue)) × (moment ≤ self.old.now) }
         ensures turned { (answers : List OperatorAnswer) → WhereLooked IsOnTime answers (S.view site.old) self.old.engine
             → Turned result answers (S.view site.old) self.old looked (S.view site.new) self.new }
         ensures between { result ≡ Ok None → IsBetweenTurns self.new (S.view site.new) }
     {
-        let Some(due) = self.engine.flow().due() else {
-            return match self.engine.flow().asks() {
-                Some(issue) => Ok(Some(Close::Asked { issue })),
-                None => unreachable!(),
-            };
-        };
-        let moment = soonest(due, resend);
+        match resend(&mut self.engine, site, issue, self.now) {
+            Ok(()) => Ok(None),
+            Err(error) => Err(error),
+        }
+    }
+
+    /// Asks the clock for what comes next, up to the last moment.
+    fn wait<S: Site>(&mut self, site: &mut S, moment: u64) -> Result<Option<Close>, WorldError>
+        requires between { IsBetweenTurns self.old (S.view site.old) }
+        requires some { 1 ≤ self.old.left }
+        ensures turned { (answers : List OperatorAnswer) → WhereLooked (λ w. ComesNext w moment) answers (S.view site.old) self.old.engine
+            → Turned result answers (S.view site.old) self.old looked (S.view site.new) self.new }
+        ensures between { result ≡ Ok None → IsBetweenTurns self.new (S.view site.new) }
+    {
         if moment > LAST_MOMENT {
             return Err(WorldError::Limit {
                 what: LimitKind::Moment,
@@ -198,72 +282,7 @@ impl Session {
         }
     }
 
-    /// Puts a command again whose moment has come; else the session waits.
-    fn send_again<S: Site>(&mut self, site: &mut S) -> Result<Option<Close>, WorldError>
-        requires between { IsBetweenTurns self.old (S.view site.old) }
-        requires some { 1 ≤ self.old.left }
-        requires goes_on { outcome self.old.engine.history.seen.lists ≡ None }
-        requires idle { enabled_move self.old.engine.history.seen (S.view site.old).clock.now ≡ None }
-        ensures turned { (answers : List OperatorAnswer) → WhereLooked IsOnTime answers (S.view site.old) self.old.engine
-            → Turned result answers (S.view site.old) self.old looked (S.view site.new) self.new }
-        ensures between { result ≡ Ok None → IsBetweenTurns self.new (S.view site.new) }
-    {
-        let Some((moment, issue)) = self.engine.next_put() else {
-            return self.wait(site, None);
-        };
-        if self.now < moment {
-            return self.wait(site, Some((moment, issue)));
-        }
-        match resend(&mut self.engine, site, moment, issue, self.now) {
-            Ok(()) => Ok(None),
-            Err(error) => Err(error),
-        }
-    }
-
-    /// An issue at its deadline expires; else a command may be put again.
-    fn run_out<S: Site>(&mut self, site: &mut S) -> Result<Option<Close>, WorldError>
-        requires between { IsBetweenTurns self.old (S.view site.old) }
-        requires some { 1 ≤ self.old.left }
-        requires goes_on { outcome self.old.engine.history.seen.lists ≡ None }
-        requires idle { enabled_move self.old.engine.history.seen (S.view site.old).clock.now ≡ None }
-        ensures turned { (answers : List OperatorAnswer) → WhereLooked IsUntold answers (S.view site.old) self.old.engine
-            → Turned result answers (S.view site.old) self.old looked (S.view site.new) self.new }
-        ensures between { result ≡ Ok None → IsBetweenTurns self.new (S.view site.new) }
-    {
-        match expire(&mut self.engine, site, self.now) {
-            Ok(true) => {
-                self.left -= 1;
-                Ok(None)
-            }
-            Ok(false) => self.send_again(site),
-            Err(error) => Err(error),
-        }
-    }
-
-    /// What an operator told ends an issue; else one may expire.
-    fn hear<S: Site>(
-        &mut self,
-        site: &mut S,
-        answers: &Answers,
-    ) -> Result<Option<Close>, WorldError>
-        requires between { IsBetweenTurns self.old (S.view site.old) }
-        requires some { 1 ≤ self.old.left }
-        requires goes_on { outcome self.old.engine.history.seen.lists ≡ None }
-        requires idle { WhereLooked IsIdle answers.now (S.view site.old) self.old.engine }
-        ensures turned { Turned result answers.now (S.view site.old) self.old looked (S.view site.new) self.new }
-        ensures between { result ≡ Ok None → IsBetweenTurns self.new (S.view site.new) }
-    {
-        match tell(&mut self.engine, site, answers, self.now) {
-            Ok(true) => {
-                self.left -= 1;
-                Ok(None)
-            }
-            Ok(false) => self.run_out(site),
-            Err(error) => Err(error),
-        }
-    }
-
-    /// No parcel was there: a task moves; else an operator may have told.
+    /// No parcel was there: what is due is done.
     fn go_on<S: Site>(
         &mut self,
         site: &mut S,
@@ -275,13 +294,14 @@ impl Session {
         ensures turned { Turned result answers.now (S.view site.old) self.old looked (S.view site.new) self.new }
         ensures between { result ≡ Ok None → IsBetweenTurns self.new (S.view site.new) }
     {
-        match move_on(&mut self.engine, site, self.now) {
-            Ok(true) => {
-                self.left -= 1;
-                Ok(None)
-            }
-            Ok(false) => self.hear(site, answers),
-            Err(error) => Err(error),
+        match first_due(&self.engine, answers, self.now) {
+            Due::Move => self.make_move(site),
+            Due::Upgrade => self.upgrade(site),
+            Due::Tell { issue } => self.tell(site, answers, issue),
+            Due::Expire { issue } => self.expire(site, issue),
+            Due::Resend { issue } => self.send_again(site, issue),
+            Due::Wait { moment } => self.wait(site, moment),
+            Due::Ask { issue } => Ok(Some(Close::Asked { issue })),
         }
     }
 

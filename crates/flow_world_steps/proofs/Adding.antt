@@ -186,9 +186,6 @@ given_same old new e answers = record { run = ap (λ (s : Shown). s.run) e; give
 seen_of : (v w : EngineView) → w ≡ v → w.history.seen ≡ v.history.seen
 seen_of v w e = ap (λ (x : EngineView). x.history.seen) e
 
-answers_of : (old new : World) → new.notes ≡ old.notes → new.notes.answers ≡ old.notes.answers
-answers_of old new e = ap (λ (n : Notes). n.answers) e
-
 pub step_given : (old new : World) → Step old new → SameGiven old new
 step_given old new (opens_clock answer is) = given_same old new (seen_of old.engine new.engine is.goes.sides.engine) (ap (λ (n : Notes). n.answers) is.goes.notes)
 step_given old new (finds_run_used agent is) = given_same old new (seen_of old.engine new.engine is.only.sides.engine) (ap (λ (n : Notes). n.answers) is.only.notes)

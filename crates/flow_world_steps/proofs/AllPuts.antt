@@ -29,7 +29,7 @@ use Rattle.flow_engine.proofs.FlowLemmas.{begins_first}
 use Rattle.flow_laws.proofs.Basics.{same_or_not, same_some}
 use Rattle.flow_engine.specs.HistoryCalls.{Is, MayCome}
 use Rattle.flow_engine.specs.HistoryView.{HistoryView, flow_of}
-use Rattle.flow_engine.specs.Histories.{IsHistory, IsSoFar}
+use Rattle.flow_engine.specs.Histories.{IsHistory}
 use Rattle.flow_engine.proofs.SoFarLemmas.{begin_is}
 use Rattle.flow_engine.specs.EngineCalls.{Appends, IsReply, IsWaiting, Sends}
 use Rattle.flow_engine.specs.EngineView.{EngineView}
@@ -211,10 +211,6 @@ pub put_after_told : (v w : EngineView) (issue moment status : ℕ) (text : List
 put_after_told v w issue moment status text old new history are is = put_stays v w _ old new history are is (ap issued_by is.adds.offers.comes.is)
 
 -- ---- after the Begin
-
-no_issues : (records : List Record) (seen : Shown) → records ≡ [] → IsSoFar records seen → length seen.lists.issues ≡ 0
-no_issues [] seen none so_far = ap (λ (s : Shown). length s.lists.issues) so_far
-no_issues (first ∷ others) seen none so_far = let long = ap (λ (l : List Record). length l) none in absurd (omega (arith, long))
 
 -- ---- after a put
 

@@ -146,16 +146,6 @@ module _ (lent old new : WireView) (parcel : Parcel) (put more : ℕ) (counted :
     lost = λ some same. lost_now same;
   }
 
--- a wire that is lent now, whole
-pub keeps_first : (wire : WireView) → wire.lines.state ≡ state.Whole → KeepsLink wire wire 0
-keeps_first wire is = record {
-  puts = omega arith;
-  later = omega arith;
-  whole = λ e. is;
-  none = λ e. refl;
-  lost = λ some same. absurd (omega (arith, some));
-}
-
 -- ---- the trait's clauses on what is lent
 
 same_list : (a b c d m n : ℕ) (k l : List ℕ) → b ≡ a → d ≡ c → n ≡ m → l ≡ k → b ∷ d ∷ n ∷ l ≡ a ∷ c ∷ m ∷ k

@@ -107,9 +107,6 @@ module _ (old : WireView) (opened : SiteView) (w t : WireView) (fs : List Actuat
     calm = calm;
   }
 
-  answering_now : TakesNothing w t → old.asking ≡ false → t.asking ≡ false
-  answering_now nothing is = nothing.asking ∙ s.serves.asking ∙ is
-
   lines_now : TakesNothing w t → old.lines.passed ≤ t.lines.passed
   lines_now nothing = omega (arith, nothing.later, s.serves.passed)
 

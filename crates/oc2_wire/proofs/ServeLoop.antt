@@ -4,7 +4,6 @@ use Rattle.std.specs.Prelude.{Some, None, IsSome, Result, Ok, Err}
 use Rattle.std.proofs.lemmas.Option.{slice_get_cases}
 use Rattle.cacao_site.specs.Counts.{Rose}
 use Rattle.cacao_site.specs.Sound.{IsSound}
-use Rattle.cacao_site.specs.View.{SiteView}
 use Rattle.cacao_site.specs.declared.parcel.Parcel.{Parcel}
 use Rattle.slpf_actuator.specs.ActuatorView.{ActuatorView, act_for}
 use Rattle.flow_world_parts.specs.Openings.{OpensFilters, RefusesFilters}
@@ -14,7 +13,7 @@ use Rattle.oc2_wire_laws.specs.Ends.{IsFiltersStart}
 use Rattle.oc2_wire_site.specs.Wires.{WireView}
 use Rattle.oc2_wire_site.specs.declared.link_state.LinkState.TheVariants as state
 use Rattle.oc2_wire.specs.Answering.{ReadsNoLine, TellsLink, found_by}
-use Rattle.oc2_wire.specs.FilterTurns.{AnsweredAs, Ended, GoesOnWith, IsAnswering, KeptTo, MayRefuseOpening, Serving, counted, most_in_file}
+use Rattle.oc2_wire.specs.FilterTurns.{AnsweredAs, Ended, GoesOnWith, KeptTo, Serving, counted, most_in_file}
 use Rattle.oc2_wire.specs.Turns.{TookAs, opening_error}
 use Rattle.oc2_wire.specs.declared.error.WireError.{WireError}
 use Rattle.oc2_wire.specs.declared.error.WireError.TheVariants as error
@@ -93,16 +92,6 @@ refused_first old now why sound puts taken refuses reads whole is = by why refus
     by (world.Limit what) refuses = absurd refuses.refuses.why
     by world.Say refuses = absurd refuses.refuses.why
 
-pub may_refuse : (why : WorldError) (old new : SiteView) → RefusesFilters why old new → MayRefuseOpening why
-may_refuse world.Disk old new refuses = tt
-may_refuse (world.Damaged file place) old new refuses = tt
-may_refuse world.Memory old new refuses = tt
-may_refuse (world.OtherRun held asked) old new refuses = absurd refuses.refuses.why
-may_refuse (world.OtherBook index) old new refuses = absurd refuses.refuses.why
-may_refuse (world.RunUsed agent) old new refuses = absurd refuses.refuses.why
-may_refuse (world.Limit what) old new refuses = absurd refuses.refuses.why
-may_refuse world.Say old new refuses = absurd refuses.refuses.why
-
 module _ (old w : WireView) (fs : List ActuatorView) (tally : Tally) (s : GoesOnWith old w fs tally) where
   -- the counts are small
   pub few_acts : length s.acts ≤ 16 * most_in_file
@@ -113,10 +102,6 @@ module _ (old w : WireView) (fs : List ActuatorView) (tally : Tally) (s : GoesOn
 
   pub acted_few : tally.acted ≤ 1_073_741_824
   acted_few = let few = few_acts in let many = s.many in omega (arith, few, many)
-
-  -- before a take
-  pub answers_again : old.asking ≡ false → IsAnswering old.lines.passed w
-  answers_again is = record { answering = s.serving.serves.asking ∙ is; found_none = s.serving.found_none; since = s.serving.serves.passed }
 
   -- one command more
   module _ (t u : WireView) (gs : List ActuatorView) (parcel : Parcel) (told_taken : IsSome old.site.link.taken) (took : TookAs (Ok (Some parcel)) old.lines.passed tally.repeated w t) where

@@ -1,5 +1,5 @@
 -- What a take of the filters' end gives.
-use Rattle.std.proofs.Common.{◌≡◌, ◌≢◌, inl, inr, ℕ, ◌≤◌, refl, sym, ◌∙◌, ap, arith}
+use Rattle.std.proofs.Common.{◌≡◌, inl, inr, ℕ, ◌≤◌, sym, ap, arith}
 use Rattle.std.specs.Prelude.{Option, Some, None, IfOk, MatchOption, OnErr, Result, Ok, Err}
 use Rattle.std.proofs.lemmas.Option.{none-some}
 use Rattle.cacao_site.specs.SiteCalls.{TakesNone, TakesOnly, TakesSome}
@@ -9,11 +9,9 @@ use Rattle.cacao_site.specs.declared.parcel.Parcel.{Parcel}
 use Rattle.oc2_wire_site.specs.LineLinks.{LinesView, taken_of}
 use Rattle.oc2_wire_site.specs.WireCalls.{TakesLine}
 use Rattle.oc2_wire_site.specs.Wires.{WireView}
-use Rattle.oc2_wire_site.specs.declared.link_state.LinkState.{LinkState}
 use Rattle.oc2_wire_site.specs.declared.link_state.LinkState.TheVariants as state
-use Rattle.oc2_wire.specs.Answering.{found_by}
-use Rattle.oc2_wire.specs.FilterTurns.{IsAnswering, end_of}
-use Rattle.oc2_wire.specs.Turns.{IsCalm, TakesAs, TakesNext, TakesNothing, TookAs}
+use Rattle.oc2_wire.specs.FilterTurns.{IsAnswering}
+use Rattle.oc2_wire.specs.Turns.{TakesAs, TakesNext, TakesNothing}
 use Rattle.oc2_wire.proofs.LentWires.{whole_or_not}
 
 -- what the clauses of a take say
@@ -67,34 +65,4 @@ module _ (first : ℕ) (old new : WireView) (answering : IsAnswering first old) 
   took_as (Ok (Some parcel)) took = takes_next parcel took.sound took.only took.taken took.line
   took_as (Ok None) took = takes_nothing took.sound took.only took.taken.taken took.line
   took_as (Err error) took = takes_nothing took.sound took.only (ap (λ (l : LinkView). l.taken) took.memory) took.line
-
   -- ---- why none was
-
-  pub not_whole : TakesLine None old new → new.lines.state ≢ state.Whole
-  not_whole line whole_now = elim (whole_or_not old.lines.state) [
-    | inr broken ↦ broken (sym (ap (λ (l : LinesView). l.state) (line.takes.broken broken).1) ∙ whole_now)
-    | inl whole ↦ (line.takes.answers answering.answering whole).broken whole_now
-  ]
-
-  pub not_passed_over : (repeats : ℕ) → TakesLine None old new → IsCalm first repeats new → new.lines.state ≢ state.PassedOver
-  not_passed_over repeats line calm over = elim (whole_or_not old.lines.state) [
-    | inr broken ↦
-        let three : found_by new.lines.state ≡ 3 = ap found_by over in
-        let zero : found_by new.lines.state ≡ 0 = ap (λ (l : LinesView). found_by l.state) (line.takes.broken broken).1 ∙ answering.found_none in
-        absurd (omega (arith, three, zero))
-    | inl whole ↦
-        let reads = line.takes.answers answering.answering whole in
-        let many = reads.flooded over in
-        let more = reads.passes.passed in
-        absurd (omega (arith, many, more, calm, answering.since))
-  ]
-
--- the end, as the link is
-pub ends_as : (first repeats : ℕ) (old new : WireView) (s : LinkState) → s ≢ state.Whole → s ≢ state.PassedOver → new.lines.state ≡ s → TakesNothing old new → IsCalm first repeats new
-    → TookAs (end_of s) first repeats old new
-ends_as first repeats old new state.Ended whole over is takes calm = (record { takes = takes; is = is }, calm)
-ends_as first repeats old new state.TooLong whole over is takes calm = (record { takes = takes; is = is }, calm)
-ends_as first repeats old new state.Failed whole over is takes calm = (record { takes = takes; is = is }, calm)
-ends_as first repeats old new state.NoMemory whole over is takes calm = (record { takes = takes; is = is }, calm)
-ends_as first repeats old new state.Whole whole over is takes calm = absurd (whole refl)
-ends_as first repeats old new state.PassedOver whole over is takes calm = absurd (over refl)

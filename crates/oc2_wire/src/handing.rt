@@ -13,10 +13,10 @@ use crate::error::WireError;
 use crate::reply_wire::ReplyWire;
 use cacao_site::{Disk, Parcel, Site};
 use flow_core::LimitKind;
-use flow_world_parts::clock::LAST_MOMENT;
 use flow_world_parts::{Filters, WorldError};
 use oc2_wire_link::Link;
 use oc2_wire_site::{LinkState, WireSite};
+use run_records::LAST_MOMENT;
 use slpf_actuator::ActError;
 use std::alloc::Global;
 

@@ -80,13 +80,3 @@ joined (line ∷ lines) = line ++ line_feed ∷ joined lines
 pub record AreLines (bytes : List ℕ) (lines : List (List ℕ)) (rest : List ℕ) : Type 0 where
   pub is : bytes ≡ joined lines ++ rest
   pub each : (line : List ℕ) → Contains lines line → IsOneLine line × (length line + 1 ≤ most_line)
-
--- a parcel that goes this way has its line among those that stand whole in these bytes
-pub record HasItsLine (back : Bool) (bytes : List ℕ) (parcel : Parcel) : Type 0 where
-  pub lines : List (List ℕ)
-  pub rest : List ℕ
-  pub are : AreLines bytes lines rest
-  pub line : List ℕ
-  pub has : Contains lines line
-  pub spells : Spells line parcel
-  pub way : parcel.back ≡ back

@@ -9,7 +9,7 @@ use cacao_site::{Bytes, Parcel};
 use std::alloc::{AllocError, Global};
 
 // The greatest number of a run.
-const LAST_RUN: u64 = 9_007_199_254_740_991;
+pub(crate) const LAST_RUN: u64 = 9_007_199_254_740_991;
 
 // The most bytes of a text.
 const MOST_TEXT: usize = 1_048_576;

@@ -3,15 +3,12 @@ ghost use Rattle.std.specs.Prelude.{◌≡◌, ◌↔◌, ◌≤◌, [], ◌∷�
 ghost use Rattle.std.specs.Fmt.{decimal};
 ghost use Rattle.oc2_wire_lines.specs.Lines.{IsCarried, letter, line_of, nothing_line, space};
 
-use crate::reading::is_text;
+use crate::reading::{LAST_RUN, is_text};
 use cacao_site::{Bytes, Parcel};
 use std::alloc::{AllocError, Global};
 
 /// The most bytes of a line, with its line feed.
 pub const MOST_LINE: usize = 1_048_610;
-
-// The greatest number of a run.
-const LAST_RUN: u64 = 9_007_199_254_740_991;
 
 // Whether a number is from `least` to `most`.
 fn is_between(n: u64, least: u64, most: u64) -> bool

@@ -1,11 +1,9 @@
 -- Bytes that go out and come in, one call after another.
-use Rattle.std.proofs.Common.{◌≡◌, ◌∙◌, ◌<◌, ◌≤◌, ℕ, ◌+◌, ◌-◌, List, [], ◌++◌, length, take, drop, Option, Some, None, refl, ap, sym, subst, arith, length-drop}
+use Rattle.std.proofs.Common.{◌≡◌, ◌∙◌, ◌≤◌, ℕ, ◌+◌, ◌-◌, List, [], ◌++◌, length, take, drop, Option, Some, None, refl, ap, sym, subst, arith, length-drop}
 use Rattle.std.proofs.Math.Seq.{take-add}
-use Rattle.std.proofs.lemmas.List.{append-nil, append_assoc, take-append-drop, take_all, take_rest}
+use Rattle.std.proofs.lemmas.List.{append-nil, append_assoc, take_rest}
 use Rattle.cacao_site.specs.LinkCalls.{GainsAll}
-use Rattle.oc2_wire_link.specs.Links.{Comes, KeepsBytes, LinkView, Sends}
-use Rattle.oc2_wire_site.specs.LineLinks.{SendsFront}
-use Rattle.oc2_wire_site.specs.LineSteps.{Fills}
+use Rattle.oc2_wire_link.specs.Links.{Comes, LinkView, Sends}
 
 -- ---- lists that are told or not
 
@@ -76,38 +74,4 @@ sent_more bytes from n old mid new so_far few more faults =
       faults = faults ∙ so_far.faults;
     }
 
-pub sent_whole : (bytes : List ℕ) (from : ℕ) (old new : LinkView) → SentSoFar bytes from old new → length bytes ≤ from → Sends bytes old new
-sent_whole bytes from old new so_far past = subst (λ (l : List ℕ). Sends l old new) (take_all from bytes past) so_far.sends
-
-pub sent_front : (bytes : List ℕ) (from : ℕ) (old mid new : LinkView) → SentSoFar bytes from old mid → from < length bytes → KeepsBytes mid new → SendsFront bytes old new
-sent_front bytes from old mid new so_far lt keeps = record {
-  front = take from bytes;
-  behind = drop from bytes;
-  is = sym (take-append-drop from bytes);
-  some = omega (arith, lt, length-drop from bytes);
-  sends = record {
-    sent = gains_to old.sent mid.sent new.sent (take from bytes) so_far.sends.sent keeps.sent;
-    received = keeps.received ∙ so_far.sends.received;
-    to_come = keeps.to_come ∙ so_far.sends.to_come;
-  };
-}
-
 -- ---- bytes that came in so far
-
-pub fills_none : (link : LinkView) (was : List ℕ) → Fills link link was was
-fills_none link was = record {
-  came = [];
-  sent = refl;
-  received = gains_none link.received;
-  to_come = comes_none link.to_come;
-  unread = sym (append-nil was);
-}
-
-pub fills_on : (old mid new : LinkView) (was then_ is : List ℕ) → Fills old mid was then_ → Fills mid new then_ is → Fills old new was is
-fills_on old mid new was then_ is a b = record {
-  came = a.came ++ b.came;
-  sent = b.sent ∙ a.sent;
-  received = gains_on old.received mid.received new.received a.came b.came a.received b.received;
-  to_come = comes_on old.to_come mid.to_come new.to_come a.came b.came a.to_come b.to_come;
-  unread = b.unread ∙ ap (λ (l : List ℕ). l ++ b.came) a.unread ∙ append_assoc was a.came b.came;
-}

@@ -1,11 +1,10 @@
 -- The line that stands first among bytes.
-use Rattle.std.proofs.Common.{◌≡◌, ◌≢◌, ◌∙◌, ◌<◌, ◌≤◌, ℕ, ◌+◌, ◌-◌, List, ◌∷◌, ◌++◌, length, take, drop, refl, ap, sym, arith, length-append}
+use Rattle.std.proofs.Common.{◌≡◌, ◌≢◌, ◌∙◌, ◌<◌, ◌≤◌, ℕ, ◌+◌, ◌-◌, List, ◌∷◌, ◌++◌, length, take, drop, ap, sym, arith, length-append}
 use Rattle.std.proofs.lemmas.List.{append_assoc, drop-drop, drop_at, length-take, take-append-drop, take-take, take_at, take_rest}
 use Rattle.std.proofs.lemmas.List.Elements.{All-append, All-same, All-take}
 use Rattle.oc2_wire_lines.specs.Lines.{BeginsWithLine, IsOneLine, most_line}
 use Rattle.oc2_wire_site.specs.LineLinks.{IsTooLong}
-use Rattle.oc2_wire_site.specs.LineSteps.{Fills, IsFirstLine}
-use Rattle.oc2_wire_link.specs.Links.{LinkView}
+use Rattle.oc2_wire_site.specs.LineSteps.{IsFirstLine}
 
 -- bytes that are this line, a line feed and a rest begin with it
 begins_at : (bytes line rest : List ℕ) (n : ℕ) → bytes ≡ line ++ (10 ∷ rest) → length line ≡ n → IsOneLine line → IsFirstLine n bytes
@@ -46,8 +45,3 @@ too_long_line unread end first past = record {
 
 pub too_long_rest : (unread : List ℕ) → IsOneLine unread → most_line < length unread → IsTooLong unread
 too_long_rest unread one long = record { long = long; one_line = All-take (λ c. c ≢ 10) 1_048_610 unread one }
-
--- what stood before more came is a front without a line feed
-pub seen_front : (old new : LinkView) (was is : List ℕ) → Fills old new was is → IsOneLine was → IsOneLine (take (length was) is)
-seen_front old new was is fills one =
-    All-same (λ c. c ≢ 10) (take (length was) is) was (ap (take (length was)) fills.unread ∙ take_at was fills.came (length was) refl) one

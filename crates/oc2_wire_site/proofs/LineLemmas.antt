@@ -93,17 +93,6 @@ reads_one back taken old new was then_ is p q end s t fills faults first short r
 
 -- ---- what breaks a link
 
--- a link that nothing broke
-pub holds_whole : (new : LinesView) → length new.unread ≤ most_line + 1 → new.state ≡ state.Whole → IsLineLink new
-holds_whole new small whole = record {
-  small = small;
-  ended = λ e. absurd (cc);
-  no_line = λ e. absurd (cc);
-  failed = λ e. absurd (cc);
-  too_long = λ e. absurd (cc);
-  passed_over = λ e. absurd (cc);
-}
-
 -- the cause of each state in which no line came
 pub holds_stopped : (stop : LinkState) (faults passed : ℕ) (link : LinkView) (unread : List ℕ) → length unread ≤ most_line + 1 → IsStop stop faults link unread → IsLineLink (lines_view link unread passed stop)
 holds_stopped state.Whole faults passed link unread small why = absurd why

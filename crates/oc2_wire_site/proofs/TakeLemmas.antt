@@ -1,19 +1,15 @@
 -- What a take does.
-use Rattle.std.proofs.Common.{◌≡◌, ◌≢◌, ◌⊎◌, ◌∙◌, ℕ, inl, inr, Bool, true, false, List, [], ◌∷◌, ◌++◌, refl, ap, sym, subst, arith}
-use Rattle.std.specs.Prelude.{Option, Some, None, Result, Ok, Err, IfOk, IfErr, OnOk, OnErr}
+use Rattle.std.proofs.Common.{◌≡◌, ◌≢◌, ◌⊎◌, ◌∙◌, inl, inr, Bool, true, false, List, [], ◌∷◌, ◌++◌, refl, ap, sym, subst, arith}
+use Rattle.std.specs.Prelude.{Option, None, Result, Ok, Err, IfOk, IfErr, OnOk, OnErr}
 use Rattle.std.proofs.lemmas.List.{map-append}
-use Rattle.cacao_site.specs.SiteCalls.{TakesNone, TakesOnly, TakesSome}
 use Rattle.cacao_site.specs.View.{SiteView}
 use Rattle.cacao_site.specs.declared.parcel.Parcel.{Parcel}
-use Rattle.std.specs.declared.snapshot.Snapshot.{Snapshot}
-use Rattle.oc2_wire_site.specs.Entries.{empty_by, taken_by}
+use Rattle.oc2_wire_site.specs.Entries.{taken_by}
 use Rattle.oc2_wire_site.specs.LineLinks.{AsksOne, BreaksFirst, LinesView, ReadsOn, ReadsOne, TakesBy, taken_of}
-use Rattle.oc2_wire_site.specs.Wires.{wire_view}
 use Rattle.oc2_wire_site.specs.declared.entries.Taken.{Taken}
 use Rattle.oc2_wire_site.specs.declared.link_state.LinkState.{LinkState}
 use Rattle.oc2_wire_site.specs.declared.link_state.LinkState.TheVariants as state
 use Rattle.oc2_wire_site.proofs.PassLemmas.{breaks_over, breaks_soon, passed_none}
-use Rattle.oc2_wire_site.proofs.PutLemmas.{leaves_wire, same_time}
 use Rattle.oc2_wire_site.proofs.LineLemmas.{breaks_unread}
 
 -- ---- over the link
@@ -97,33 +93,9 @@ wanted_by (Err error) read now before other says whole = tt
 
 -- ---- the lists
 
-pub takes_only : (site : SiteView) (puts taken got : List (ℕ × Parcel)) (empty none : List ℕ) (m : ℕ) → TakesOnly (wire_view site puts taken empty m) (wire_view site puts got none m)
-takes_only site puts taken got empty none m = record {
-  disk = leaves_wire site puts puts taken got empty none m m;
-  time = same_time site.clock;
-  unsaid = refl;
-  mishaps = refl;
-  puts = refl;
-  said = refl;
-}
-
-pub takes_some : (site : SiteView) (parcel : Parcel) (puts taken got : List (ℕ × Parcel)) (empty none : List ℕ) (m : ℕ) → got ≡ taken ++ (site.disk.beat, parcel) ∷ [] → none ≡ empty
-    → TakesSome parcel (wire_view site puts taken empty m) (wire_view site puts got none m)
-takes_some site parcel puts taken got empty none m gains same = record { pending = tt; taken = gains; empty_takes = ap Some same }
-
-pub takes_none : (site : SiteView) (puts taken got : List (ℕ × Parcel)) (empty none : List ℕ) (m : ℕ) → got ≡ taken → none ≡ empty ++ site.clock.now ∷ []
-    → TakesNone (wire_view site puts taken empty m) (wire_view site puts got none m)
-takes_none site puts taken got empty none m same gains = record { none = tt; pending = refl; taken = ap Some same; empty_takes = gains }
-
 module _ {S : Type 0} (view : S → SiteView) (site : S) where
   pub taken_more : (entry : Taken S) (taken made got : List (Taken S)) → entry.at.value ≡ site → made ≡ taken → got ≡ made ++ entry ∷ [] → taken_by view got ≡ taken_by view taken ++ ((view site).disk.beat, entry.parcel.value) ∷ []
   taken_more entry taken made got at same e =
       ap (λ (l : List (Taken S)). taken_by view l) (e ∙ ap (λ (l : List (Taken S)). l ++ entry ∷ []) same)
       ∙ map-append (λ (t : Taken S). ((view t.at.value).disk.beat, t.parcel.value)) taken (entry ∷ [])
       ∙ ap (λ (x : S). taken_by view taken ++ ((view x).disk.beat, entry.parcel.value) ∷ []) at
-
-  pub empty_more : (entry : Snapshot S) (empty made none : List (Snapshot S)) → entry.value ≡ site → made ≡ empty → none ≡ made ++ entry ∷ [] → empty_by view none ≡ empty_by view empty ++ (view site).clock.now ∷ []
-  empty_more entry empty made none at same e =
-      ap (λ (l : List (Snapshot S)). empty_by view l) (e ∙ ap (λ (l : List (Snapshot S)). l ++ entry ∷ []) same)
-      ∙ map-append (λ (s : Snapshot S). (view s.value).clock.now) empty (entry ∷ [])
-      ∙ ap (λ (x : S). empty_by view empty ++ (view x).clock.now ∷ []) at

@@ -8,16 +8,16 @@ use Rattle.cacao_cli_rehearsal.proofs.Running.{fails_then, goes_by_plan, not_rea
 use Rattle.cacao_cli_rehearsal.proofs.rehearsing.rehearse.Goals as goal
 
 pub returns-in-Err-clause-err : goal.returns-in-Err-clause-err
-returns-in-Err-clause-err c = not_read c.args.positions c.in_ok-text.text (view_of c.args.site.now.site) c.in-Err.error c.in_ok-text.ensures.text (omega (arith, c.len.ensures, c.if-len-gt-MOST_BYTES.false)) c.in-Err.ensures.err
+returns-in-Err-clause-err c = not_read c.args.positions c.in_ok-text.text (view_of c.args.site.now.site) c.in-Err.error c.in_ok-text.ensures.text (omega (arith, c.len.ensures, c.if-len-gt-TEXT_LIMIT.false)) c.in-Err.ensures.err
 
 pub returns-then-is_sound-clause-ok : goal.returns-then-is_sound-clause-ok
 returns-then-is_sound-clause-ok c =
-    runs_then c.args.positions c.in_ok-text.text c.in-Ok.setup (view_of c.args.site.now.site) (view_of c.run-ran.new.site.site) c.in_ok-text.ensures.text (omega (arith, c.len.ensures, c.if-len-gt-MOST_BYTES.false)) c.in-Ok.ensures.ok
+    runs_then c.args.positions c.in_ok-text.text c.in-Ok.setup (view_of c.args.site.now.site) (view_of c.run-ran.new.site.site) c.in_ok-text.ensures.text (omega (arith, c.len.ensures, c.if-len-gt-TEXT_LIMIT.false)) c.in-Ok.ensures.ok
     c.run-ran.result c.run-ran.ensures.ok
 
 pub returns-then-is_sound-clause-err : goal.returns-then-is_sound-clause-err
 returns-then-is_sound-clause-err c =
-    fails_then c.args.positions c.in_ok-text.text c.in-Ok.setup (view_of c.args.site.now.site) (view_of c.run-ran.new.site.site) c.in_ok-text.ensures.text (omega (arith, c.len.ensures, c.if-len-gt-MOST_BYTES.false)) c.in-Ok.ensures.ok
+    fails_then c.args.positions c.in_ok-text.text c.in-Ok.setup (view_of c.args.site.now.site) (view_of c.run-ran.new.site.site) c.in_ok-text.ensures.text (omega (arith, c.len.ensures, c.if-len-gt-TEXT_LIMIT.false)) c.in-Ok.ensures.ok
     c.run-ran.result c.run-ran.ensures.err
 
 pub returns-in-Err-clause-new_site : goal.returns-in-Err-clause-new_site

@@ -15,7 +15,7 @@ use Rattle.cacao_cli_ends.proofs.ReadLemmas.{reads-length}
 use Rattle.cacao_cli_starts.proofs.PartLemmas.{judged-ready, run-begins, run-many, run-memory, run-read}
 use Rattle.cacao_cli_status_laws.proofs.PerformLemmas.{performed-memory}
 use Rattle.cacao_cli_looks.proofs.PerformLemmas.{says-end}
-use Rattle.cacao_cli_starts.proofs.RunFiles.{files-back, named-files, reads-names, some-files, start-long}
+use Rattle.cacao_cli_starts.proofs.RunFiles.{files-back, named-files, parts-named, reads-names, some-files, start-long}
 use Rattle.cacao_cli_starts.proofs.ready.make_ready.Goals as goal
 
 pub returns-then-as_slice-most-clause-refused : goal.returns-then-as_slice-most-clause-refused
@@ -68,6 +68,16 @@ judge_texts-requires-clause-some g c =
     let many : length texts ≡ length (run_names wanted) = reads-length shelf.told (map book_file (run_names wanted)) reads.count (Ok texts) texts reads.reads refl ∙ length-map (run_names wanted) book_file in
     let long = start-long wanted texts c.in-Ok-split.texts c.in-Ok-split.ensures many in
     omega (arith, long, count, c.as_slice.ensures.some)
+
+pub judge_texts-requires-clause-named : goal.judge_texts-requires-clause-named
+judge_texts-requires-clause-named g c =
+    let shelf : ShelfCall = record { told = g.L.Shelf.told c.args.shelf.now; before = g.L.Shelf.faults c.args.shelf.now; after = g.L.Shelf.faults c.read_files.new.shelf; reads_before = g.L.Shelf.reads c.args.shelf.now; reads_after = g.L.Shelf.reads c.read_files.new.shelf } in
+    let wanted : RunRequest = run_request c.args.wanted.now in
+    let files : map (λ (name : Bor Text). book_file name.now) c.as_slice-2.result.now ≡ map book_file (run_names wanted) = named-files c.as_slice-2.result.now c.in-Ok.names.items (run_names wanted) c.as_slice-2.ensures.value c.in-Ok.ensures in
+    let texts : List NamedText = map text_of c.in-Ok-read_files.texts.items in
+    let reads : ReadsTo shelf (map book_file (run_names wanted)) (Ok texts) = subst (λ (l : List File). ReadsTo shelf l (Ok texts)) files c.in-Ok-read_files.ensures.reads in
+    let many : length texts ≡ length (run_names wanted) = reads-length shelf.told (map book_file (run_names wanted)) reads.count (Ok texts) texts reads.reads refl ∙ length-map (run_names wanted) book_file in
+    parts-named wanted texts c.in-Ok-split.texts c.in-Ok-split.ensures many
 
 pub returns-in-Ok-split-clause-ready : goal.returns-in-Ok-split-clause-ready
 returns-in-Ok-split-clause-ready g c =

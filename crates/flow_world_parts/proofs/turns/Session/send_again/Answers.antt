@@ -1,4 +1,4 @@
-use Rattle.std.proofs.Common.{◌∙◌, refl, sym, arith}
+use Rattle.std.proofs.Common.{◌∙◌, ◌-◌, refl, sym, arith}
 use Rattle.flow_world_steps.specs.Worlds.{looked, rests}
 use Rattle.flow_world_parts.specs.Leads.{MayAnswer}
 use Rattle.flow_world_parts.proofs.SessionSteps.{engine_goes, engine_refuses, may_answer}
@@ -8,7 +8,7 @@ pub returns-in-Ok-clause-turned : goal.returns-in-Ok-clause-turned
 returns-in-Ok-clause-turned g c = λ answers on_time.
     let s = c.args.self.now in
     engine_goes answers (MayAnswer answers) 0 (g.S.Disk.view c.args.site.now) (g.S.Disk.view c.resend.new.site) s (record s { engine = c.resend.new.engine }) looked rests (may_answer answers s c.requires.some)
-    (c.in-Ok.ensures.did answers on_time) refl (omega arith) refl
+    (c.in-Ok.ensures.did answers on_time) refl (omega (arith)) refl
 
 pub returns-in-Ok-clause-between : goal.returns-in-Ok-clause-between
 returns-in-Ok-clause-between g c = λ ok. record {

@@ -1,6 +1,6 @@
 use Rattle.flow_world_parts.proofs.Told.{least_with, least_without, never_waits, waits_of}
-use Rattle.flow_world_parts.proofs.moves.least_told.Goals.{then-is_waiting, else-is_waiting}
-use Rattle.flow_world_parts.proofs.moves.least_told.Goals as goal
+use Rattle.flow_world_parts.proofs.due.least_told.Goals.{then-is_waiting, else-is_waiting}
+use Rattle.flow_world_parts.proofs.due.least_told.Goals as goal
 
 pub loop-told-preserved : goal.loop-told-preserved
 loop-told-preserved c = elim c.if-is_waiting.branch [

@@ -4,7 +4,7 @@ use Rattle.flow_world_steps.specs.EngineCalls.{IsMove}
 use Rattle.flow_world_steps.specs.Sides.{IsEngine}
 use Rattle.flow_world_steps.proofs.Adding.{moves_now}
 use Rattle.flow_world_parts.proofs.MoveSteps.{appended_then, at_work_after, below_after, issues_are, moved_then, ok_true, put_then, refused_so, try_move, unput_after}
-use Rattle.flow_world_parts.proofs.moves.move_on.Goals as goal
+use Rattle.flow_world_parts.proofs.moves.make_move.Goals as goal
 use Rattle.flow_world_parts.proofs.Standing.{filters_beside, keeps_then}
 
 pub say_last-requires : goal.say_last-requires
@@ -51,8 +51,8 @@ returns-in-Ok-put_first-clause-put g c =
     put_then (IsMove v.history c.args.now) so mid v w is c.issues-issues.result counted c.put_first.new.engine c.requires.work.up.has_file.engine.history c.law.ensures.put c.requires.put
     c.in-Ok-put_first.ensures.history c.in-Ok-put_first.ensures.others c.in-Ok-put_first.ensures.put
 
-pub returns-in-Ok-put_first-clause-tried : goal.returns-in-Ok-put_first-clause-tried
-returns-in-Ok-put_first-clause-tried g c answers =
+pub returns-in-Ok-put_first-clause-did : goal.returns-in-Ok-put_first-clause-did
+returns-in-Ok-put_first-clause-did g c answers =
     let so = g.S.Disk.view c.args.site.now in
     let mid = g.S.Disk.view c.step-done.new.site in
     let v = c.args.engine.now in
@@ -63,8 +63,8 @@ returns-in-Ok-put_first-clause-tried g c answers =
     moved_then answers (IsMove v.history c.args.now) so v try_it (Ok tt) mid (g.S.Disk.view c.say_last.new.site) (g.S.Disk.view c.put_first.new.site) w c.put_first.new.engine is engine
     c.in-Ok.ensures.did c.in-Ok-put_first.ensures.did
 
-pub returns-in-Err-put_first-clause-tried : goal.returns-in-Err-put_first-clause-tried
-returns-in-Err-put_first-clause-tried g c answers =
+pub returns-in-Err-put_first-clause-did : goal.returns-in-Err-put_first-clause-did
+returns-in-Err-put_first-clause-did g c answers =
     let so = g.S.Disk.view c.args.site.now in
     let mid = g.S.Disk.view c.step-done.new.site in
     let v = c.args.engine.now in
@@ -75,8 +75,8 @@ returns-in-Err-put_first-clause-tried g c answers =
     moved_then answers (IsMove v.history c.args.now) so v try_it (Err c.in-Err-put_first.error) mid (g.S.Disk.view c.say_last.new.site) (g.S.Disk.view c.put_first.new.site) w c.put_first.new.engine is engine
     c.in-Ok.ensures.did c.in-Err-put_first.ensures.did
 
-pub returns-in-Err-say_last-clause-tried : goal.returns-in-Err-say_last-clause-tried
-returns-in-Err-say_last-clause-tried g c answers =
+pub returns-in-Err-say_last-clause-did : goal.returns-in-Err-say_last-clause-did
+returns-in-Err-say_last-clause-did g c answers =
     let so = g.S.Disk.view c.args.site.now in
     let mid = g.S.Disk.view c.step-done.new.site in
     let v = c.args.engine.now in
@@ -86,8 +86,8 @@ returns-in-Err-say_last-clause-tried g c answers =
     let engine : IsEngine w mid = record { ready = c.step-done.ensures.ready; history = c.law.ensures.history; put = c.law.ensures.put } in
     appended_then answers (IsMove v.history c.args.now) so v try_it (Err c.in-Err-say_last.error) mid (g.S.Disk.view c.say_last.new.site) w w is engine c.in-Err-say_last.ensures.did
 
-pub returns-in-Err-clause-tried : goal.returns-in-Err-clause-tried
-returns-in-Err-clause-tried g c answers =
+pub returns-in-Err-clause-did : goal.returns-in-Err-clause-did
+returns-in-Err-clause-did g c answers =
     let so = g.S.Disk.view c.args.site.now in
     let mid = g.S.Disk.view c.step-done.new.site in
     let v = c.args.engine.now in
