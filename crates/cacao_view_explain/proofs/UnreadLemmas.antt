@@ -6,7 +6,7 @@ use Rattle.cacao_json.specs.declared.error.JsonError.{JsonError}
 use Rattle.cacao_json.specs.declared.error.JsonError.TheVariants.{NotJson, RepeatedName, NotWhole, Memory}
 use Rattle.cacao_cli_ends.specs.Files.{NamedText}
 use Rattle.cacao_view_words.specs.Texts.{Text}
-use Rattle.cacao_view_faults.specs.Kinds.{IsFaultAt}
+use Rattle.cacao_view_faults.specs.Kinds.{IsFaultAt, IsOfNoKind}
 use Rattle.cacao_view_faults.specs.Tokens.{IsBrokenNumber, IsTwice}
 use Rattle.cacao_view_explain.specs.Lines.{text_line, told_line}
 use Rattle.cacao_view_explain.specs.Reasons.{TellsNoPlace, TellsReason}
@@ -14,23 +14,23 @@ use Rattle.cacao_view_explain.specs.Tells.{TellsUnread, first_unread, unread_or}
 
 -- ---- lines
 
-tells_no_place : (text : NamedText) (what : Text) (lines : List Text) → lines ≡ text_line text.name what ∷ [] → TellsNoPlace text lines
-tells_no_place text what lines are = record { what = what; are = are }
+tells_no_place : (text : NamedText) (what : Text) (lines : List Text) → IsOfNoKind what → lines ≡ text_line text.name what ∷ [] → TellsNoPlace text lines
+tells_no_place text what lines plain are = record { what = what; plain = plain; are = are }
 
-pub untold_not_json : (text : NamedText) (what : Text) (lines : List Text) → lines ≡ text_line text.name what ∷ [] → TellsReason text NotJson lines
-untold_not_json text what lines are = inr (tells_no_place text what lines are)
+pub untold_not_json : (text : NamedText) (what : Text) (lines : List Text) → IsOfNoKind what → lines ≡ text_line text.name what ∷ [] → TellsReason text NotJson lines
+untold_not_json text what lines plain are = inr (tells_no_place text what lines plain are)
 
-pub untold_twice : (text : NamedText) (colons members : ℕ) (what : Text) (lines : List Text) → lines ≡ text_line text.name what ∷ [] → TellsReason text (RepeatedName colons members) lines
-untold_twice text colons members what lines are = inr (tells_no_place text what lines are)
+pub untold_twice : (text : NamedText) (colons members : ℕ) (what : Text) (lines : List Text) → IsOfNoKind what → lines ≡ text_line text.name what ∷ [] → TellsReason text (RepeatedName colons members) lines
+untold_twice text colons members what lines plain are = inr (tells_no_place text what lines plain are)
 
-pub untold_number : (text : NamedText) (index : ℕ) (what : Text) (lines : List Text) → lines ≡ text_line text.name what ∷ [] → TellsReason text (NotWhole index) lines
-untold_number text index what lines are = inr (tells_no_place text what lines are)
+pub untold_number : (text : NamedText) (index : ℕ) (what : Text) (lines : List Text) → IsOfNoKind what → lines ≡ text_line text.name what ∷ [] → TellsReason text (NotWhole index) lines
+untold_number text index what lines plain are = inr (tells_no_place text what lines plain are)
 
 pub tells_fault_at : (text : NamedText) (at : ℕ) (what : Text) (lines : List Text) → IsFaultAt text.bytes at what → lines ≡ told_line text at what ∷ [] → TellsReason text NotJson lines
 tells_fault_at text at what lines fault are = inl (record { at = at; what = what; fault = fault; are = are })
 
-pub tells_number : (text : NamedText) (at index : ℕ) (what : Text) (lines : List Text) → IsBrokenNumber text.bytes at → lines ≡ told_line text at what ∷ [] → TellsReason text (NotWhole index) lines
-tells_number text at index what lines number are = inl (record { at = at; number = number; what = what; are = are })
+pub tells_number : (text : NamedText) (at index : ℕ) (what : Text) (lines : List Text) → IsBrokenNumber text.bytes index at → lines ≡ told_line text at what ∷ [] → TellsReason text (NotWhole index) lines
+tells_number text at index what lines broken are = inl (record { at = at; broken = broken; what = what; are = are })
 
 pub tells_twice : (text : NamedText) (first second colons members : ℕ) (here there : Text) (one : Text) (other : Text) (lines : List Text) → IsTwice text.bytes first second
     → one ≡ told_line text first here → other ≡ told_line text second there → lines ≡ one ∷ other ∷ [] → TellsReason text (RepeatedName colons members) lines

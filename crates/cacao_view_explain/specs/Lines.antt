@@ -3,10 +3,11 @@ use Rattle.std.specs.Prelude.{◌≡◌, ◌⊎◌, true, ℕ, List, [], ◌∷�
 use Rattle.serde_json.specs.Data.{Data, string}
 use Rattle.serde_json.specs.Find.{as_str, get}
 use Rattle.cacao_text.specs.Canon.{canon}
+use Rattle.cacao_vars.specs.Names.{IsName}
 use Rattle.cacao_cli_ends.specs.Files.{NamedText}
 use Rattle.cacao_view_words.specs.Texts.{Text}
 use Rattle.cacao_view_faults.specs.Places.{Place, place_behind}
-use Rattle.cacao_view_faults.specs.Stands.{WordStands, stands}
+use Rattle.cacao_view_faults.specs.Stands.{WordStands, byte_at, stands}
 use Rattle.cacao_view_explain.specs.Plain.{shown}
 
 -- ---- a step
@@ -61,8 +62,13 @@ told_line text at what = place_line text.name (place_behind text.bytes at) what
 abbrev pub named_words : Text → Text → Text
 named_words name says = name ++ (codes " " ++ says)
 
+-- a variable's name, or a text in quotation marks
+abbrev pub IsTold : Text → Type 0
+IsTold name = IsName name ⊎ (byte_at name 0 ≡ 34)
+
 -- the words begin with this name, and go on with what is said of it
 pub record BeginsWithName (what name : Text) : Type 0 where
+  pub told : IsTold name
   pub says : Text
   pub is : what ≡ named_words name says
 

@@ -1,5 +1,5 @@
 -- Promise: Lines without control characters.
-use Rattle.std.specs.Prelude.{◌≡◌, ◌⊎◌, true, false, ℕ, ◌==◌, ◌&&◌, nat_le, nat_lt, if◌then◌else◌, Bool, List, [], ◌∷◌, ◌++◌, map, slice_get, codes, Option, Some, ⊤}
+use Rattle.std.specs.Prelude.{◌≡◌, ◌⊎◌, true, false, ℕ, ◌==◌, ◌&&◌, nat_le, nat_lt, if◌then◌else◌, Bool, List, [], ◌∷◌, ◌++◌, map, slice_get, codes, Some, ⊤}
 use Rattle.cacao_cli_ends.specs.Files.{NamedText}
 use Rattle.cacao_view_words.specs.Rules.{book_lines}
 use Rattle.cacao_view_words.specs.Texts.{Text}

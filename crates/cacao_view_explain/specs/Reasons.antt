@@ -4,13 +4,14 @@ use Rattle.cacao_json.specs.declared.error.JsonError.{JsonError}
 use Rattle.cacao_json.specs.declared.error.JsonError.TheVariants.{NotJson, RepeatedName, NotWhole, Memory}
 use Rattle.cacao_cli_ends.specs.Files.{NamedText}
 use Rattle.cacao_view_words.specs.Texts.{Text}
-use Rattle.cacao_view_faults.specs.Kinds.{IsFaultAt}
+use Rattle.cacao_view_faults.specs.Kinds.{IsFaultAt, IsOfNoKind}
 use Rattle.cacao_view_faults.specs.Tokens.{IsBrokenNumber, IsTwice}
 use Rattle.cacao_view_explain.specs.Lines.{text_line, told_line}
 
--- one line, without a place
+-- one line, without a place; the words are not those of what stands at one
 pub record TellsNoPlace (text : NamedText) (lines : List Text) : Type 0 where
   pub what : Text
+  pub plain : IsOfNoKind what
   pub are : lines ≡ text_line text.name what ∷ []
 
 -- where a text is not JSON: all before the place is good, and the words are those of what stands there
@@ -29,10 +30,10 @@ pub record TellsTwice (text : NamedText) (lines : List Text) : Type 0 where
   pub there : Text
   pub are : lines ≡ told_line text first here ∷ told_line text second there ∷ []
 
--- where a number stands that is not whole
-pub record TellsNumber (text : NamedText) (lines : List Text) : Type 0 where
+-- where the number of this number stands, which is not whole
+pub record TellsNumber (text : NamedText) (number : ℕ) (lines : List Text) : Type 0 where
   pub at : ℕ
-  pub number : IsBrokenNumber text.bytes at
+  pub broken : IsBrokenNumber text.bytes number at
   pub what : Text
   pub are : lines ≡ told_line text at what ∷ []
 
@@ -40,5 +41,5 @@ pub record TellsNumber (text : NamedText) (lines : List Text) : Type 0 where
 abbrev pub TellsReason : NamedText → JsonError → List Text → Type 0
 TellsReason text NotJson lines = TellsFaultAt text lines ⊎ TellsNoPlace text lines
 TellsReason text (RepeatedName colons members) lines = TellsTwice text lines ⊎ TellsNoPlace text lines
-TellsReason text (NotWhole index) lines = TellsNumber text lines ⊎ TellsNoPlace text lines
+TellsReason text (NotWhole index) lines = TellsNumber text index lines ⊎ TellsNoPlace text lines
 TellsReason text Memory lines = ⊥

@@ -34,7 +34,7 @@ pub(crate) const CONSTANT: &str = "is a constant, and a result is written to it"
 
 /// What is said of a variable of a kind that does not take the result.
 pub(crate) const KIND: &str =
-    "is of a type that does not take this result: string, integer or long take the status and the rule's number, string the text";
+    "is of a type that does not take this result: string, integer, long or a type that is not checked take the status and the rule's number, string or a type that is not checked the text";
 
 /// What is said of a break of K23 without a name.
 pub(crate) const NO_RESULT: &str =

@@ -2,12 +2,13 @@
 ghost use Rattle.std.specs.Prelude.{◌≡◌, ◌≤◌, ◌<◌, IfOk, IsTrue, length, string_bytes, true};
 ghost use Rattle.cacao_cli_looks.specs.Command.{text_of};
 ghost use Rattle.cacao_view_faults.specs.Stands.{WordStands, stands};
-ghost use Rattle.cacao_view_explain.specs.Lines.{BeginsWithName, TellsPart};
+ghost use Rattle.cacao_view_explain.specs.Lines.{BeginsWithName, IsTold, TellsPart};
 
 use crate::lines::{text_line, told_line};
 use crate::spot::{Finding, Named};
 use cacao_cli_looks::FileText;
-use cacao_view_faults::scan::value_end;
+use cacao_vars::Name;
+use cacao_view_faults::scan::{byte_at, value_end};
 use cacao_view_faults::{stands, word_stands};
 use std::alloc::{AllocError, Global};
 
@@ -27,10 +28,23 @@ fn value_line(
     told_line(alloc, text, from, what)
 }
 
+/// Whether this is a variable's name, or a text in quotation marks.
+fn is_told(name: &str) -> bool
+    ensures { IsTrue result → IsTold name.now }
+{
+    if Name::fits(name) {
+        return true;
+    }
+    byte_at(name.as_bytes(), 0) == b'"'
+}
+
 /// Whether words begin with a name, and a blank behind it.
 fn begins_with_name(what: &str, name: &str) -> bool
     ensures { IsTrue result → BeginsWithName what.now name.now }
 {
+    if !is_told(name) {
+        return false;
+    }
     let Some(rest) = what.strip_prefix(name) else {
         return false;
     };

@@ -1,7 +1,7 @@
 // What breaks a rule of sense, K14 to K21. K13 and K18 ask nothing of playbooks that are read.
 use crate::call_faults::called_by;
 use crate::spot::{Finding, Spot};
-use cacao_book::{Book, Step, find_place};
+use cacao_book::{Book, Step, StepKind, find_place};
 use cacao_check::value_fits;
 use cacao_check_steps::{subject_of, version_of};
 use cacao_json::{Text, Tree, member};
@@ -16,14 +16,30 @@ pub(crate) struct Suspect<'a> {
     pub(crate) bytes: &'a [u8],
 }
 
-/// The links of a step, by their members.
-const LINKS: &[&str] = &[
+/// What is said of a link that leads to no step.
+const NO_STEP: &str = "no step of the workflow has this key";
+
+/// The members of a step of any type that are links.
+const NEXT_LINKS: &[&str] = &["on_completion", "on_success", "on_failure"];
+
+const IF_LINKS: &[&str] = &[
     "on_completion",
     "on_success",
     "on_failure",
     "on_true",
     "on_false",
 ];
+
+const WHILE_LINKS: &[&str] = &["on_completion", "on_success", "on_failure", "on_true"];
+
+/// The members of a step of this type that are links, but for next_steps of a parallel and cases of a switch.
+fn links_of(kind: &StepKind) -> &'static [&'static str] {
+    match kind {
+        StepKind::If { .. } => IF_LINKS,
+        StepKind::While { .. } => WHILE_LINKS,
+        _ => NEXT_LINKS,
+    }
+}
 
 /// Whether the value of a variable, if it has one, is of its kind.
 fn has_fitting_value(var: &Var) -> bool {
@@ -73,21 +89,11 @@ impl<'a> Suspect<'a> {
             None => false,
         };
         if !starts {
-            return self.at_member(
-                alloc,
-                spot,
-                "workflow_start",
-                "no step of the workflow has this key",
-            );
+            return self.at_member(alloc, spot, "workflow_start", NO_STEP);
         }
         if let Some(key) = &self.book.exception {
             if !self.names_step(key.text()) {
-                return self.at_member(
-                    alloc,
-                    spot,
-                    "workflow_exception",
-                    "no step of the workflow has this key",
-                );
+                return self.at_member(alloc, spot, "workflow_exception", NO_STEP);
             }
         }
         self.at_member(
@@ -108,7 +114,7 @@ impl<'a> Suspect<'a> {
         rule: u8,
     ) -> Result<Finding, AllocError> {
         match rule {
-            16 => self.link_fault(alloc, object, spot),
+            16 => self.link_fault(alloc, object, spot, step),
             17 => self.agent_fault(alloc, object, spot),
             19 => self.version_fault(alloc, spot, step),
             20 => self.value_fault(alloc, spot, "step_variables", &step.variables),
@@ -140,31 +146,45 @@ impl<'a> Suspect<'a> {
         Finding::of(alloc, spot, "a value is not a text of its variable's type")
     }
 
-    /// A link that leads to no step.
-    fn link_fault(&self, alloc: Global, object: &Tree, spot: Spot) -> Result<Finding, AllocError> {
-        for link in LINKS {
+    /// A link that leads to no step. Members that are no links of a step of this type are not looked at.
+    fn link_fault(
+        &self,
+        alloc: Global,
+        object: &Tree,
+        spot: Spot,
+        step: &Step,
+    ) -> Result<Finding, AllocError> {
+        for link in links_of(&step.kind) {
             if let Some(Tree::Text(key)) = member(object, *link) {
                 if !self.names_step(key.text()) {
-                    return self.at_member(
-                        alloc,
-                        spot,
-                        *link,
-                        "no step of the workflow has this key",
-                    );
+                    return self.at_member(alloc, spot, *link, NO_STEP);
                 }
             }
         }
+        match &step.kind {
+            StepKind::Parallel { .. } => self.branch_fault(alloc, object, spot),
+            StepKind::Switch { .. } => self.case_fault(alloc, object, spot),
+            _ => Finding::of(alloc, spot, "a link leads to no step"),
+        }
+    }
+
+    /// A branch of a parallel that leads to no step.
+    fn branch_fault(
+        &self,
+        alloc: Global,
+        object: &Tree,
+        spot: Spot,
+    ) -> Result<Finding, AllocError> {
+        let spot = spot.member(alloc, self.bytes, "next_steps")?;
         if let Some(Tree::List(items)) = member(object, "next_steps") {
-            let spot = spot.member(alloc, self.bytes, "next_steps")?;
             for (number, item) in items.as_slice().iter().enumerate() {
                 if !self.item_names_step(item) {
                     let spot = spot.item(alloc, self.bytes, number)?;
-                    return Finding::of(alloc, spot, "no step of the workflow has this key");
+                    return Finding::of(alloc, spot, NO_STEP);
                 }
             }
-            return Finding::of(alloc, spot, "a link leads to no step");
         }
-        self.case_fault(alloc, object, spot)
+        Finding::of(alloc, spot, "a link leads to no step")
     }
 
     fn item_names_step(&self, item: &Tree) -> bool {
@@ -174,17 +194,13 @@ impl<'a> Suspect<'a> {
         }
     }
 
+    /// A case of a switch that leads to no step.
     fn case_fault(&self, alloc: Global, object: &Tree, spot: Spot) -> Result<Finding, AllocError> {
         let spot = spot.member(alloc, self.bytes, "cases")?;
         if let Some(Tree::Members(pairs)) = member(object, "cases") {
             for pair in pairs.as_slice() {
                 if !self.item_names_step(&pair.tree) {
-                    return self.at_member(
-                        alloc,
-                        spot,
-                        pair.name.text(),
-                        "no step of the workflow has this key",
-                    );
+                    return self.at_member(alloc, spot, pair.name.text(), NO_STEP);
                 }
             }
         }

@@ -2,7 +2,7 @@
 ghost use Rattle.std.specs.Prelude.{◌≡◌, ◌≤◌, ℕ, ◌∷◌, [], IfOk, length, map};
 ghost use Rattle.cacao_json.specs.declared.error.JsonError.TheVariants.{NotJson, NotWhole, RepeatedName};
 ghost use Rattle.cacao_cli_looks.specs.Command.{text_of};
-ghost use Rattle.cacao_view_faults.specs.Kinds.{IsFaultAt};
+ghost use Rattle.cacao_view_faults.specs.Kinds.{IsFaultAt, IsOfNoKind};
 ghost use Rattle.cacao_view_faults.specs.Tokens.{IsBrokenNumber, IsTwice};
 ghost use Rattle.cacao_view_explain.specs.Lines.{text_line, told_line};
 ghost use Rattle.cacao_view_explain.specs.Reasons.{TellsReason};
@@ -13,7 +13,7 @@ use cacao_cli_looks::FileText;
 use cacao_json::{JsonError, find_tree, read_tree, text_of};
 use cacao_view_faults::scan::string_end;
 use cacao_view_faults::{
-    Told, Twice, is_broken_number, is_twice, name_twice, number_not_whole, told_fault,
+    Told, Twice, broken_number, is_twice, name_twice, plain_words, told_fault,
 };
 use cacao_view_report::Lines;
 use std::alloc::{AllocError, Global};
@@ -41,6 +41,7 @@ fn one_text(alloc: Global, text: &FileText<'_>, what: &str) -> Result<Lines, All
 
 /// What is told where no place is known.
 fn no_place(alloc: Global, text: &FileText<'_>, what: &str) -> Result<Lines, AllocError>
+    requires { IsOfNoKind what.now }
     ensures not_json { IfOk result (TellsReason (text_of text.now) NotJson) }
     ensures repeated { (colons members : ℕ) → IfOk result (TellsReason (text_of text.now) (RepeatedName colons members)) }
     ensures number { (index : ℕ) → IfOk result (TellsReason (text_of text.now) (NotWhole index)) }
@@ -131,26 +132,27 @@ fn repeated(
     ensures { IfOk result (TellsReason (text_of text.now) (RepeatedName colons members)) }
 {
     let Some(twice) = name_twice(alloc, text.bytes.as_slice())? else {
-        return no_place(alloc, text, TWICE);
+        return no_place(alloc, text, plain_words(TWICE));
     };
     if !is_twice(alloc, text.bytes.as_slice(), twice)? {
-        return no_place(alloc, text, TWICE);
+        return no_place(alloc, text, plain_words(TWICE));
     }
     let name = name_in(alloc, text.bytes.as_slice(), twice.first)?;
     let here = named_words(alloc, name.as_str(), TWICE_HERE)?;
     two_places(alloc, text, twice, here.as_str(), TWICE_THERE)
 }
 
-/// The line that tells where a number stands that is not whole.
+/// The line that tells where the number of this number stands, which is not whole.
 fn number_line(
     alloc: Global,
     text: &FileText<'_>,
+    number: u32,
     at: usize,
     what: &str,
 ) -> Result<Lines, AllocError>
     requires within { at ≤ length (text_of text.now).bytes }
-    requires number { IsBrokenNumber (text_of text.now).bytes at }
-    ensures { (index : ℕ) → IfOk result (TellsReason (text_of text.now) (NotWhole index)) }
+    requires broken { IsBrokenNumber (text_of text.now).bytes number at }
+    ensures { IfOk result (TellsReason (text_of text.now) (NotWhole number)) }
 {
     one_place(alloc, text, at, what)
 }
@@ -159,13 +161,10 @@ fn number_line(
 fn not_whole(alloc: Global, text: &FileText<'_>, index: u32) -> Result<Lines, AllocError>
     ensures { IfOk result (TellsReason (text_of text.now) (NotWhole index)) }
 {
-    let Some(at) = number_not_whole(text.bytes.as_slice()) else {
-        return no_place(alloc, text, NOT_WHOLE);
+    let Some(at) = broken_number(alloc, text.bytes.as_slice(), index)? else {
+        return no_place(alloc, text, plain_words(NOT_WHOLE));
     };
-    if !is_broken_number(alloc, text.bytes.as_slice(), at)? {
-        return no_place(alloc, text, NOT_WHOLE);
-    }
-    number_line(alloc, text, at, NOT_WHOLE)
+    number_line(alloc, text, index, at, NOT_WHOLE)
 }
 
 /// What is wrong in a text that has no tree for this reason.

@@ -1,7 +1,9 @@
 -- What tests of places show.
-use Rattle.std.proofs.Common.{◌≡◌, ◌⊎◌, ◌∙◌, inl, inr, refl, sym, ap, subst, ℕ, List, [], ◌∷◌, ◌++◌, take, append-nil, Bool, true, false, if◌then◌else◌, Option, Some, None}
+use Rattle.std.proofs.Common.{◌≡◌, ◌⊎◌, ◌∙◌, inl, inr, refl, sym, ap, subst, ℕ, List, [], ◌∷◌, ◌++◌, take, length, arith, append-nil, Bool, true, false, if◌then◌else◌, Option, Some, None}
 use Rattle.std.specs.Prelude.{is_some, IsSome, IsTrue, codes}
+use Rattle.std.proofs.lemmas.List.{append_assoc, take_all}
 use Rattle.serde_json.specs.Data.{Data}
+use Rattle.cacao_json.specs.Reading.{reading}
 use Rattle.cacao_view_faults.specs.Closing.{closes_with, closing, is_begun, standing_behind}
 use Rattle.cacao_view_faults.specs.Kinds.{IsBegun}
 use Rattle.cacao_view_faults.specs.Stands.{LeadsOn, leads}
@@ -20,6 +22,23 @@ begun text at =
     one_of (closes_with (take at text) (codes "")) _ (closed text at (codes ""))
     (one_of (closes_with (take at text) (codes "0")) _ (closed text at (codes "0"))
     (one_of (closes_with (take at text) (codes ":0")) _ (closed text at (codes ":0")) (closed text at (codes "\"\":0"))))
+
+-- ---- the beginning of a text that is cut
+
+joined : (text rest more : List ℕ) → (text ++ rest) ++ more ≡ take (length text) text ++ (rest ++ more)
+joined text rest more = append_assoc text rest more ∙ ap (λ (front : List ℕ). front ++ (rest ++ more)) (sym (take_all (length text) text (omega arith)))
+
+closed_with : (text rest middle : List ℕ) → closes_with (text ++ rest) middle ≡ true → IsBegun text (length text)
+closed_with text rest middle e = record {
+  more = rest ++ closing (standing_behind (text ++ rest)) middle;
+  is = subst (λ (bytes : List ℕ). is_some (reading bytes) ≡ true) (joined text rest (closing (standing_behind (text ++ rest)) middle)) e;
+}
+
+pub begun_with : (text rest : List ℕ) → is_begun (text ++ rest) ≡ true → IsBegun text (length text)
+begun_with text rest =
+    one_of (closes_with (text ++ rest) (codes "")) _ (closed_with text rest (codes ""))
+    (one_of (closes_with (text ++ rest) (codes "0")) _ (closed_with text rest (codes "0"))
+    (one_of (closes_with (text ++ rest) (codes ":0")) _ (closed_with text rest (codes ":0")) (closed_with text rest (codes "\"\":0"))))
 
 -- ---- a pointer
 

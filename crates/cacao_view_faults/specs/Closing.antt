@@ -1,5 +1,5 @@
 -- Promise: Whether the first bytes of a text are found to begin a JSON text: what closes their string and their brackets is put behind them.
-use Rattle.std.specs.Prelude.{ℕ, ◌-◌, ◌==◌, ◌&&◌, ◌||◌, ◌++◌, Bool, true, false, not, nat_lt, if◌then◌else◌, List, [], ◌∷◌, length, take, fold, codes, reverse, is_some}
+use Rattle.std.specs.Prelude.{◌≡◌, ℕ, ◌-◌, ◌==◌, ◌&&◌, ◌||◌, ◌++◌, Bool, true, false, not, nat_lt, if◌then◌else◌, List, All, [], ◌∷◌, length, take, fold, codes, reverse, is_some}
 use Rattle.cacao_json.specs.Reading.{reading}
 
 -- where some bytes end: whether in a string, whether behind a backslash in it, and what closes the brackets that are open, the first one first
@@ -45,3 +45,13 @@ is_begun front =
     if closes_with front (codes "") then true
     else (if closes_with front (codes "0") then true
     else (if closes_with front (codes ":0") then true else closes_with front (codes "\"\":0")))
+
+-- what may be left of a word, of an escape of a character, or of that of its second half; a number wants no more than a digit
+abbrev pub rests : List (List ℕ)
+rests =
+    codes "" ∷ codes "e" ∷ codes "ue" ∷ codes "rue" ∷ codes "se" ∷ codes "lse" ∷ codes "alse" ∷ codes "l" ∷ codes "ll" ∷ codes "ull"
+    ∷ codes "0" ∷ codes "00" ∷ codes "000" ∷ codes "0000" ∷ codes "C00" ∷ codes "DC00" ∷ codes "uDC00" ∷ codes "\\uDC00" ∷ codes "0\\uDC00" ∷ codes "00\\uDC00" ∷ []
+
+-- the bytes are not found to begin a JSON text, whatever of these stands behind them
+abbrev pub IsDead : List ℕ → Type 0
+IsDead front = All (λ rest. is_begun (front ++ rest) ≡ false) rests

@@ -1,10 +1,10 @@
 -- Promise: What is wrong at a place of a text that is not JSON, told from the bytes there.
-use Rattle.std.specs.Prelude.{◌≡◌, ◌⊎◌, ◌≤◌, ◌<◌, ℕ, ◌-◌, ◌==◌, ◌&&◌, ◌||◌, ◌++◌, Bool, true, false, not, nat_le, nat_lt, if◌then◌else◌, List, length, take, drop, fold, slice_range, Option, Some, None, is_some, ⊤}
+use Rattle.std.specs.Prelude.{◌≡◌, ◌⊎◌, ◌≤◌, ◌<◌, ℕ, ◌-◌, ◌==◌, ◌&&◌, ◌||◌, ◌++◌, Bool, true, false, not, nat_le, nat_lt, if◌then◌else◌, List, length, take, drop, fold, slice_range, Option, Some, None, is_some}
 use Rattle.std.specs.List.{list_all}
 use Rattle.std.specs.Str.{is_utf8}
 use Rattle.std.specs.Str.Lossy.{utf8_valid_len}
 use Rattle.cacao_json.specs.Reading.{reading}
-use Rattle.cacao_view_faults.specs.Closing.{is_begun, standing_behind}
+use Rattle.cacao_view_faults.specs.Closing.{IsDead, is_begun, standing_behind}
 use Rattle.cacao_view_faults.specs.Stands.{byte_at, is_space}
 use Rattle.cacao_view_faults.specs.declared.kinds.Kind.{Kind}
 use Rattle.cacao_view_faults.specs.declared.kinds.Kind.TheVariants.{ByteOrderMark, Utf16, ZeroBytes, NotUtf8, Ends, Escape, Control, Comment, TrailingComma, SingleQuote, Other}
@@ -17,15 +17,25 @@ mark_with last byte = if is_space byte then last else byte
 abbrev pub mark_before : List ℕ → ℕ → ℕ
 mark_before text at = fold mark_with 0 (take at text)
 
--- a file that begins with a mark of its encoding, or with a character in two or four bytes
+-- a file that begins with a mark of its encoding
 abbrev pub has_byte_order_mark : List ℕ → Bool
 has_byte_order_mark text = (byte_at text 0 == 239) && (byte_at text 1 == 187) && (byte_at text 2 == 191)
 
 abbrev pub is_utf16 : List ℕ → Bool
 is_utf16 text = ((byte_at text 0 == 254) && (byte_at text 1 == 255)) || ((byte_at text 0 == 255) && (byte_at text 1 == 254))
 
+-- the greatest end first, or the least, which begins as a mark of UTF-16 does
+abbrev pub is_utf32 : List ℕ → Bool
+is_utf32 text =
+    nat_le 4 (length text)
+    && (((byte_at text 0 == 0) && (byte_at text 1 == 0) && (byte_at text 2 == 254) && (byte_at text 3 == 255))
+    || ((byte_at text 0 == 255) && (byte_at text 1 == 254) && (byte_at text 2 == 0) && (byte_at text 3 == 0)))
+
+-- one that begins with two characters of ASCII in two bytes, or with one in four (RFC 4627, section 3)
 abbrev pub has_zero_bytes : List ℕ → Bool
-has_zero_bytes text = nat_le 2 (length text) && ((byte_at text 0 == 0) || (byte_at text 1 == 0))
+has_zero_bytes text =
+    nat_le 4 (length text)
+    && (((byte_at text 0 == 0) && (byte_at text 2 == 0)) || ((byte_at text 1 == 0) && (byte_at text 3 == 0)))
 
 -- a mark at a place, by the byte there and the marks before it
 abbrev pub mark_at : ℕ → ℕ → ℕ → Kind
@@ -49,8 +59,8 @@ is_no_character text at = has_no_character (drop at text)
 abbrev pub kind_at : List ℕ → ℕ → Kind
 kind_at text at =
     if has_byte_order_mark text then ByteOrderMark else
+    (if is_utf32 text || has_zero_bytes text then ZeroBytes else
     (if is_utf16 text then Utf16 else
-    (if has_zero_bytes text then ZeroBytes else
     (if nat_le (length text) at then Ends else
     (if is_no_character text at then NotUtf8 else mark_at (byte_at text at) (byte_before text at) (mark_before text at)))))
 
@@ -68,9 +78,13 @@ words_of TrailingComma = Some TRAILING_COMMA.now
 words_of SingleQuote = Some SINGLE_QUOTE.now
 words_of Other = None
 
--- the words are those of this kind, if it has words
+-- no kind has these words
+abbrev pub IsOfNoKind : List ℕ → Type 0
+IsOfNoKind what = (kind : Kind) → ¬ (words_of kind ≡ Some what)
+
+-- the words are those of this kind, if it has words; else those of no kind
 abbrev pub AreWords : Option (List ℕ) → List ℕ → Type 0
-AreWords None what = ⊤
+AreWords None what = IsOfNoKind what
 AreWords (Some words) what = what ≡ words
 
 -- The bytes before a place are good: with some others behind them they are JSON text (RFC 8259).
@@ -87,17 +101,28 @@ is_of_word byte =
 abbrev pub is_of_string : List ℕ → Bool
 is_of_string bytes = (byte_at bytes 0 == 34) && (standing_behind (take (length bytes - 1) bytes)).in_string
 
--- one byte; or those of a word and one behind it; or those of a string
-abbrev pub is_piece : List ℕ → Bool
-is_piece bytes = list_all is_of_word (take (length bytes - 1) bytes) || is_of_string bytes
+-- a whole word with the byte behind it, or one byte that is of no word; where the text ends, the word may end with it
+abbrev pub is_word_piece : List ℕ → Bool → Bool
+is_word_piece bytes ends =
+    list_all is_of_word (take (length bytes - 1) bytes) && (ends || not (is_of_word (byte_at bytes (length bytes - 1))))
 
--- With the piece that begins at this place the text is not found to be begun any longer.
+-- a whole string, with both its quotation marks; where the text ends, it may end with it
+abbrev pub is_string_piece : List ℕ → Bool → Bool
+is_string_piece bytes ends = is_of_string bytes && (ends || not (standing_behind bytes).in_string)
+
+-- what begins at a place, whole: a word and the byte behind it, a string, or one other byte
+abbrev pub is_piece : List ℕ → Bool → Bool
+is_piece bytes ends = is_word_piece bytes ends || is_string_piece bytes ends
+
+-- With the piece that begins at this place the text is not found to be begun any longer; where the piece ends with the text, not with what may be
+-- left of it either.
 pub record Stops (text : List ℕ) (at : ℕ) : Type 0 where
   pub end : ℕ
   pub after : at < end
   pub before : end ≤ length text
-  pub piece : is_piece (slice_range text at end) ≡ true
+  pub piece : is_piece (slice_range text at end) (end == length text) ≡ true
   pub is : is_begun (take end text) ≡ false
+  pub uncut : end ≡ length text → IsDead text
 
 -- What is wrong in a text that is not JSON, at a place of it: all before it is good, the text ends there or what begins there does not go on with
 -- it, and the words are those of what stands there.

@@ -26,7 +26,12 @@ stands_again text from end =
     (if is_some (reading (renamed text end)) then nat_lt (repeats (answer (renamed text end))) (repeats (answer text)) else false)
     else false
 
--- one name stands at both places, and at each stands again in its object
+-- Two names are of one object: where both end in `~`, no fewer members are lost than where the first alone does.
+abbrev pub are_together : List ℕ → ℕ → ℕ → Bool
+are_together text first_end second_end =
+    nat_le (repeats (answer (renamed text first_end))) (repeats (answer (renamed (renamed text second_end) first_end)))
+
+-- one name stands at both places, at each stands again in its object, and that is one object
 pub record IsTwice (text : List ℕ) (first second : ℕ) : Type 0 where
   pub first_end : ℕ
   pub first_again : stands_again text first first_end ≡ true
@@ -34,6 +39,7 @@ pub record IsTwice (text : List ℕ) (first second : ℕ) : Type 0 where
   pub second_again : stands_again text second second_end ≡ true
   pub apart : first < second
   pub alike : slice_range text first first_end ≡ slice_range text second second_end
+  pub together : are_together text first_end second_end ≡ true
 
 abbrev pub is_not_whole : Result Data JsonError → Bool
 is_not_whole (Ok root) = false
@@ -52,6 +58,16 @@ is_broken_number text from end =
     (if is_not_whole (answer (slice_range text from end)) then is_some (reading (in_place (codes "\"\"") text from end)) else false)
     else false
 
-pub record IsBrokenNumber (text : List ℕ) (at : ℕ) : Type 0 where
+-- the first number that is not whole, as the numbers are counted, is that of this number
+abbrev pub is_not_whole_at : ℕ → Result Data JsonError → Bool
+is_not_whole_at number (Ok root) = false
+is_not_whole_at number (Err NotJson) = false
+is_not_whole_at number (Err (RepeatedName colons members)) = false
+is_not_whole_at number (Err (NotWhole index)) = index == number
+is_not_whole_at number (Err Memory) = false
+
+-- The number that stands here is that of this number, as they are counted: with 0 in its place the first that is not whole is another one, or none is.
+pub record IsBrokenNumber (text : List ℕ) (number at : ℕ) : Type 0 where
   pub end : ℕ
   pub is : is_broken_number text at end ≡ true
+  pub counted : is_not_whole_at number (answer (in_place (codes "0") text at end)) ≡ false

@@ -1,13 +1,13 @@
 // Whether all that stands before a place of a text is good, and the text does not go on there.
-ghost use Rattle.std.specs.Prelude.{◌≡◌, ◌⊎◌, ◌≤◌, ◌++◌, IfOk, IsTrue, OnOk, length, reverse};
+ghost use Rattle.std.specs.Prelude.{◌≡◌, ◌⊎◌, ◌≤◌, ◌<◌, ◌++◌, All, false, IfOk, IsTrue, OnOk, length, map, reverse};
 ghost use Rattle.std.specs.List.{list_all};
-ghost use Rattle.cacao_view_faults.specs.Closing.{closers_with, closes_with, closing, is_begun, standing_behind, standing_with, string_closing};
-ghost use Rattle.cacao_view_faults.specs.Kinds.{IsBegun, IsFaultAt, Stops, is_of_string, is_of_word, is_piece};
+ghost use Rattle.cacao_view_faults.specs.Closing.{IsDead, closers_with, closes_with, closing, is_begun, standing_behind, standing_with, string_closing};
+ghost use Rattle.cacao_view_faults.specs.Kinds.{IsBegun, IsFaultAt, IsOfNoKind, Stops, is_of_string, is_of_word, is_piece, is_string_piece, is_word_piece};
 ghost use Rattle.cacao_view_faults.specs.StandingBy.{standing_by};
 
 use crate::faults::Fault;
 use crate::first_fault::fault_in;
-use crate::kinds::kind_at;
+use crate::kinds::{kind_at, plain_words};
 use crate::scan::{byte_at, is_of_word, string_end, word_end};
 use crate::standing::is_json;
 use std::alloc::{AllocError, Global};
@@ -145,6 +145,60 @@ fn is_begun(alloc: Global, front: &[u8]) -> Result<bool, AllocError>
     closes_with(alloc, front, &standing, b"\"\":0")
 }
 
+/// What may be left of a word, of an escape of a character, or of that of its second half.
+const RESTS: &[&[u8]] = &[
+    b"",
+    b"e",
+    b"ue",
+    b"rue",
+    b"se",
+    b"lse",
+    b"alse",
+    b"l",
+    b"ll",
+    b"ull",
+    b"0",
+    b"00",
+    b"000",
+    b"0000",
+    b"C00",
+    b"DC00",
+    b"uDC00",
+    b"\\uDC00",
+    b"0\\uDC00",
+    b"00\\uDC00",
+];
+
+/// Whether the bytes are found to begin a JSON text where this stands behind them.
+fn is_begun_with(alloc: Global, bytes: &[u8], rest: &[u8]) -> Result<bool, AllocError>
+    ensures { IfOk result (λ yes. yes ≡ is_begun (bytes.now ++ rest.now)) }
+{
+    let whole = joined(alloc, bytes, rest)?;
+    is_begun(alloc, whole.as_slice())
+}
+
+/// Whether the bytes are found to begin a JSON text where one of these stands behind them.
+fn is_begun_with_any(alloc: Global, bytes: &[u8], rests: &[&[u8]]) -> Result<bool, AllocError>
+    ensures begun { IfOk result (λ yes. IsTrue yes → IsBegun bytes.now (length bytes.now)) }
+    ensures dead { IfOk result (λ yes. yes ≡ false → All (λ rest. is_begun (bytes.now ++ rest) ≡ false) (map (λ rest. rest.now) rests.now)) }
+{
+    for n in 0..rests.len() {
+        if is_begun_with(alloc, bytes, rests[n])? {
+            return Ok(true);
+        }
+    }
+    Ok(false)
+}
+
+/// Whether the bytes are found to begin a JSON text where what may be left of a word, a number or an escape stands behind them.
+fn is_cut(alloc: Global, bytes: &[u8]) -> Result<bool, AllocError>
+    ensures begun { IfOk result (λ yes. IsTrue yes → IsBegun bytes.now (length bytes.now)) }
+    ensures dead { IfOk result (λ yes. yes ≡ false → IsDead bytes.now) }
+{
+    let yes = is_begun_with_any(alloc, bytes, RESTS)?;
+    Ok(yes)
+}
+
 /// Whether the byte is one of a word or a number.
 fn are_of_word(bytes: &[u8]) -> bool
     ensures { result ≡ list_all is_of_word bytes.now }
@@ -160,14 +214,49 @@ fn is_of_string(alloc: Global, bytes: &[u8]) -> Result<bool, AllocError>
     Ok(byte_at(bytes, 0) == b'"' && front.in_string)
 }
 
-/// Whether these are one byte, or those of a word and one behind it, or those of a string.
-fn is_piece(alloc: Global, bytes: &[u8]) -> Result<bool, AllocError>
-    ensures { IfOk result (λ yes. yes ≡ is_piece bytes.now) }
+/// Whether these are those of a whole word and one behind it, or one that is of no word; the word may end with the text.
+fn is_word_piece(bytes: &[u8], ends: bool) -> bool
+    ensures { result ≡ is_word_piece bytes.now ends }
 {
-    if are_of_word(&bytes[..bytes.len().saturating_sub(1)]) {
+    let last = bytes.len().saturating_sub(1);
+    if !are_of_word(&bytes[..last]) {
+        return false;
+    }
+    ends || !is_of_word(byte_at(bytes, last))
+}
+
+/// Whether these are those of a whole string; it may end with the text.
+fn is_string_piece(alloc: Global, bytes: &[u8], ends: bool) -> Result<bool, AllocError>
+    ensures { IfOk result (λ yes. yes ≡ is_string_piece bytes.now ends) }
+{
+    if !is_of_string(alloc, bytes)? {
+        return Ok(false);
+    }
+    let standing = standing_behind(alloc, bytes)?;
+    Ok(ends || !standing.in_string)
+}
+
+/// Whether these are a whole word and the byte behind it, a whole string, or one other byte.
+fn is_piece(alloc: Global, bytes: &[u8], ends: bool) -> Result<bool, AllocError>
+    ensures { IfOk result (λ yes. yes ≡ is_piece bytes.now ends) }
+{
+    if is_word_piece(bytes, ends) {
         return Ok(true);
     }
-    is_of_string(alloc, bytes)
+    is_string_piece(alloc, bytes, ends)
+}
+
+/// Whether a place is not the end of the text, or the text is not begun with what may be left of its last word, number or escape either.
+fn is_uncut(alloc: Global, bytes: &[u8], end: usize) -> Result<bool, AllocError>
+    ensures { IfOk result (λ yes. IsTrue yes → end ≡ length bytes.now → IsDead bytes.now) }
+{
+    if end != bytes.len() {
+        return Ok(true);
+    }
+    if is_cut(alloc, bytes)? {
+        return Ok(false);
+    }
+    Ok(true)
 }
 
 /// Whether the text is not begun any longer with what stands from one place on and before another.
@@ -177,11 +266,14 @@ fn stops_before(alloc: Global, bytes: &[u8], at: usize, end: usize) -> Result<bo
     if at >= end || end > bytes.len() {
         return Ok(false);
     }
-    if !is_piece(alloc, &bytes[at..end])? {
+    if !is_piece(alloc, &bytes[at..end], end == bytes.len())? {
         return Ok(false);
     }
-    let begun = is_begun(alloc, &bytes[..end])?;
-    Ok(!begun)
+    if is_begun(alloc, &bytes[..end])? {
+        return Ok(false);
+    }
+    let yes = is_uncut(alloc, bytes, end)?;
+    Ok(yes)
 }
 
 /// The place behind the string, or the word and the byte behind it, that begins at a place.
@@ -201,10 +293,27 @@ fn stops(alloc: Global, bytes: &[u8], at: usize) -> Result<bool, AllocError>
     if at == bytes.len() {
         return Ok(true);
     }
-    if stops_before(alloc, bytes, at, at.saturating_add(1))? {
-        return Ok(true);
-    }
     stops_before(alloc, bytes, at, piece_end(bytes, at))
+}
+
+/// Whether all before a place is good; at the end of the text, but for what may be left of its last word, number or escape.
+fn is_good(alloc: Global, bytes: &[u8], at: usize) -> Result<bool, AllocError>
+    requires { at ≤ length bytes.now }
+    ensures { IfOk result (λ yes. IsTrue yes → IsBegun bytes.now at) }
+{
+    if at == bytes.len() {
+        return is_cut(alloc, bytes);
+    }
+    is_begun_before(alloc, bytes, at)
+}
+
+/// Whether all before a place is found to begin a JSON text.
+fn is_begun_before(alloc: Global, bytes: &[u8], at: usize) -> Result<bool, AllocError>
+    requires { at ≤ length bytes.now }
+    ensures { IfOk result (λ yes. IsTrue yes → IsBegun bytes.now at) }
+{
+    let yes = is_begun(alloc, &bytes[..at])?;
+    Ok(yes)
 }
 
 /// Whether all before a place is good, and the text does not go on there.
@@ -213,29 +322,68 @@ fn is_placed(alloc: Global, bytes: &[u8], at: usize) -> Result<bool, AllocError>
     ensures begun { IfOk result (λ yes. IsTrue yes → IsBegun bytes.now at) }
     ensures stops { IfOk result (λ yes. IsTrue yes → (at ≡ length bytes.now) ⊎ Stops bytes.now at) }
 {
-    if !is_begun(alloc, &bytes[..at])? {
+    if !is_good(alloc, bytes, at)? {
         return Ok(false);
     }
     let yes = stops(alloc, bytes, at)?;
     Ok(yes)
 }
 
-/// What is wrong in a text that is not JSON, and whether its place is known: all before it is good then, and the text does not go on there.
+/// What is said of a text that ends within a word, a number or an escape.
+const CUT: &str = "the text ends within a word, a number or an escape";
+
+/// What is wrong first in a text that is not JSON: that it ends, where what is found is what its end has cut.
+fn first_fault(alloc: Global, bytes: &[u8]) -> Result<Fault, AllocError>
+    ensures { IfOk result (λ fault. fault.at ≤ length bytes.now) }
+{
+    let found = fault_in(alloc, bytes)?;
+    if found.at >= bytes.len() || piece_end(bytes, found.at) < bytes.len() {
+        return Ok(found);
+    }
+    if !is_cut(alloc, bytes)? {
+        return Ok(found);
+    }
+    Ok(Fault {
+        at: bytes.len(),
+        what: CUT,
+    })
+}
+
+/// What is wrong in a text that is not JSON, and whether its place is known: all before it is good then, and the text does not go on there. Where
+/// it is not known, the words are those of no kind.
 #[derive(Clone, Copy)]
 pub struct Told {
     pub fault: Fault,
     pub placed: bool,
 }
 
+/// A fault whose place is known.
+fn placed_fault(bytes: &[u8], found: Fault) -> Told
+    requires within { found.at ≤ length bytes.now }
+    requires begun { IsBegun bytes.now found.at }
+    requires stops { (found.at ≡ length bytes.now) ⊎ Stops bytes.now found.at }
+    ensures placed { IsTrue result.placed → IsFaultAt bytes.now result.fault.at result.fault.what.now }
+    ensures untold { result.placed ≡ false → IsOfNoKind result.fault.what.now }
+{
+    let what = kind_at(bytes, found.at).words(found.what);
+    Told {
+        fault: Fault { at: found.at, what },
+        placed: true,
+    }
+}
+
 /// What is wrong in a text that is not JSON.
 pub fn told_fault(alloc: Global, bytes: &[u8]) -> Result<Told, AllocError>
-    ensures { IfOk result (λ told. IsTrue told.placed → IsFaultAt bytes.now told.fault.at told.fault.what.now) }
+    ensures placed { IfOk result (λ told. IsTrue told.placed → IsFaultAt bytes.now told.fault.at told.fault.what.now) }
+    ensures untold { IfOk result (λ told. told.placed ≡ false → IsOfNoKind told.fault.what.now) }
 {
-    let found = fault_in(alloc, bytes)?;
-    let what = kind_at(bytes, found.at).words(found.what);
-    let placed = is_placed(alloc, bytes, found.at)?;
+    let found = first_fault(alloc, bytes)?;
+    if is_placed(alloc, bytes, found.at)? {
+        return Ok(placed_fault(bytes, found));
+    }
+    let what = plain_words(found.what);
     Ok(Told {
         fault: Fault { at: found.at, what },
-        placed,
+        placed: false,
     })
 }

@@ -2,17 +2,17 @@
 ghost use Rattle.std.specs.Prelude.{◌≤◌, IfOk, IfSome, length};
 
 use crate::faults::{Fault, is_digit, syntax_fault};
-use crate::kinds::{BYTE_ORDER_MARK, Kind, NOT_UTF8, UTF_16, ZERO_BYTES, kind_at};
+use crate::kinds::{BYTE_ORDER_MARK, Kind, NOT_JSON, NOT_UTF8, UTF_16, ZERO_BYTES, kind_at};
 use crate::scan::{byte_at, skip_space, string_end, word_end};
 use crate::standing::is_json;
 use std::alloc::{AllocError, Global};
 use std::str;
 
-/// The place of the first byte that is zero, where that is the first or the second.
+/// The place of the second byte where that is the first one that is zero; else that of the first.
 fn zero_place(bytes: &[u8]) -> usize
     ensures { result ≤ length bytes.now }
 {
-    if byte_at(bytes, 0) == 0 {
+    if byte_at(bytes, 0) == 0 || byte_at(bytes, 1) != 0 {
         return 0;
     }
     bytes.len().min(1)
@@ -103,6 +103,6 @@ pub(crate) fn fault_in(alloc: Global, bytes: &[u8]) -> Result<Fault, AllocError>
     let found = token_fault(alloc, bytes)?;
     Ok(found.unwrap_or(Fault {
         at: bytes.len(),
-        what: "the text is not JSON",
+        what: NOT_JSON,
     }))
 }

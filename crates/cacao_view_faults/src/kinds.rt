@@ -1,6 +1,6 @@
 // What kind of fault stands at a place of a text that is not JSON.
-ghost use Rattle.std.specs.Prelude.{◌≡◌, ◌≤◌, length};
-ghost use Rattle.cacao_view_faults.specs.Kinds.{AreWords, byte_before, has_byte_order_mark, has_no_character, has_zero_bytes, is_no_character, is_utf16, kind_at, mark_at, mark_before, mark_with, words_of};
+ghost use Rattle.std.specs.Prelude.{◌≡◌, ◌≢◌, ◌≤◌, IsTrue, length};
+ghost use Rattle.cacao_view_faults.specs.Kinds.{AreWords, IsOfNoKind, byte_before, has_byte_order_mark, has_no_character, has_zero_bytes, is_no_character, is_utf16, is_utf32, kind_at, mark_at, mark_before, mark_with, words_of};
 
 use crate::scan::{byte_at, is_space};
 use std::str;
@@ -27,6 +27,9 @@ pub const TRAILING_COMMA: &str =
 
 pub const SINGLE_QUOTE: &str = "single quotes: a text stands in double quotes";
 
+/// What is said of a text that is not JSON where nothing else is known.
+pub(crate) const NOT_JSON: &str = "the text is not JSON";
+
 /// What stands at a place at which a text goes wrong.
 #[derive(Clone, Copy)]
 pub enum Kind {
@@ -43,8 +46,62 @@ pub enum Kind {
     Other,
 }
 
+/// Whether the words differ from others.
+fn differ(words: &str, others: &str) -> bool
+    ensures { IsTrue result → words.now ≢ others.now }
+{
+    words != others
+}
+
+/// Whether no kind has these words.
+fn is_of_no_kind(words: &str) -> bool
+    ensures { IsTrue result → IsOfNoKind words.now }
+{
+    if !differ(words, BYTE_ORDER_MARK) {
+        return false;
+    }
+    if !differ(words, UTF_16) {
+        return false;
+    }
+    if !differ(words, ZERO_BYTES) {
+        return false;
+    }
+    if !differ(words, NOT_UTF8) {
+        return false;
+    }
+    if !differ(words, ESCAPE) {
+        return false;
+    }
+    if !differ(words, CONTROL) {
+        return false;
+    }
+    if !differ(words, COMMENT) {
+        return false;
+    }
+    if !differ(words, TRAILING_COMMA) {
+        return false;
+    }
+    differ(words, SINGLE_QUOTE)
+}
+
+fn not_json() -> &'static str
+    ensures { IsOfNoKind result.now }
+{
+    NOT_JSON
+}
+
+/// These words, unless they are those of a kind: then what is said where nothing is known.
+pub fn plain_words(words: &'static str) -> &'static str
+    ensures { IsOfNoKind result.now }
+{
+    if is_of_no_kind(words) {
+        return words;
+    }
+    not_json()
+}
+
 impl Kind {
-    /// What is said of this kind; the other words where it has none of its own.
+    /// What is said of this kind; the other words, where no kind has them, if it has none of its own.
     pub fn words(self, other: &'static str) -> &'static str
         ensures { AreWords (words_of self) result.now }
     {
@@ -53,13 +110,13 @@ impl Kind {
             Kind::Utf16 => UTF_16,
             Kind::ZeroBytes => ZERO_BYTES,
             Kind::NotUtf8 => NOT_UTF8,
-            Kind::Ends => other,
+            Kind::Ends => plain_words(other),
             Kind::Escape => ESCAPE,
             Kind::Control => CONTROL,
             Kind::Comment => COMMENT,
             Kind::TrailingComma => TRAILING_COMMA,
             Kind::SingleQuote => SINGLE_QUOTE,
-            Kind::Other => other,
+            Kind::Other => plain_words(other),
         }
     }
 }
@@ -78,10 +135,24 @@ fn is_utf16(bytes: &[u8]) -> bool
     (first == 254 && second == 255) || (first == 255 && second == 254)
 }
 
+fn is_utf32(bytes: &[u8]) -> bool
+    ensures { result ≡ is_utf32 bytes.now }
+{
+    let first = byte_at(bytes, 0);
+    let second = byte_at(bytes, 1);
+    let third = byte_at(bytes, 2);
+    let fourth = byte_at(bytes, 3);
+    bytes.len() >= 4
+        && ((first == 0 && second == 0 && third == 254 && fourth == 255)
+            || (first == 255 && second == 254 && third == 0 && fourth == 0))
+}
+
 fn has_zero_bytes(bytes: &[u8]) -> bool
     ensures { result ≡ has_zero_bytes bytes.now }
 {
-    bytes.len() >= 2 && (byte_at(bytes, 0) == 0 || byte_at(bytes, 1) == 0)
+    bytes.len() >= 4
+        && ((byte_at(bytes, 0) == 0 && byte_at(bytes, 2) == 0)
+            || (byte_at(bytes, 1) == 0 && byte_at(bytes, 3) == 0))
 }
 
 /// Whether the bytes begin with no character of UTF-8.
@@ -157,11 +228,11 @@ pub fn kind_at(bytes: &[u8], at: usize) -> Kind
     if has_byte_order_mark(bytes) {
         return Kind::ByteOrderMark;
     }
+    if is_utf32(bytes) || has_zero_bytes(bytes) {
+        return Kind::ZeroBytes;
+    }
     if is_utf16(bytes) {
         return Kind::Utf16;
-    }
-    if has_zero_bytes(bytes) {
-        return Kind::ZeroBytes;
     }
     if at >= bytes.len() {
         return Kind::Ends;

@@ -14,8 +14,8 @@ mod tokens;
 
 pub use begun::{Told, told_fault};
 pub use faults::Fault;
-pub use kinds::Kind;
+pub use kinds::{Kind, plain_words};
 pub use places::{Place, place_behind};
 pub use standing::{path_of, stands, word_stands};
-pub use token_tests::{is_broken_number, is_twice};
-pub use tokens::{Twice, name_twice, number_not_whole};
+pub use token_tests::{broken_number, is_twice};
+pub use tokens::{Twice, name_twice};

@@ -129,11 +129,11 @@ fn is_between(byte: u8) -> bool {
     is_space(byte) || byte == b'{' || byte == b'[' || byte == b':' || byte == b','
 }
 
-/// The place of the first number that is not whole, or out of range.
-pub fn number_not_whole(bytes: &[u8]) -> Option<usize>
+/// The place of the first number from a place on that is not whole, or out of range.
+pub(crate) fn number_not_whole(bytes: &[u8], from: usize) -> Option<usize>
     ensures { IfSome result (λ at. at ≤ length bytes.now) }
 {
-    let mut at = 0usize;
+    let mut at = from;
     let mut between = true;
     for _ in 0..bytes.len() {
         if at >= bytes.len() {

@@ -8,7 +8,8 @@ ghost use Rattle.cacao_view_words.specs.Requests.{preflight_asks, preflight_of};
 
 use crate::book_words::BookWords;
 use crate::wanted::Wanted;
-use crate::words::{NAME_LIMIT, Request};
+use crate::words::Request;
+use cacao_cli_words::NAME_LIMIT;
 
 // ---- one word
 

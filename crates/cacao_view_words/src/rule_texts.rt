@@ -112,7 +112,7 @@ pub(crate) const K22: &[&str] = &[
 ];
 
 pub(crate) const K23: &[&str] = &[
-    "K23 (of a step): no declaration that it may see of a name in out_args is a constant, and those of an action's results are of fitting kinds: string, integer or long for the first two, string for the third.\n",
+    "K23 (of a step): no declaration that it may see of a name in out_args is a constant, and those of an action's results are of fitting kinds: string, integer, long or one that is not checked for the first two, string or one that is not checked for the third.\n",
     "Mend: take \"constant\": true from the variable that is written, or change its type.\n",
 ];
 

@@ -12,9 +12,7 @@ use crate::options::preflight_asks;
 use crate::rule::{Rule, rule_in};
 use crate::topic::{Topic, topic_in};
 use crate::wanted::Wanted;
-
-/// The most bytes of the name of a file.
-pub(crate) const NAME_LIMIT: usize = 1024;
+use cacao_cli_words::NAME_LIMIT;
 
 /// What the words ask the program to do.
 #[derive(Clone, Copy)]

@@ -8,14 +8,14 @@ use Rattle.cacao_view_explain.proofs.unread.no_place.Goals as goal
 pub returns-clause-not_json : goal.returns-clause-not_json
 returns-clause-not_json c =
     IfOk-weaker c.one_text.result _ (TellsReason (text_of c.args.text.now) NotJson)
-    (λ lines are. untold_not_json (text_of c.args.text.now) c.args.what.now lines are) c.one_text.ensures
+    (λ lines are. untold_not_json (text_of c.args.text.now) c.args.what.now lines c.requires are) c.one_text.ensures
 
 pub returns-clause-repeated : goal.returns-clause-repeated
 returns-clause-repeated c = λ colons members.
     IfOk-weaker c.one_text.result _ (TellsReason (text_of c.args.text.now) (RepeatedName colons members))
-    (λ lines are. untold_twice (text_of c.args.text.now) colons members c.args.what.now lines are) c.one_text.ensures
+    (λ lines are. untold_twice (text_of c.args.text.now) colons members c.args.what.now lines c.requires are) c.one_text.ensures
 
 pub returns-clause-number : goal.returns-clause-number
 returns-clause-number c = λ index.
     IfOk-weaker c.one_text.result _ (TellsReason (text_of c.args.text.now) (NotWhole index))
-    (λ lines are. untold_number (text_of c.args.text.now) index c.args.what.now lines are) c.one_text.ensures
+    (λ lines are. untold_number (text_of c.args.text.now) index c.args.what.now lines c.requires are) c.one_text.ensures

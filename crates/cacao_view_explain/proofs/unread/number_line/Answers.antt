@@ -6,6 +6,6 @@ use Rattle.cacao_view_explain.proofs.UnreadLemmas.{tells_number}
 use Rattle.cacao_view_explain.proofs.unread.number_line.Goals as goal
 
 pub returns : goal.returns
-returns c = λ index.
-    IfOk-weaker c.one_place.result _ (TellsReason (text_of c.args.text.now) (NotWhole index))
-    (λ lines are. tells_number (text_of c.args.text.now) c.args.at index c.args.what.now lines c.requires.number are) c.one_place.ensures
+returns c =
+    IfOk-weaker c.one_place.result _ (TellsReason (text_of c.args.text.now) (NotWhole c.args.number))
+    (λ lines are. tells_number (text_of c.args.text.now) c.args.at c.args.number c.args.what.now lines c.requires.broken are) c.one_place.ensures
