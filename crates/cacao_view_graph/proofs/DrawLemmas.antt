@@ -1,5 +1,5 @@
 -- What the statements of a picture draw, each of them in order.
-use Rattle.std.proofs.Common.{◌≡◌, ◌∙◌, ℕ, suc, ◌+◌, ◌<◌, Bool, true, false, List, [], ◌∷◌, ◌++◌, map, filter, filter_map, length, Option, Some, None, option_to_list, refl, sym, ap, subst, arith, append_assoc, append-nil, cond}
+use Rattle.std.proofs.Common.{◌≡◌, ◌∙◌, ℕ, suc, ◌+◌, Bool, true, false, List, [], ◌∷◌, ◌++◌, map, filter, filter_map, Option, Some, None, option_to_list, refl, sym, ap, append_assoc, append-nil, cond}
 use Rattle.std.specs.Prelude.{All, flat_map, codes, if◌then◌else◌}
 use Rattle.std.specs.List.{cons_option}
 use Rattle.std.proofs.lemmas.List.{map-append}
@@ -18,7 +18,7 @@ use Rattle.cacao_view_graph.specs.Drawings.{Drawn, DrawnBook, book_statements, b
 use Rattle.cacao_view_graph.specs.Labels.{title}
 use Rattle.cacao_view_graph.specs.Laws.{area_drawn, areas_from, book_ends, ends_drawn, ends_to, links_from, place_drawn, start_of, step_ends, steps_from}
 use Rattle.cacao_view_graph.specs.Pictures.{AreDrawn, IsDrawn}
-use Rattle.cacao_view_graph.specs.Statements.{Place, Statement, cluster, edge, frame, node}
+use Rattle.cacao_view_graph.specs.Statements.{Place, Statement, cluster, frame}
 
 -- ---- what is kept of lists
 

@@ -1,17 +1,15 @@
 -- In which cluster a step is drawn.
-use Rattle.std.proofs.Common.{◌≡◌, ◌∙◌, ℕ, suc, ◌+◌, ◌<◌, ◌≤◌, Bool, true, false, List, [], length, get_or, Option, Some, None, refl, sym, ap, subst, arith, inl, inr, ◌⊎◌}
+use Rattle.std.proofs.Common.{◌≡◌, ◌∙◌, ℕ, ◌+◌, ◌<◌, ◌≤◌, Bool, true, false, List, [], length, get_or, Some, None, refl, sym, ap, subst, arith, inl, inr, ◌⊎◌}
 use Rattle.std.proofs.lemmas.Bool.{cases_lt, true≢false}
 use Rattle.std.proofs.lemmas.List.{get_or_past}
-use Rattle.std.proofs.lemmas.Option.{slice_get_within}
 use Rattle.std.specs.Prelude.{slice_get}
 use Rattle.cacao_book.specs.declared.books.Book.{Book}
 use Rattle.cacao_book.specs.declared.steps.Step.{Step}
 use Rattle.cacao_check_regions.specs.Charts.{AreRegionsOf}
-use Rattle.cacao_check_regions.specs.Regions.{InMain, InRegion}
 use Rattle.cacao_check_regions.specs.declared.regions.Regions.{Regions}
 use Rattle.cacao_check_regions.proofs.ChartLemmas.{region_within}
 use Rattle.cacao_view_graph.specs.Homes.{IsAlone, IsHome}
-use Rattle.cacao_view_graph.specs.Finding.{FindsHome, FindsNext, FindsRegion, Has, HasAlone}
+use Rattle.cacao_view_graph.specs.Finding.{FindsHome, FindsNext, Has, HasAlone}
 
 -- ---- the first region
 

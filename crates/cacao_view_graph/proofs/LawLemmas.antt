@@ -1,5 +1,5 @@
 -- The law of pictures.
-use Rattle.std.proofs.Common.{◌≡◌, ◌≢◌, ◌∙◌, ℕ, suc, Bool, true, false, List, [], ◌∷◌, ◌++◌, map, Option, Some, None, option_to_list, refl, sym, ap, append_assoc}
+use Rattle.std.proofs.Common.{◌∙◌, ℕ, suc, Bool, true, false, List, [], ◌∷◌, ◌++◌, map, Option, Some, None, option_to_list, refl, sym, ap, append_assoc}
 use Rattle.std.specs.Prelude.{All, flat_map, codes, if◌then◌else◌}
 use Rattle.std.proofs.lemmas.List.Elements.{All-append, All-cons, All-map, All-nil, All-weaker}
 use Rattle.cacao_book.specs.Books.{book, step_of}

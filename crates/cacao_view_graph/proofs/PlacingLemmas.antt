@@ -1,14 +1,17 @@
 -- Steps and playbooks, each with what is drawn of it.
-use Rattle.std.proofs.Common.{◌≡◌, ◌⊎◌, ◌∙◌, inl, inr, ℕ, zero, suc, ◌+◌, ◌<◌, ◌≤◌, List, [], ◌∷◌, ◌++◌, length, get_or, take, map, Option, Some, None, slice_get, refl, sym, ap, subst, arith, take_all, length-append}
-use Rattle.std.specs.Prelude.{All, IfSome, option_map}
-use Rattle.std.proofs.lemmas.List.{map-append, map_push, map_more, length-map}
-use Rattle.std.proofs.lemmas.List.Elements.{All-push, All-same}
+use Rattle.std.proofs.Common.{◌≡◌, ◌⊎◌, ◌∙◌, inl, inr, ℕ, zero, suc, ◌+◌, ◌<◌, List, [], ◌∷◌, ◌++◌, length, get_or, take, map, Option, Some, slice_get, refl, sym, ap, subst, arith, length-append}
+use Rattle.std.specs.Prelude.{IfSome, option_map}
+use Rattle.std.proofs.lemmas.List.{map-append, map_more, length-map}
+use Rattle.std.proofs.lemmas.List.Elements.{All-push}
 use Rattle.std.proofs.lemmas.Grind.{common_steps}
 use Rattle.std.proofs.lemmas.Option.{get_or_from_slice_get, slice_get-map, slice_get_read}
 use Rattle.serde_json.specs.Data.{Data}
 use Rattle.cacao_book.specs.declared.books.Book.{Book}
 use Rattle.cacao_book_shape.specs.Shape.{IsWellShaped}
-use Rattle.cacao_check.specs.FirstBreak.{AreWellShaped}
+use Rattle.cacao_check.specs.declared.breaks.Break.{Break}
+use Rattle.cacao_check.specs.declared.breaks.CheckError.{CheckError}
+use Rattle.cacao_check.specs.declared.breaks.CheckError.TheVariants as check_error
+use Rattle.cacao_check.specs.FirstBreak.{AreWellShaped, BreaksShape, RefusesShapes}
 use Rattle.cacao_json.specs.Tree.{data_of, pair_data}
 use Rattle.cacao_json.specs.declared.tree.Pair.{Pair}
 use Rattle.cacao_json.specs.declared.tree.Tree.{Tree}
@@ -29,9 +32,12 @@ made_twice f g xs zs i x are lt at = ap (λ l. slice_get l i) are ∙ slice_get-
 pub made_is : {X Y Z : Type 0} (f : X → Y) (g : Y → Z) (xs : List X) (zs : List Z) (i : ℕ) (x : X) (z : Z) → zs ≡ map g (map f xs) → i < length xs → x ≡ get_or xs i x → z ≡ get_or zs i z → z ≡ g (f x)
 made_is f g xs zs i x z are lt at is = is ∙ get_or_from_slice_get zs i (g (f x)) z (made_twice f g xs zs i x are lt at)
 
--- a tree among trees that break no rule of shape
-pub shaped_at : (trees : List Tree) (i : ℕ) (x : Tree) → i < length trees → x ≡ get_or trees i x → AreWellShaped (map data_of trees) → IsWellShaped (data_of x)
-shaped_at trees i x lt at h = subst (λ (o : Option Data). IfSome o IsWellShaped) (made_at data_of trees (map data_of trees) i x refl lt at) (h i)
+-- trees that break no rule of shape are not refused for one
+pub none_broken : (trees : List Data) (error : CheckError) (told : Break) → AreWellShaped trees → error ≡ check_error.Broken told → RefusesShapes trees error → ⊥
+none_broken trees error told shaped is refuses = go (subst (λ (e : CheckError). RefusesShapes trees e) is refuses)
+  where
+    go : BreaksShape trees told → ⊥
+    go breaks = let one : IsWellShaped breaks.tree = subst (λ (o : Option Data). IfSome o IsWellShaped) breaks.tree_is (shaped told.book) in breaks.refused.2.is_broken (one breaks.refused.0)
 
 -- what stands at a place of a list with one more item
 get_pushed : {Y : Type 0} (ys : List Y) (new : Y) (k : ℕ) (y : Y) → slice_get (ys ++ new ∷ []) k ≡ Some y → (slice_get ys k ≡ Some y) ⊎ ((k ≡ length ys) × (new ≡ y))

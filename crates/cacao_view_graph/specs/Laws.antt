@@ -1,5 +1,5 @@
 -- Promise: What holds of each picture: what it has, and how DOT reads it.
-use Rattle.std.specs.Prelude.{◌≡◌, ◌≢◌, ℕ, suc, ◌<◌, ◌^◌, not, false, List, [], ◌∷◌, ◌++◌, map, filter, filter_map, flat_map, codes, All, Contains, IsTrue, Option, Some, None, option_to_list, slice_get, ⊤}
+use Rattle.std.specs.Prelude.{◌≡◌, ◌≢◌, ℕ, suc, ◌<◌, ◌^◌, not, false, List, [], ◌∷◌, ◌++◌, map, filter, filter_map, flat_map, All, Contains, IsTrue, Option, Some, None, option_to_list, slice_get, ⊤}
 use Rattle.std.specs.List.{AllByRecursion, list_all}
 use Rattle.std.specs.Option.{option_map_or}
 use Rattle.serde_json.specs.Data.{Data}
@@ -14,7 +14,7 @@ use Rattle.cacao_check_steps.specs.Links.{head_keys, next_keys}
 use Rattle.cacao_view_graph.specs.Drawings.{DrawnBook, branches, statements}
 use Rattle.cacao_view_graph.specs.Pictures.{AreDrawn, picture_of}
 use Rattle.cacao_view_graph.specs.Quoting.{IsRead, has_barred, is_control, quoted, shown}
-use Rattle.cacao_view_graph.specs.Statements.{Place, Statement, cluster, cluster_text, edge, frame, node, place_text}
+use Rattle.cacao_view_graph.specs.Statements.{Place, Statement, cluster, cluster_text, edge, node, place_text}
 
 -- ---- what there is to draw
 

@@ -6,7 +6,7 @@ ghost use Rattle.cacao_view_graph.specs.Places.{place_of};
 ghost use Rattle.cacao_view_graph.specs.Statements.{line_of};
 
 use crate::lines::{Place, edge_line};
-use crate::quoting::add;
+use base_lines::add;
 use cacao_book::{Book, Case, Step, StepKind};
 use cacao_check_steps::call_of;
 use cacao_json::Text;

@@ -6,7 +6,7 @@ ghost use Rattle.cacao_json.specs.Reading.{tree as tree_of_text};
 ghost use Rattle.cacao_json.specs.Tree.{data_of};
 ghost use Rattle.cacao_view_graph.specs.Labels.{command_text, content_text, kind_text, label_text, sent_text, shape, spaced, target_text, title, told_text, version_text};
 
-use crate::quoting::add;
+use base_lines::add;
 use cacao_book::{StepCommand, StepKind};
 use cacao_book_shape::{some_text, text_at};
 use cacao_check_steps::is_manual;

@@ -5,7 +5,8 @@ ghost use Rattle.cacao_view_graph.specs.Places.{place_of};
 ghost use Rattle.cacao_view_graph.specs.Quoting.{quoted};
 ghost use Rattle.cacao_view_graph.specs.Statements.{cluster, cluster_text, edge, frame, head_text, inside_text, line_of, node, node_text, pale_text, place_text, within};
 
-use crate::quoting::{add, add_number, add_quoted};
+use crate::quoting::add_quoted;
+use base_lines::{add, add_decimal};
 use cacao_site::Bytes;
 use std::alloc::{AllocError, Global};
 
@@ -20,7 +21,7 @@ pub(crate) struct Place<'a> {
 fn add_place(out: &mut Vec<u8>, place: &Place) -> Result<(), AllocError>
     ensures { OnOk result (out.new.items ≡ out.old.items ++ place_text (place_of place.now)) }
 {
-    add_number(out, place.number as u64)?;
+    add_decimal(out, place.number as u64)?;
     add(out, b" ")?;
     add(out, place.key.as_bytes())
 }
@@ -40,7 +41,7 @@ fn add_cluster_name(alloc: Global, out: &mut Vec<u8>, number: u32) -> Result<(),
 {
     let mut name = Vec::new(alloc);
     add(&mut name, b"cluster ")?;
-    add_number(&mut name, number as u64)?;
+    add_decimal(&mut name, number as u64)?;
     add_quoted(out, name.as_slice())
 }
 

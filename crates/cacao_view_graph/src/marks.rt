@@ -3,8 +3,8 @@ ghost use Rattle.std.specs.Prelude.{◌≡◌, ◌==◌, ◌∷◌, ◌++◌, If
 ghost use Rattle.cacao_view_graph.specs.Marks.{is_at, marks_text, noted, notes_at, pale_at, walks};
 
 use crate::note::Note;
-use crate::quoting::{add, add_number};
 use crate::spot::Spot;
+use base_lines::{add, add_decimal};
 use std::alloc::{AllocError, Global};
 
 /// Where a run walked, a step for each time, and what is noted at steps, in order.
@@ -70,7 +70,7 @@ fn add_marks(
         ++ (codes "\nwalked " ++ (decimal walks ++ 10 ∷ flat_map (noted book step) notes.now))) }
 {
     add(out, b"\nwalked ")?;
-    add_number(out, walks as u64)?;
+    add_decimal(out, walks as u64)?;
     add(out, b"\n")?;
     add_notes(out, book, step, notes)
 }

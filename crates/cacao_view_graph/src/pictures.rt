@@ -1,7 +1,6 @@
 // The picture of playbooks.
 ghost use Rattle.std.specs.Prelude.{◌≡◌, ◌≤◌, ◌∷◌, ◌++◌, [], IfOk, None, OnOk, length, map};
 ghost use Rattle.cacao_book.specs.Books.{book as book_of};
-ghost use Rattle.cacao_book_shape.specs.Shape.{IsWellShaped};
 ghost use Rattle.cacao_check.specs.FirstBreak.{AreWellShaped};
 ghost use Rattle.cacao_json.specs.Tree.{data_of};
 ghost use Rattle.cacao_view_graph.specs.Drawings.{book_statements, books_statements, exception_edges, head_statements};
@@ -17,34 +16,24 @@ use crate::marks::Marks;
 use crate::placed_book::PlacedBook;
 use crate::placing::placed_books;
 use crate::steps::add_steps;
-use cacao_book::{Book, BookError, read_book};
+use cacao_book::Book;
+use cacao_check::{Books, CheckError, shaped_books};
 use cacao_check_regions::survey_all;
 use cacao_json::Tree;
 use cacao_site::Bytes;
 use std::alloc::{AllocError, Global};
 
-/// The playbook of a tree that breaks no rule of shape.
-fn shaped_book(alloc: Global, tree: &Tree) -> Result<Book, AllocError>
-    requires { IsWellShaped (data_of tree.now) }
-    ensures { IfOk result (λ book. book ≡ book_of (data_of tree.now)) }
-{
-    match read_book(alloc, tree) {
-        Ok(book) => Ok(book),
-        Err(BookError::Shape { .. }) => unreachable!(),
-        Err(BookError::Memory) => Err(AllocError),
-    }
-}
-
 /// The playbooks of trees that break no rule of shape.
-fn shaped_books(alloc: Global, trees: &[Tree]) -> Result<Vec<Book>, AllocError>
-    requires { AreWellShaped (map data_of trees.now) }
-    ensures { IfOk result (λ books. books.items ≡ map book_of (map data_of trees.now)) }
+fn books_of(alloc: Global, trees: &[Tree]) -> Result<Books, AllocError>
+    requires few { length trees.now ≤ 16 }
+    requires shaped { AreWellShaped (map data_of trees.now) }
+    ensures { IfOk result (λ books. books ≡ map book_of (map data_of trees.now)) }
 {
-    let mut books = Vec::new(alloc);
-    for tree in trees {
-        books.push(shaped_book(alloc, tree)?)?;
+    match shaped_books(alloc, trees) {
+        Ok(books) => Ok(books),
+        Err(CheckError::Broken(_)) => unreachable!(),
+        Err(CheckError::Memory) => Err(AllocError),
     }
-    Ok(books)
 }
 
 /// The lines that stand before all others.
@@ -191,7 +180,7 @@ pub fn marked_picture(
     requires shaped { AreWellShaped (map data_of trees.now) }
     ensures { IfOk result (λ lines. IsMarkedPicture marks.now (map data_of trees.now) lines.items) }
 {
-    let books = shaped_books(alloc, trees)?;
+    let books = books_of(alloc, trees)?;
     let surveys = survey_all(alloc, books.as_slice())?;
     let placed = placed_books(alloc, trees, books.as_slice(), surveys.as_slice(), marks)?;
     pictured(alloc, trees, books.as_slice(), placed.as_slice(), marks)

@@ -1,25 +1,9 @@
 // Texts, added to what is written, as they are or quoted.
-ghost use Rattle.std.specs.Prelude.{◌≡◌, ◌<◌, ◌∷◌, ◌++◌, [], OnOk, decimal, flat_map, if◌then◌else◌};
+ghost use Rattle.std.specs.Prelude.{◌≡◌, ◌<◌, ◌∷◌, ◌++◌, [], OnOk, flat_map, if◌then◌else◌};
 ghost use Rattle.cacao_view_graph.specs.Quoting.{ends_barred, is_control, quoted, quoted_byte, replaced, shown_byte, symbol};
 
-use itoa::Buffer;
+use base_lines::add;
 use std::alloc::AllocError;
-
-/// Adds a text.
-pub(crate) fn add(out: &mut Vec<u8>, text: &[u8]) -> Result<(), AllocError>
-    ensures { OnOk result (out.new.items ≡ out.old.items ++ text.now) }
-{
-    out.extend_from_slice(text)?;
-    Ok(())
-}
-
-/// Adds a number in decimal.
-pub(crate) fn add_number(out: &mut Vec<u8>, number: u64) -> Result<(), AllocError>
-    ensures { OnOk result (out.new.items ≡ out.old.items ++ decimal number) }
-{
-    let mut buffer = Buffer::new();
-    add(out, buffer.format(number).as_bytes())
-}
 
 /// Whether a byte is a control character but the line feed.
 fn is_control(byte: u8) -> bool

@@ -9,7 +9,7 @@ use crate::edges::add_edges;
 use crate::labels::{label, shape, title};
 use crate::lines::{Place, cluster_line, node_line};
 use crate::placed::Placed;
-use crate::quoting::add;
+use base_lines::add;
 use cacao_book::{Book, StepKind};
 use cacao_site::Bytes;
 use std::alloc::{AllocError, Global};

@@ -10,7 +10,7 @@ use Rattle.flow_core_rules.specs.Edits.{Edit}
 use Rattle.flow_core_rules.specs.Givens.{Given}
 use Rattle.flow_core_rules.specs.Runs.{shown_after}
 use Rattle.flow_core_rules.specs.State.{Shown}
-use Rattle.flow_core.specs.Views.{View, taken}
+use Rattle.flow_core.specs.Views.{View}
 use Rattle.flow_engine_history.specs.HistoryView.{entries_of}
 use Rattle.flow_engine_history.specs.Histories.{IsShownAfter, IsSoFar}
 use Rattle.flow_engine_history.proofs.HistoryLemmas.{all_push, entries_push, records_back}

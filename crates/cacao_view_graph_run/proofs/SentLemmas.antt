@@ -7,7 +7,6 @@ use Rattle.run_records.specs.declared.record.Record.TheVariants as entry
 use Rattle.flow_core_rules.specs.Changes as changes
 use Rattle.flow_core_rules.specs.Changes.{Issuing, change, is_in_time, moment_of}
 use Rattle.flow_core_rules.specs.Edits.{Edit, all_edited, changed_at, closed}
-use Rattle.flow_core_rules.specs.Givens.{Given}
 use Rattle.flow_core_rules.specs.Laws.{HasPlacedWrites, IsShownAlone}
 use Rattle.flow_core_rules.specs.Places.{Place}
 use Rattle.flow_core_rules.specs.Runs.{GoesOn, Leads, Next, begin_of, begun}
@@ -23,7 +22,7 @@ use Rattle.flow_core_rules.proofs.QuietLemmas.{keeps_issues}
 use Rattle.flow_core_rules.proofs.ShapeLemmas.{Closed, Issued, Sent, change_shape, new_issue}
 use Rattle.flow_engine_history.specs.Histories.{IsShownAfter}
 use Rattle.cacao_view_graph.specs.declared.spot.Spot.{Spot}
-use Rattle.cacao_view_graph_run.specs.Courses.{IsCourse, behind, sends, sent_by, spot_of, spots}
+use Rattle.cacao_view_graph_run.specs.Courses.{behind, sends, sent_by, spot_of, spots}
 use Rattle.cacao_view_graph_run.specs.Laws.{IssuesHaveSteps}
 use Rattle.cacao_view_graph_run.proofs.CourseLemmas.{behind_is}
 use Rattle.cacao_view_graph_run.proofs.TreeLemmas.{heads}

@@ -11,12 +11,10 @@ use crate::followed::Followed;
 use crate::tracing::follow_next;
 use cacao_view_log::{Source, begun};
 use flow_core::Flow;
+use flow_engine_history::FIRST_GATE;
 use flow_engine_reports::ReportError;
 use run_records::read_record;
 use std::alloc::{AllocError, Global};
-
-/// The place of the gate of the first entry, in bytes.
-const FIRST_GATE: u64 = 8;
 
 /// How the run of these entries, at least one, stands and went.
 pub(crate) fn follow(alloc: Global, source: &Source<'_>) -> Result<Followed, ReportError>

@@ -9,12 +9,13 @@ use Rattle.flow_core_rules.specs.Givens.{Given}
 use Rattle.flow_core_rules.specs.State.{Shown}
 use Rattle.flow_core.specs.Views.{View}
 use Rattle.flow_engine_history.specs.HistoryView.{entries_of}
-use Rattle.flow_engine_history.specs.Histories.{IsShownAfter, IsShownBefore, IsSoFar}
+use Rattle.flow_engine_history.specs.Histories.{IsShownBefore, IsSoFar}
 use Rattle.flow_engine_history.specs.KeptHistory.{records_of}
-use Rattle.flow_engine_history.proofs.HistoryLemmas.{all_push, entries_push, get_front, get_last, get_within, records_back, take_front, take_last}
+use Rattle.flow_engine_history.proofs.HistoryLemmas.{all_push, entries_push, get_front, get_last, get_within, last_or, records_back, shown_before, take_front, take_last}
 use Rattle.flow_engine_reports.specs.Beginnings.{HasBegun}
 use Rattle.flow_engine_reports.specs.RunFiles.{IsBegin}
 use Rattle.flow_engine_reports.proofs.ReplayLemmas.{taken_more}
+use Rattle.flow_engine_reports.proofs.ReportLemmas.{shown-after}
 use Rattle.flow_engine_reports.specs.declared.error.ReportError.{ReportError}
 use Rattle.flow_engine_reports.specs.declared.error.ReportError.TheVariants.{Damaged}
 use Rattle.cacao_view_log.specs.Logs.{AreTold, IsToldAt, Logs}
@@ -27,25 +28,9 @@ use Rattle.cacao_view_log.specs.declared.sender.Sender.{Sender}
 pub inner : {A : Type 0} (a b : A) → Some a ≡ Some b → a ≡ b
 inner a b h = cc
 
-last_or : (n m : ℕ) → n < suc m → (n < m) ⊎ (n ≡ m)
-last_or zero zero lt = inr refl
-last_or zero (suc m) lt = inl (omega arith)
-last_or (suc n) zero lt = absurd (omega (arith, lt))
-last_or (suc n) (suc m) lt =
-    elim (last_or n m (omega (arith, lt))) [
-      | inl h ↦ inl (omega (arith, h))
-      | inr h ↦ inr (ap suc h)
-    ]
-
 -- entries are the layouts of one list of records
 same_records : (xs ys : List Record) → AllByRecursion InRange xs → AllByRecursion InRange ys → entries_of xs ≡ entries_of ys → xs ≡ ys
 same_records xs ys p q e = sym (records_back xs p) ∙ ap records_of e ∙ records_back ys q
-
--- what is shown after records is shown before the next one
-shown_before : (given : Given) (run : ℕ) (rs : List Record) (seen : Shown) → seen.given ≡ given → seen.run ≡ run → IsSoFar rs seen → IsShownBefore given run rs seen
-shown_before given run [] seen g n h = tt
-shown_before given run (first ∷ others) seen g n h =
-    subst (λ (x : Given). IsShownBefore x run (first ∷ others) seen) g (subst (λ (m : ℕ). IsShownBefore seen.given m (first ∷ others) seen) n h)
 
 told_more : (form : Form) (given : Given) (run : ℕ) (rs : List Record) (seen : Shown) (r : Record) (texts : List (List ℕ)) → AreTold form given run rs texts → IsShownBefore given run rs seen
     → AreTold form given run (rs ++ r ∷ []) (texts ++ record_text form run seen (senders rs) (length rs) r ∷ [])
@@ -128,12 +113,6 @@ logged_more form given run items v w texts more sent later item h t =
       sent_are = t.later_is ∙ ap (λ (l : List Sender). l ++ sender_in r) h.sent_are ∙ sym (senders_push h.records r);
     }
 
--- behind a first entry the records are some
-shown_after : (records : List Record) (items : List (List ℕ)) (first : List ℕ) (rest : List (List ℕ)) (seen : Shown) → items ≡ first ∷ rest → items ≡ entries_of records → IsSoFar records seen
-    → IsShownAfter seen.given seen.run records seen
-shown_after [] items first rest seen e are so = absurd (let f : first ∷ rest ≡ [] = sym e ∙ are in cc)
-shown_after (r ∷ records) items first rest seen e are so = so
-
 -- all entries were told
 pub tells_flow : (form : Form) (items : List (List ℕ)) (first : List ℕ) (begun flow : View) (texts : List (List ℕ)) (sent : List Sender) → items ≡ first ∷ drop 1 items → HasBegun first begun
     → IsLogged form begun.seen.given begun.seen.run items flow texts sent → length flow.seen.lists.tasks ≤ 1_000_000 → TellsFlow form items flow texts
@@ -148,7 +127,7 @@ tells_flow form items first begun flow texts sent are h logged few =
         begins = record { first = first; others = drop 1 items; are = are; begin = begin };
         are = r.are;
         ranges = r.ranges;
-        shows = shown_after r.records items first (drop 1 items) flow.seen are r.are r.so_far;
+        shows = shown-after r.records items first (drop 1 items) flow.seen are r.are r.so_far;
         tasks = few;
       };
       count = r.count;
@@ -159,11 +138,6 @@ tells_flow form items first begun flow texts sent are h logged few =
 -- so they are logged
 pub logs_run : (form : Form) (items : List (List ℕ)) (flow : View) (texts : List (List ℕ)) → TellsFlow form items flow texts → Logs form items texts
 logs_run form items flow texts h = inr (record { records = h.records; seen = flow.seen; tells = h.tells; told = h.told })
-
--- where there is no entry, nothing is told
-pub none_logged : (form : Form) (items texts : List (List ℕ)) → length items ≡ 0 → texts ≡ [] → Logs form items texts
-none_logged form [] texts none is = inl (refl, is)
-none_logged form (item ∷ items) texts none is = absurd (omega (arith, none))
 
 -- the first record is damaged at its gate
 pub place_is : {T : Type 0} (place : ℕ) → IsErrOf {T = T} {E = ReportError} (Err (Damaged 8)) (Damaged place) → place ≡ 8

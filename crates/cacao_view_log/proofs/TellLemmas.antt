@@ -12,11 +12,11 @@ use Rattle.flow_core_rules.specs.Givens.{Given, step_at}
 use Rattle.flow_core_rules.specs.Lines.{key_of}
 use Rattle.flow_core_rules.specs.State.{Shown}
 use Rattle.flow_core_rules.specs.declared.tasks.Task.{Task}
+use Rattle.flow_core.specs.TakenRecords.{Took}
 use Rattle.flow_core.specs.Views.{View, taken}
 use Rattle.flow_engine_history.specs.LineParts.{IsKeyFor}
 use Rattle.flow_engine_history.specs.Replays.{CannotFollow}
 use Rattle.flow_engine_history.proofs.HistoryLemmas.{get_within}
-use Rattle.flow_engine_reports.specs.Beginnings.{Took}
 use Rattle.flow_engine_reports.specs.Replaying.{RefusesNext}
 use Rattle.flow_engine_reports.specs.declared.error.ReportError.{ReportError}
 use Rattle.flow_engine_reports.specs.declared.error.ReportError.TheVariants.{Damaged, TooManyTasks, Memory}
@@ -80,9 +80,6 @@ pub pushed_first : (old more : List (List ℕ)) (text said : List ℕ) → old �
 pushed_first old more text said none pushed is = pushed ∙ ap (λ (l : List (List ℕ)). l ++ text ∷ []) none ∙ ap (λ (x : List ℕ). x ∷ []) is
 
 -- ---- one that is not
-
-pub no_record : (v : View) (item : List ℕ) → record_of item ≡ None → CannotFollow v item
-no_record v item none r e = absurd (none-some r (sym none ∙ e))
 
 pub cannot_follow : (v : View) (item : List ℕ) (r : Record) → record_of item ≡ Some r → taken v r ≡ None → CannotFollow v item
 cannot_follow v item r reads bad q e = subst (λ (x : Record). taken v x ≡ None) (inner r q (sym reads ∙ e)) bad

@@ -15,12 +15,10 @@ use crate::telling::{tell_next, tell_record};
 use crate::told_run::ToldRun;
 use cacao_site::Bytes;
 use flow_core::Flow;
+use flow_engine_history::FIRST_GATE;
 use flow_engine_reports::ReportError;
 use run_records::read_record;
 use std::alloc::{AllocError, Global};
-
-/// The place of the gate of the first entry, in bytes.
-const FIRST_GATE: u64 = 8;
 
 /// What is told of each record of these entries of an engine's file, with its line feed, in order: nothing where there is no entry. The
 /// entries are replayed, so that they are the records of a run; else the place of the first is told that is none.

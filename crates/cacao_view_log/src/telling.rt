@@ -4,9 +4,9 @@ ghost use Rattle.std.specs.Option.{option_map_or};
 ghost use Rattle.run_records.specs.Ranges.{InRange};
 ghost use Rattle.flow_core_rules.specs.Lines.{key_of};
 ghost use Rattle.flow_core_rules.specs.State.{Shown};
+ghost use Rattle.flow_core.specs.TakenRecords.{Took};
 ghost use Rattle.flow_core.specs.Views.{taken};
 ghost use Rattle.flow_engine_history.specs.Replays.{CannotFollow};
-ghost use Rattle.flow_engine_reports.specs.Beginnings.{Took};
 ghost use Rattle.flow_engine_reports.specs.Replaying.{RefusesNext};
 ghost use Rattle.cacao_view_log.specs.Senders.{sender_for, sender_in, sender_of, sender_task, step_key, task_for};
 ghost use Rattle.cacao_view_log.specs.Telling.{RefusesRecord, TellsEntry};
@@ -189,11 +189,8 @@ pub fn take(flow: &mut Flow, item: &Record) -> Result<bool, ReportError>
     ensures bad { result ≡ Ok false → taken flow.old item.now ≡ None }
     ensures refused { IfErr result (RefusesRecord flow.old item.now) }
 {
-    match flow.ready(item) {
-        Ok(()) => {
-            flow.apply(item);
-            Ok(true)
-        }
+    match flow.take(item) {
+        Ok(()) => Ok(true),
         Err(FlowError::NotEnabled) => Ok(false),
         Err(FlowError::Limit { .. }) => Err(ReportError::TooManyTasks),
         Err(FlowError::Memory) => Err(ReportError::Memory),

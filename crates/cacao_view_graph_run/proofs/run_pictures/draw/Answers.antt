@@ -1,5 +1,5 @@
 -- The texts that the run was given have the trees that are accepted, so that their playbooks are drawn.
-use Rattle.std.proofs.Common.{◌≡◌, ◌∙◌, ℕ, List, IsSome, refl, sym, ap, map}
+use Rattle.std.proofs.Common.{◌≡◌, ◌∙◌, ℕ, List, IsSome, refl, ap, map}
 use Rattle.std.proofs.lemmas.List.Elements.{All-same}
 use Rattle.std.proofs.lemmas.Result.{IfOk-weaker}
 use Rattle.cacao_json.specs.Reading.{tree}

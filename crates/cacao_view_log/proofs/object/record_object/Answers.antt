@@ -1,5 +1,5 @@
 -- The record is one of its kind.
-use Rattle.std.proofs.Common.{◌≡◌, ◌∙◌, List, Option, ap, sym, subst}
+use Rattle.std.proofs.Common.{◌≡◌, ◌∙◌, Option, ap, sym, subst}
 use Rattle.std.specs.Prelude.{IfOk, slice_get}
 use Rattle.serde_json.specs.Data.{object}
 use Rattle.cacao_json.specs.Tree.{data_of, members_of}
