@@ -5,6 +5,9 @@ ghost use Rattle.base_decimals.specs.Begins.{MayBegin};
 
 use std::str;
 
+/// The greatest whole number that all who read JSON keep exact (RFC 7493, section 2.2).
+pub const MOST_EXACT: u64 = 9_007_199_254_740_991;
+
 fn may_begin(text: &[u8]) -> bool
     ensures { IsTrue result ↔ MayBegin text.now }
 {

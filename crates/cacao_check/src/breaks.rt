@@ -13,7 +13,7 @@ pub enum Mode {
 }
 
 /// A broken rule of the book with this number, counted from 0: of the book itself where `step` is None, else of the
-/// step with this key. `rule` is 13 to 25 for K13 to K25.
+/// step with this key. `rule` is 1 to 25 for K1 to K25.
 #[derive(Drop)]
 pub struct Break {
     pub book: u32,

@@ -4,7 +4,7 @@ ghost use Rattle.std.specs.List.{list_all};
 ghost use Rattle.cacao_check.specs.Fits.{is_letter as is_letter_of, is_hex as is_hex_of, is_scheme_character, is_visible, may_stand_in_mac as may_stand, IsMac, IsUri, IsOfKind, FitsKind};
 ghost use Rattle.cacao_check.specs.UriTexts.{has_rest, is_rest as is_rest_of};
 
-use base_decimals::read_integer;
+use base_decimals::{MOST_EXACT, read_integer};
 use cacao_ids::is_uuid;
 use cacao_vars::Kind;
 use oc2_nets::{read_net4, read_net6};
@@ -109,9 +109,7 @@ fn is_of_kind(kind: &Kind, text: &str) -> bool
     match kind {
         Kind::String => true,
         Kind::Bool => text == "true" || text == "false",
-        Kind::Integer => {
-            read_integer(bytes, 9_007_199_254_740_991, 9_007_199_254_740_991).is_some()
-        }
+        Kind::Integer => { read_integer(bytes, MOST_EXACT, MOST_EXACT).is_some() }
         Kind::Long => {
             read_integer(bytes, 9_223_372_036_854_775_808, 9_223_372_036_854_775_807).is_some()
         }

@@ -9,10 +9,8 @@ use crate::book_names::BookNames;
 use crate::reading::{Found, read_behind};
 use crate::run_words::RunWords;
 use crate::words::read_from;
+use base_decimals::MOST_EXACT;
 use std::alloc::{AllocError, Global};
-
-/// The greatest number of a run.
-const LAST_RUN: u64 = 9_007_199_254_740_991;
 
 /// The most records of one session, and how many it may append where nothing is said of them.
 const MOST_RECORDS: u64 = 1_000_000_000;
@@ -74,7 +72,7 @@ pub(crate) fn read_run_number(text: &str) -> Option<u64>
     ensures low { IfSome result (λ n. 1 ≤ n) }
     ensures high { IfSome result (λ n. n ≤ 9_007_199_254_740_991) }
 {
-    read_from(1, LAST_RUN, text)
+    read_from(1, MOST_EXACT, text)
 }
 
 pub(crate) fn most_records(steps: Option<&str>) -> Option<u64>

@@ -2,7 +2,7 @@
 ghost use Rattle.std.specs.Prelude.{◌≡◌, option_map};
 ghost use Rattle.cacao_cond.specs.Worths.{worth_of, whole_worth, flag_worth, value_of};
 
-use base_decimals::read_integer;
+use base_decimals::{MOST_EXACT, read_integer};
 use cacao_vars::{Kind, Name};
 
 /// The value of a variable: unset, a whole number, a flag, or a text.
@@ -13,9 +13,6 @@ pub enum Atom<'a> {
     Flag(bool),
     Text(&'a str),
 }
-
-/// The most that a variable of kind `integer` is away from 0.
-const MOST_WHOLE: u64 = 9_007_199_254_740_991;
 
 /// The most that a variable of kind `long` is below 0.
 const MOST_BELOW: u64 = 9_223_372_036_854_775_808;
@@ -52,7 +49,7 @@ pub fn value_of<'a>(kind: &Kind, text: Option<&'a str>) -> Atom<'a>
         return Atom::Unset;
     };
     match kind {
-        Kind::Integer => whole_or_unset(read_integer(text.as_bytes(), MOST_WHOLE, MOST_WHOLE)),
+        Kind::Integer => whole_or_unset(read_integer(text.as_bytes(), MOST_EXACT, MOST_EXACT)),
         Kind::Long => whole_or_unset(read_integer(text.as_bytes(), MOST_BELOW, MOST_ABOVE)),
         Kind::Bool => flag_or_unset(text),
         _ => Atom::Text(text),

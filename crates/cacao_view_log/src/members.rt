@@ -7,6 +7,7 @@ ghost use Rattle.cacao_view_log.specs.Objects.{bytes_data, head, number_data, te
 ghost use Rattle.cacao_view_log.specs.Telling.{agent_put, sender_put};
 
 use crate::sender::Sender;
+use base_decimals::MOST_EXACT;
 use cacao_json::{Items, Pairs, Tree};
 use cacao_site::Bytes;
 use itoa::Buffer;
@@ -14,14 +15,11 @@ use oc2_msg_targets::{put, text_tree, whole_tree};
 use std::alloc::{AllocError, Global};
 use std::str::from_utf8;
 
-/// The greatest number that each reader of JSON keeps whole (RFC 7493, section 2.2).
-const MOST_WHOLE: u64 = 9_007_199_254_740_991;
-
 /// A number, or the text of its digits where it is greater than that.
 fn number_tree(alloc: Global, number: u64) -> Result<Tree, AllocError>
     ensures { IfOk result (λ tree. data_of tree ≡ number_data number) }
 {
-    if number <= MOST_WHOLE {
+    if number <= MOST_EXACT {
         Ok(whole_tree(number))
     } else {
         let mut buffer = Buffer::new();

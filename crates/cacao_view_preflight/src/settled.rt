@@ -8,12 +8,10 @@ ghost use Rattle.cacao_json.specs.Tree.{data_of};
 ghost use Rattle.cacao_view_preflight.specs.Settled.{action_for, args_members, changed, closed_items, command_members, command_settled, connection_members, fitting_action, in_array, in_object, named_settled, set_if_open, settled, slpf_members, target_settled, value_settled};
 
 use crate::opens::{is_open, target_part};
+use base_decimals::MOST_EXACT;
 use cacao_json::{Items, Pairs, Tree, copy_tree};
 use oc2_msg_targets::{Action, TargetKind, one_member, put, single, text_tree, whole_tree};
 use std::alloc::{AllocError, Global};
-
-/// The last moment that a command may name.
-const LAST_TIME: u64 = 9_007_199_254_740_991;
 
 fn set_if_open(tree: Tree, fitting: Tree) -> Tree
     ensures { data_of result ≡ set_if_open (data_of fitting) (data_of tree) }
@@ -203,7 +201,7 @@ fn args_members(alloc: Global, pairs: &mut Pairs) -> Result<(), AllocError>
     let _ = pairs.remove("response_requested");
     settle_number(alloc, pairs, "start_time", 0)?;
     settle_number(alloc, pairs, "duration", 0)?;
-    settle_number(alloc, pairs, "stop_time", LAST_TIME)?;
+    settle_number(alloc, pairs, "stop_time", MOST_EXACT)?;
     settle_slpf(alloc, pairs)?;
     Ok(())
 }

@@ -10,7 +10,7 @@ ghost use Rattle.flow_core_values.specs.RunFacts.{IsWell};
 
 use crate::addressing::addressed;
 use crate::run::{Run, Sight};
-use base_decimals::read_integer;
+use base_decimals::{MOST_EXACT, read_integer};
 use cacao_json::{Items, Pairs, Text, Tree};
 use cacao_site::Bytes;
 use cacao_text::canonical;
@@ -75,7 +75,7 @@ impl Run {
         }
         let text = self.value(sight, name)?;
         let text = text.text().as_bytes();
-        read_integer(text, 9_007_199_254_740_991, 9_007_199_254_740_991)
+        read_integer(text, MOST_EXACT, MOST_EXACT)
     }
 
     // The whole number that a text stands for that is one whole reference.

@@ -5,11 +5,8 @@ ghost use Rattle.std.specs.Str.{is_utf8};
 ghost use Rattle.flow_core_rules.specs.Changes.{is_final};
 ghost use Rattle.flow_engine_answers.specs.AnswerReading.{cut, numbered, last_parts, final_status, is_text, ending, line_told, first_told, told_of};
 
-use base_decimals::read_number;
+use base_decimals::{MOST_EXACT, read_number};
 use std::str;
-
-// The greatest number of a run.
-const LAST_RUN: u64 = 9_007_199_254_740_991;
 
 // The most bytes of the text of an answer.
 const MOST_TEXT: usize = 4_096;
@@ -105,7 +102,7 @@ fn ending(text: &[u8]) -> Option<(u16, &[u8])>
 fn read_line(line: &[u8]) -> Option<ToldLine<'_>>
     ensures { option_map told_of result ≡ line_told line.now }
 {
-    let (run, rest) = numbered(LAST_RUN, line)?;
+    let (run, rest) = numbered(MOST_EXACT, line)?;
     let (issue, rest) = numbered(4_294_967_295, rest)?;
     let (status, text) = ending(rest)?;
     if run >= 1 {

@@ -10,6 +10,7 @@ ghost use Rattle.oc2_msg.specs.Ranges.{IsTime, FilterArgsInRange, ArgsInRange, H
 use crate::directions::Direction;
 use crate::drops::Drop3;
 use crate::values::{optional_direction, optional_drop, optional_flag, optional_request};
+use base_decimals::MOST_EXACT;
 use cacao_json::{Tree, member};
 use oc2_msg_targets::{has_only, optional_whole};
 
@@ -108,7 +109,7 @@ fn optional_time(tree: &Tree, name: &str) -> Option<Option<u64>>
     ensures value { result ≡ optional time (get name.now (data_of tree.now)) }
     ensures fits { IfSome result (Each IsTime) }
 {
-    optional_whole(tree, name, 0, 9_007_199_254_740_991)
+    optional_whole(tree, name, 0, MOST_EXACT)
 }
 
 /// Whether the tree is an object with no other members than those of arguments.

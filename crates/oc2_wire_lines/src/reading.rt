@@ -4,12 +4,9 @@ ghost use Rattle.std.specs.List.{position};
 ghost use Rattle.oc2_wire_lines.specs.Lines.{BeginsWithLine, IsOneLine, Reads};
 ghost use Rattle.oc2_wire_lines.specs.LineReading.{behind_letter, cut, is_one_line, is_text, line_read, numbered, parcel_of};
 
-use base_decimals::read_number;
+use base_decimals::{MOST_EXACT, read_number};
 use cacao_site::{Bytes, Parcel};
 use std::alloc::{AllocError, Global};
-
-// The greatest number of a run.
-pub(crate) const LAST_RUN: u64 = 9_007_199_254_740_991;
 
 // The most bytes of a text.
 const MOST_TEXT: usize = 1_048_576;
@@ -85,7 +82,7 @@ fn read_fields(back: bool, line: &[u8]) -> Option<Fields<'_>>
 {
     let rest = behind_letter(back, line)?;
     let (agent, rest) = numbered(16, rest)?;
-    let (run, rest) = numbered(LAST_RUN, rest)?;
+    let (run, rest) = numbered(MOST_EXACT, rest)?;
     let (issue, text) = numbered(4_294_967_295, rest)?;
     if agent >= 1 && run >= 1 && is_text(text) {
         Some(Fields {

@@ -3,7 +3,8 @@ ghost use Rattle.std.specs.Prelude.{◌≡◌, ◌↔◌, ◌≤◌, [], ◌∷�
 ghost use Rattle.std.specs.Fmt.{decimal};
 ghost use Rattle.oc2_wire_lines.specs.Lines.{IsCarried, letter, line_of, nothing_line, space};
 
-use crate::reading::{LAST_RUN, is_text};
+use crate::reading::is_text;
+use base_decimals::MOST_EXACT;
 use cacao_site::{Bytes, Parcel};
 use std::alloc::{AllocError, Global};
 
@@ -23,7 +24,7 @@ pub fn is_carried(parcel: &Parcel) -> bool
     ensures { IsTrue result ↔ IsCarried parcel.now }
 {
     let agent = is_between(u64::from(parcel.agent), 1, 16);
-    let run = is_between(parcel.run, 1, LAST_RUN);
+    let run = is_between(parcel.run, 1, MOST_EXACT);
     let issue = is_between(u64::from(parcel.issue), 0, 4_294_967_295);
     if !(agent && run && issue) {
         return false;
