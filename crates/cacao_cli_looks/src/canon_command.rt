@@ -14,6 +14,7 @@ use cacao_json::Tree;
 use cacao_site::{Shelf, Site};
 use cacao_text::canonical_book_with_room;
 use std::alloc::{AllocError, Global};
+use std::mem::forget;
 
 /// The canonical text (RFC 8785) of the tree, without the top member `signatures`, and a line feed. Room is taken for
 /// as many bytes as the tree was read from, which are enough, and for the line feed and what the writer keeps ready.
@@ -48,7 +49,11 @@ pub fn canon<'w, L: Shelf, S: Site>(
         Err(end) => return end,
     };
     match canon_line(alloc, &tree, text.bytes.len()) {
-        Ok(line) => say_then(line.as_slice(), End::Done, site),
+        Ok(line) => {
+            // The work ends with this line, and the tree's memory goes back with that of the process, all at once.
+            forget(tree);
+            say_then(line.as_slice(), End::Done, site)
+        }
         Err(_) => End::NoMemory,
     }
 }

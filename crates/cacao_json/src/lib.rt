@@ -9,6 +9,7 @@ mod find;
 pub mod laws;
 mod place;
 pub mod read;
+mod rooms;
 mod straight;
 pub mod text;
 pub mod tree;

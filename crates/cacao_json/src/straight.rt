@@ -10,6 +10,7 @@ ghost use Rattle.cacao_json.specs.Reading.{tree};
 ghost use Rattle.cacao_json.specs.Straight.{keys_in, entries_data};
 ghost use Rattle.cacao_json.specs.Tree.{data_of};
 
+use crate::rooms::Rooms;
 use crate::text::Text;
 use crate::tree::{Items, Pairs, Tree};
 use crate::whole::whole_text;
@@ -72,7 +73,8 @@ fn read_text(alloc: Global, text: &str, scratch: &mut Scratch) -> Result<Tree, H
     ensures { IfOk result (λ t. tree text.now ≡ Some (data_of t)) }
 {
     let mut reader = Reader::new(text, scratch)?;
-    let tree = read(alloc, &mut reader, MAX_DEPTH)?;
+    let mut rooms = Rooms::new();
+    let tree = read(alloc, &mut reader, &mut rooms, MAX_DEPTH)?;
     if reader.next().is_some() {
         return Err(Halt::NoTree);
     }
@@ -80,7 +82,12 @@ fn read_text(alloc: Global, text: &str, scratch: &mut Scratch) -> Result<Tree, H
 }
 
 #[cycle(straight)]
-fn read(alloc: Global, reader: &mut Reader<'_>, depth: usize) -> Result<Tree, Halt>
+fn read(
+    alloc: Global,
+    reader: &mut Reader<'_>,
+    rooms: &mut Rooms,
+    depth: usize,
+) -> Result<Tree, Halt>
     ensures value { IfOk result
         (λ t. converted of_json (value depth reader.old) ≡ Some (data_of t, reader.new)) }
     ensures keys { IfOk result (λ t. keys_in reader.old ≡ members_in (data_of t) + keys_in reader.new) }
@@ -101,19 +108,24 @@ fn read(alloc: Global, reader: &mut Reader<'_>, depth: usize) -> Result<Tree, Ha
             if depth == 0 {
                 return Err(Halt::NoTree);
             }
-            Ok(Tree::List(read_items(alloc, reader, depth - 1)?))
+            Ok(Tree::List(read_items(alloc, reader, rooms, depth - 1)?))
         }
         Token::BeginObject => {
             if depth == 0 {
                 return Err(Halt::NoTree);
             }
-            Ok(Tree::Members(read_members(alloc, reader, depth - 1)?))
+            Ok(Tree::Members(read_members(alloc, reader, rooms, depth - 1)?))
         }
     }
 }
 
 #[cycle(straight)]
-fn read_items(alloc: Global, reader: &mut Reader<'_>, depth: usize) -> Result<Items, Halt>
+fn read_items(
+    alloc: Global,
+    reader: &mut Reader<'_>,
+    rooms: &mut Rooms,
+    depth: usize,
+) -> Result<Items, Halt>
     ensures value { IfOk result
         (λ ds. converted of_items (items (value depth) (length reader.old) reader.old)
         ≡ Some (ds, reader.new)) }
@@ -121,16 +133,22 @@ fn read_items(alloc: Global, reader: &mut Reader<'_>, depth: usize) -> Result<It
     ensures formed { IfOk result (λ ds. AreFormed ds) }
     ensures shorter { OnOk result (length reader.new < length reader.old) }
 {
-    let mut found = Vec::new(alloc);
+    let mut found = Vec::with_capacity(alloc, rooms.for_list(depth))?;
     'items: while !reader.take_end_array() {
-        let item = read(alloc, reader, depth)?;
+        let item = read(alloc, reader, rooms, depth)?;
         found.push(item)?;
     }
+    rooms.keep_list(depth, found.len());
     Ok(Items { items: found })
 }
 
 #[cycle(straight)]
-fn read_members(alloc: Global, reader: &mut Reader<'_>, depth: usize) -> Result<Pairs, Halt>
+fn read_members(
+    alloc: Global,
+    reader: &mut Reader<'_>,
+    rooms: &mut Rooms,
+    depth: usize,
+) -> Result<Pairs, Halt>
     ensures value { IfOk result
         (λ ms. converted (λ js. of_members js no_members)
         (members (value depth) (length reader.old) reader.old)
@@ -139,16 +157,17 @@ fn read_members(alloc: Global, reader: &mut Reader<'_>, depth: usize) -> Result<
     ensures formed { IfOk result (λ ms. AreFormedMembers ms) }
     ensures shorter { OnOk result (length reader.new < length reader.old) }
 {
-    let mut found = Pairs::new(alloc);
+    let mut found = Pairs::with_room(alloc, rooms.for_object(depth))?;
     'members: while let Some(key) = reader.next_key()? {
         let name = name_of(alloc, key)?;
-        let member = read(alloc, reader, depth)?;
+        let member = read(alloc, reader, rooms, depth)?;
         if found.is_wide(WIDE, name.text()) {
             let map = widened(alloc, found, name, member)?;
-            return read_wide(alloc, reader, depth, map);
+            return read_wide(alloc, reader, rooms, depth, map);
         }
         found.add(name, member)?;
     }
+    rooms.keep_object(depth, found.pairs.len());
     Ok(found)
 }
 
@@ -165,6 +184,7 @@ fn name_of(alloc: Global, name: &str) -> Result<Text, AllocError>
 fn read_wide(
     alloc: Global,
     reader: &mut Reader<'_>,
+    rooms: &mut Rooms,
     depth: usize,
     map: BTreeMap<Text, Tree>,
 ) -> Result<Pairs, Halt>
@@ -182,7 +202,7 @@ fn read_wide(
     let mut found = map;
     'members: while let Some(key) = reader.next_key()? {
         let name = name_of(alloc, key)?;
-        let member = read(alloc, reader, depth)?;
+        let member = read(alloc, reader, rooms, depth)?;
         add_new(&mut found, name, member)?;
     }
     Ok(pairs_of_map(alloc, found)?)

@@ -1,5 +1,5 @@
 // The tree of a JSON text.
-ghost use Rattle.std.specs.Prelude.{◌≡◌, ◌+◌, map, is_ok, option_map, if◌then◌else◌, OnOk};
+ghost use Rattle.std.specs.Prelude.{◌≡◌, ◌+◌, map, is_ok, option_map, if◌then◌else◌, IfOk, OnOk};
 ghost use Rattle.cacao_json.specs.Counts.{members, members_of_pairs};
 ghost use Rattle.serde_json.specs.Data.{no_items, no_members, put};
 ghost use Rattle.serde_json.specs.Find.{get_member};
@@ -149,6 +149,14 @@ impl Pairs {
         Pairs {
             pairs: Vec::new(alloc),
         }
+    }
+
+    /// No members, and room for so many.
+    pub(crate) fn with_room(alloc: Global, room: usize) -> Result<Pairs, AllocError>
+        ensures { IfOk result (λ pairs. pairs ≡ no_members) }
+    {
+        let pairs = Vec::with_capacity(alloc, room)?;
+        Ok(Pairs { pairs })
     }
 
     /// The members, in byte order of their names.
