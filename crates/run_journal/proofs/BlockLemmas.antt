@@ -1,5 +1,5 @@
 -- A file that is read block after block.
-use Rattle.std.proofs.Common.{◌≡◌, ◌+◌, ◌-◌, ◌*◌, ◌/◌, ◌≤◌, min, ℕ, List, [], ◌++◌, length, take, drop, All, IsTrue, refl, sym, ◌∙◌, ap, subst, arith, inl, inr, append_assoc, length-append}
+use Rattle.std.proofs.Common.{◌≡◌, ◌+◌, ◌-◌, ◌*◌, ◌≤◌, min, ℕ, List, [], ◌++◌, length, take, drop, All, IsTrue, refl, sym, ◌∙◌, ap, subst, arith, inl, inr, append_assoc, length-append}
 use Rattle.std.proofs.lemmas.Bool.{cases_eq, cases_lt}
 use Rattle.std.proofs.lemmas.List.{take_all}
 use Rattle.std.proofs.lemmas.List.Elements.{All-nil}
@@ -119,8 +119,9 @@ more_blocks file end i start old mid new items more tail behind next at ends aft
       (step.0 ∙ so_far.0, then ∙ ahead);
 }
 
--- all blocks
-pub whole_file : (file end blocks : ℕ) (start : List ℕ) (old new : SiteView) (items : List (List ℕ)) (tail : List ℕ) (ends : ℕ) → IsReadUpTo file end blocks start old new items tail ends → blocks ≡ end / 4096
+-- all blocks of the file
+pub whole_file : (file end blocks : ℕ) (start : List ℕ) (old new : SiteView) (items : List (List ℕ)) (tail : List ℕ) (ends : ℕ) → IsReadUpTo file end blocks start old new items tail ends → ends ≤ 4096 * (blocks + 1)
     → IsTrue old.disk.told → end ≡ length (old.disk.reads file) → header ++ start ≡ take 4096 (old.disk.reads file) → front items ++ tail ≡ old.disk.reads file
 whole_file file end blocks start old new items tail ends was all told size is =
-    (was.is told size is).1 ∙ take_all (4096 * (blocks + 1)) (old.disk.reads file) (omega (arith, all, size))
+    let up_to = was.is told size is in
+    up_to.1 ∙ take_all (4096 * (blocks + 1)) (old.disk.reads file) (omega (arith, all, size, up_to.0))

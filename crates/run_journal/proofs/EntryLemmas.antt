@@ -1,6 +1,6 @@
 -- One entry more in the layout of a list.
-use Rattle.std.proofs.Common.{◌≡◌, inl, inr, ⊎_elim, ℕ, zero, suc, take, get_or, ◌+◌, ◌/◌, ◌%◌, ◌≤◌, ◌<◌, List, [], ◌∷◌, ◌++◌, length, refl, sym, ◌∙◌, ap, subst, arith, append_assoc, length-append, All, IsTrue}
-use Rattle.std.proofs.lemmas.List.{append-nil, take_more}
+use Rattle.std.proofs.Common.{◌≡◌, inl, inr, ⊎_elim, ℕ, zero, suc, take, ◌+◌, ◌/◌, ◌%◌, ◌≤◌, ◌<◌, List, [], ◌∷◌, ◌++◌, length, refl, sym, ◌∙◌, ap, subst, arith, append_assoc, length-append, All, IsTrue}
+use Rattle.std.proofs.lemmas.List.{append-nil}
 use Rattle.std.proofs.lemmas.List.Elements.{All-nil, All-push}
 use Rattle.cacao_site.specs.View.{DiskView}
 use Rattle.cacao_site.specs.DiskCalls.{IsLeft, EachBeat, AllLeft}
@@ -99,15 +99,6 @@ entries_more bytes items rest item after so_far short is = record {
 }
 
 -- ---- places
-
--- one entry more of a list
-pub length-front-next : (items : List (List ℕ)) (i place size : ℕ) (item : List ℕ) → i < length items → item ≡ get_or items i item → size ≡ length item → place ≡ length (front (take i items))
-    → place + (5 + size) ≡ length (front (take (i + 1) items))
-length-front-next items i place size item lt is long so_far =
-    let next : length (front (take (i + 1) items)) ≡ length (front (take i items)) + (5 + length (get_or items i item)) =
-    ap (λ (l : List (List ℕ)). length (front l)) (take_more items i item lt) ∙ length-front-push (take i items) (get_or items i item) in
-    let same : length (get_or items i item) ≡ length item = ap length (sym is) in
-    omega arith
 
 -- a front of a list takes no more bytes
 entries-le : (i : ℕ) (items : List (List ℕ)) → length (entries (take i items)) ≤ length (entries items)

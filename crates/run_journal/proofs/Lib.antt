@@ -9,3 +9,4 @@ pub mod Unique
 pub mod PlaceLaws
 pub mod DurableLemmas
 pub mod ImageLemmas
+pub mod PackedLemmas

@@ -1,9 +1,8 @@
 -- Entries that are taken off the front.
-use Rattle.std.proofs.Common.{◌≡◌, ℕ, suc, ◌+◌, ◌-◌, ◌≤◌, List, [], ◌∷◌, ◌++◌, length, take, drop, refl, sym, ◌∙◌, ap, arith, append_assoc, length-append}
-use Rattle.std.proofs.lemmas.List.{take_at, drop_at}
+use Rattle.std.proofs.Common.{◌≡◌, ℕ, ◌-◌, List, [], ◌∷◌, ◌++◌, length, drop, refl, sym, ◌∙◌, ap, arith, append_assoc, length-append}
+use Rattle.std.proofs.lemmas.List.{drop_at}
 use Rattle.std.proofs.lemmas.List.Elements.{All-append}
-use Rattle.run_journal.specs.Layout.{header, length_field, entries, front, Entries, Begins, IsEntry, most_entry}
-use Rattle.run_journal.proofs.EntryLemmas.{entries_none, entries_more}
+use Rattle.run_journal.specs.Layout.{header, length_field, entries, front, Entries, Begins, IsEntry}
 
 pub entries-append : (xs ys : List (List ℕ)) → entries (xs ++ ys) ≡ entries xs ++ entries ys
 unfolding entries
@@ -25,16 +24,6 @@ begins_more {image} {tail} {rest} {items} {more} was has = record {
       ∙ sym (append_assoc (front items) (entries more) rest)
       ∙ ap (λ (l : List ℕ). l ++ rest) (sym (front-append items more));
 }
-
--- and so does one
-pub begins_one : {image tail after : List ℕ} {items : List (List ℕ)} (item : List ℕ) → Begins image items tail → length item ≤ most_entry → tail ≡ 1 ∷ length_field (length item) ++ item ++ after → Begins image (items ++ item ∷ []) after
-begins_one {image} {tail} {after} item was short is = begins_more was (entries_more tail [] tail item after (entries_none tail) short is)
-
--- where an entry stands
-pub item_there : (tail item after : List ℕ) (size : ℕ) → size ≡ length item → tail ≡ 1 ∷ length_field (length item) ++ item ++ after → drop 5 (take (5 + size) tail) ≡ item
-item_there tail item after size long is =
-    let behind : 5 + size ≡ suc (suc (suc (suc (suc size)))) = omega arith in
-    (λ i. drop 5 (take (behind i) (is i))) ∙ take_at item after size (sym long)
 
 -- what stands behind the entries
 pub rest_there : {bytes rest : List ℕ} {items : List (List ℕ)} (n : ℕ) → Entries bytes items rest → n ≡ length bytes - length rest → drop n bytes ≡ rest

@@ -1,5 +1,5 @@
 -- Promise: What a `Journal` keeps.
-use Rattle.std.specs.Prelude.{◌≡◌, ◌+◌, ◌<◌, ◌≤◌, All, [], false, length, vec_len, vec_capacity}
+use Rattle.std.specs.Prelude.{◌≡◌, ◌+◌, ◌<◌, ◌≤◌, All, [], false, length, vec_capacity}
 use Rattle.run_journal.specs.declared.journal.Journal.TheInside.{Inside}
 use Rattle.run_journal.specs.JournalView.{JournalView}
 use Rattle.run_journal.specs.Layout.{front, IsEntry, most_image}
@@ -13,5 +13,6 @@ pub record IsKept (a : Inside) : Type 0 where
   pub fits : a.gate < most_image
   pub short : All IsEntry a.items.items
   pub blank : a.prepared ≡ false → a.items.items ≡ []
-  pub item_room : 0 < a.spare → vec_len a.items < vec_capacity a.items
+  pub item_place : 0 < a.spare → 0 < a.items.places
+  pub item_room : 0 < a.spare → a.spare ≤ a.items.room + 1
   pub block_room : 0 < a.spare → a.spare + 4 ≤ vec_capacity a.block

@@ -5,3 +5,6 @@ pub mod Journal
 pub mod JournalView
 pub mod Laws
 pub mod Layout
+pub mod Packed
+pub mod PackedView
+pub mod Taking

@@ -62,7 +62,8 @@ impl Journal {
         match add_block(disk, self.file, self.gate, self.block.as_slice()) {
             Ok(()) => {
                 self.gate += HEAD_SIZE as u64 + size;
-                self.items.push_reserved(item);
+                self.items.push_reserved(item.as_slice());
+                drop(item);
                 self.spare = 0;
                 Ok(())
             }

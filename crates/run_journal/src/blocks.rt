@@ -5,8 +5,9 @@ ghost use Rattle.run_journal.specs.Blocks.{OnlyReads};
 ghost use Rattle.run_journal.specs.Layout.{IsEntry, front, header};
 
 use crate::error::JournalError;
+use crate::packed::Packed;
 use crate::taking::{make_room, take_entries};
-use cacao_site::{Bytes, Disk};
+use cacao_site::Disk;
 use std::alloc::Global;
 
 /// The most bytes of one read.
@@ -15,7 +16,7 @@ pub const BLOCK: usize = 4_096;
 /// The entries of a file in order, the bytes behind them, and where the file ends.
 #[derive(Drop)]
 pub struct Taken {
-    pub items: Vec<Bytes>,
+    pub items: Packed,
     pub tail: Vec<u8>,
     pub end: u64,
 }
@@ -23,7 +24,7 @@ pub struct Taken {
 /// The entries of a file that ends at `end`. Of its first block the header was cut off, and `start` is what stood behind.
 ///
 /// An entry is taken as soon as it is whole, so that beside those taken no more is held than one entry and two blocks, or
-/// what stands behind a closed gate or damage.
+/// what stands behind a closed gate or damage. Behind the file's end no block is asked for.
 pub fn read_rest<D: Disk>(
     alloc: Global,
     disk: &mut D,
@@ -45,12 +46,19 @@ pub fn read_rest<D: Disk>(
     ensures steady { result ≢ Err JournalError.Disk → (D.view disk.new).disk.faults ≡ (D.view disk.old).disk.faults }
     ensures no_other { OnErr result ((IsErrOf result JournalError.Disk) ⊎ (IsErrOf result JournalError.Memory)) }
 {
-    let mut items = Vec::new(alloc);
+    let mut items = Packed::new(alloc);
     let mut tail = start;
     let mut ends = end;
     for block in 0..end / BLOCK as u64 {
-        take_entries(alloc, &mut items, &mut tail)?;
-        let at = ends.min((block + 1) * BLOCK as u64);
+        let at = (block + 1) * BLOCK as u64;
+        if ends <= at {
+            return Ok(Taken {
+                items,
+                tail,
+                end: ends,
+            });
+        }
+        take_entries(&mut items, &mut tail)?;
         make_room(&mut tail, ends - at)?;
         ends = read_block(disk, file, at, ends, &mut tail)?;
     }

@@ -5,7 +5,7 @@ ghost use Rattle.run_journal.specs.JournalView.{JournalView};
 
 use crate::error::JournalError;
 use crate::layout::{HEAD_SIZE, HEADER_SIZE};
-use cacao_site::Bytes;
+use crate::packed::Packed;
 use std::alloc::Global;
 use std::marker::Model;
 
@@ -19,7 +19,7 @@ pub struct Journal {
     pub(crate) gate: u64,
     pub(crate) broken: bool,
     pub(crate) prepared: bool,
-    pub(crate) items: Vec<Bytes>,
+    pub(crate) items: Packed,
     // Room for what is written behind the gate.
     pub(crate) block: Vec<u8>,
     pub(crate) spare: usize,
@@ -37,19 +37,6 @@ impl Model for Journal {
     ghost invariant = { IsKept };
 }
 
-/// How many bytes the header and these entries take.
-#[tactic(auto, unfolding(crate::specs::Layout::front, crate::specs::Layout::entries))]
-fn place_in(items: &[Bytes]) -> u64
-    requires { length (front items.now) < 67_108_864 }
-    ensures { result ≡ length (front items.now) }
-{
-    let mut place = HEADER_SIZE as u64;
-    for item in items {
-        place += HEAD_SIZE as u64 + item.len() as u64;
-    }
-    place
-}
-
 impl Journal {
     /// The journal of a file with at most 9 bytes. Takes no memory.
     #[tactic(auto, unfolding(crate::specs::Layout::front, crate::specs::Layout::entries))]
@@ -62,14 +49,14 @@ impl Journal {
             gate: HEADER_SIZE as u64,
             broken: false,
             prepared: false,
-            items: Vec::new(alloc),
+            items: Packed::new(alloc),
             block: Vec::new(alloc),
             spare: 0,
         }
     }
 
     /// The journal of a file with these entries. Takes no memory.
-    pub(crate) fn found(alloc: Global, file: u8, items: Vec<Bytes>, gate: u64) -> Journal
+    pub(crate) fn found(alloc: Global, file: u8, items: Packed, gate: u64) -> Journal
         requires file { file ≤ 16 }
         requires gate { gate ≡ length (front items.items) }
         requires fits { gate < 67_108_864 }
@@ -99,7 +86,7 @@ impl Journal {
     {
         self.block.clear();
         self.block.reserve(bytes as usize + HEAD_SIZE)?;
-        self.items.reserve(1)?;
+        self.items.reserve(bytes as usize)?;
         self.spare = bytes as usize + 1;
         Ok(())
     }
@@ -109,7 +96,7 @@ impl Journal {
         requires { n < length self.now.items }
         ensures { result.now ≡ slice_index_or self.now.items n [] }
     {
-        self.items[n as usize].as_slice()
+        self.items.get(n as usize)
     }
 
     /// The place of the gate of an entry, in bytes from the start of the file; behind the last entry, that of the closed gate.
@@ -117,7 +104,7 @@ impl Journal {
         requires { n ≤ length self.now.items }
         ensures { result ≡ length (front (take n self.now.items)) }
     {
-        place_in(&self.items[..n as usize])
+        HEADER_SIZE as u64 + HEAD_SIZE as u64 * n as u64 + self.items.size(n as usize) as u64
     }
 
     /// How many entries there are.

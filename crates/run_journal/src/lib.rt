@@ -11,6 +11,7 @@ pub mod journal;
 pub mod laws;
 mod layout;
 mod opening;
+mod packed;
 mod prepare;
 mod reader;
 mod store;

@@ -123,7 +123,7 @@ fn found_in(alloc: Global, file: u8, taken: Taken) -> Result<Journal, JournalErr
         mut tail,
         end,
     } = taken;
-    let broken = take_entries(alloc, &mut items, &mut tail)?;
+    let broken = take_entries(&mut items, &mut tail)?;
     let gate = end - tail.len() as u64;
     if broken {
         return Err(JournalError::Damaged { place: gate });

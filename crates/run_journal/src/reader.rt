@@ -1,5 +1,5 @@
 // The entries of an image.
-ghost use Rattle.std.specs.Prelude.{◌≡◌, ◌≢◌, ◌≤◌, ◌<◌, ◌*◌, ◌+◌, ◌-◌, ◌∷◌, ◌++◌, List, ℕ, length, take, map, slice_index, IfOk, IfSome, IfNone, IsErrOf, true, false};
+ghost use Rattle.std.specs.Prelude.{◌≡◌, ◌≢◌, ◌≤◌, ◌<◌, ◌*◌, ◌+◌, ◌-◌, ◌∷◌, ◌++◌, List, ℕ, length, take, slice_index, IfOk, IfSome, IfNone, IsErrOf, true, false};
 ghost use Rattle.run_journal.specs.Image.{ArePlaced, bytes_of};
 ghost use Rattle.run_journal.specs.Layout.{Entries, HasLayout, IsBroken, IsDamagedAt, front, header, length_field, most_entry};
 
@@ -38,13 +38,6 @@ pub fn read_list(alloc: Global, image: &[u8]) -> Result<Found, ImageError>
         entries: split.entries,
         gate,
     })
-}
-
-/// The bytes of the entries.
-pub fn items_of(alloc: Global, entries: Vec<Entry>) -> Result<Vec<Bytes>, AllocError>
-    ensures { IfOk result (λ items. items.items ≡ bytes_of entries.items) }
-{
-    entries.into_iter().map(|entry| entry.bytes).collect(alloc)
 }
 
 /// The first byte that differs from the header.

@@ -1,55 +1,54 @@
 // Entries that are taken out of the blocks of a file.
-ghost use Rattle.std.specs.Prelude.{◌≡◌, ◌≢◌, ◌≤◌, ◌∷◌, List, ℕ, drop, length, OnOk, IfOk, true, false};
-ghost use Rattle.run_journal.specs.Layout.{Begins, IsBroken};
+ghost use Rattle.std.specs.Prelude.{◌≡◌, ◌≢◌, ◌+◌, ◌≤◌, ◌∷◌, List, ℕ, drop, length, OnOk, IfOk, true, false};
+ghost use Rattle.run_journal.specs.Layout.{Begins, IsBroken, front};
+ghost use Rattle.run_journal.specs.Taking.{Joins};
 
 use crate::blocks::BLOCK;
-use crate::layout::{HEAD_SIZE, MOST_ENTRY, MOST_IMAGE};
-use crate::reader::{items_of, read_entries, split_entry};
-use cacao_site::Bytes;
-use std::alloc::{AllocError, Global};
-use std::mem;
+use crate::layout::{MOST_ENTRY, MOST_IMAGE};
+use crate::packed::Packed;
+use crate::reader::split_entry;
+use std::alloc::AllocError;
 
 /// Takes the whole entries off the front of the tail, and answers whether what stands behind them is no closed gate.
-pub fn take_entries(
-    alloc: Global,
-    items: &mut Vec<Bytes>,
-    tail: &mut Vec<u8>,
-) -> Result<bool, AllocError>
-    requires { length tail.old.items ≤ 67_108_864 }
+pub fn take_entries(items: &mut Packed, tail: &mut Vec<u8>) -> Result<bool, AllocError>
+    requires { length (front items.old.items) + length tail.old.items ≤ 67_108_864 }
     ensures begins { OnOk result ((image : List ℕ) → Begins image items.old.items tail.old.items → Begins image items.new.items tail.new.items) }
     ensures broken { IfOk result (λ broken. broken ≡ true → IsBroken tail.new.items) }
     ensures closed { IfOk result (λ broken. broken ≡ false
         → (gate : ℕ) × (rest : List ℕ) × (tail.new.items ≡ gate ∷ rest) × (gate ≢ 1)) }
 {
-    take_long(alloc, items, tail)?;
-    let split = read_entries(alloc, tail.as_slice())?;
-    let broken = split.broken;
-    let taken = tail.len() - split.rest.len();
-    let mut more = items_of(alloc, split.entries)?;
-    items.append(&mut more)?;
+    let behind = pack_entries(items, tail.as_slice())?;
+    let broken = behind.broken;
+    let taken = tail.len() - behind.rest.len();
     cut_front(tail, taken);
     Ok(broken)
 }
 
-/// Takes the first entry, if it is whole and longer than a block, in the memory that it was read into.
-fn take_long(alloc: Global, items: &mut Vec<Bytes>, tail: &mut Vec<u8>) -> Result<(), AllocError>
-    requires { length tail.old.items ≤ 67_108_864 }
-    ensures begins { OnOk result ((image : List ℕ) → Begins image items.old.items tail.old.items → Begins image items.new.items tail.new.items) }
-    ensures low { OnOk result (length tail.new.items ≤ length tail.old.items) }
+/// What stands behind whole entries, and whether that is no closed gate.
+#[derive(Drop)]
+struct Behind<'a> {
+    rest: &'a [u8],
+    broken: bool,
+}
+
+/// Adds the whole entries at the front of these bytes.
+fn pack_entries<'a>(items: &mut Packed, bytes: &'a [u8]) -> Result<Behind<'a>, AllocError>
+    requires { length (front items.old.items) + length bytes.now ≤ 67_108_864 }
+    ensures joins { IfOk result (λ behind. Joins bytes.now items.old.items items.new.items behind.rest.now) }
+    ensures broken { IfOk result (λ behind. behind.broken ≡ true → IsBroken behind.rest.now) }
+    ensures closed { IfOk result (λ behind. behind.broken ≡ false
+        → (gate : ℕ) × (rest : List ℕ) × (behind.rest.now ≡ gate ∷ rest) × (gate ≢ 1)) }
 {
-    let Some((item, after)) = split_entry(tail.as_slice()) else {
-        return Ok(());
-    };
-    let size = item.len();
-    if size <= BLOCK {
-        return Ok(());
+    let mut rest = bytes;
+    while let Some((item, after)) = split_entry(rest) {
+        items.push(item)?;
+        rest = after;
     }
-    let after = Vec::from_slice(alloc, after)?;
-    let mut item = mem::replace(tail, after);
-    item.truncate(HEAD_SIZE + size);
-    cut_front(&mut item, HEAD_SIZE);
-    items.push(Bytes::from_vec(item))?;
-    Ok(())
+    let broken = match rest {
+        [] | [1, ..] => true,
+        [_, ..] => false,
+    };
+    Ok(Behind { rest, broken })
 }
 
 /// Cuts so many bytes off the front.

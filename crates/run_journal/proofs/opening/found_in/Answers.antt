@@ -3,6 +3,9 @@ use Rattle.std.proofs.Common.{◌≡◌, ◌-◌, ◌++◌, List, ℕ, length, r
 use Rattle.run_journal.specs.Layout.{front}
 use Rattle.run_journal.proofs.opening.found_in.Goals as goal
 
+pub take_entries-requires : goal.take_entries-requires
+take_entries-requires c = omega (arith, length-append (front c.args.taken.items.items) c.args.taken.tail.items, c.requires.long, c.requires.high)
+
 pub returns-then-broken-clause-damaged : goal.returns-then-broken-clause-damaged
 returns-then-broken-clause-damaged c = λ place is.
     let items : List (List ℕ) = c.take_entries.new.items.items in

@@ -7,12 +7,13 @@ use Rattle.run_journal.specs.JournalView.{JournalView}
 use Rattle.run_journal.specs.Layout.{front, block_for, IsEntry}
 use Rattle.run_journal.proofs.EntryLemmas.{append_beats, append_durable, length-front-push}
 use Rattle.cacao_site.proofs.Beats.{each-weaken}
+use Rattle.run_journal.proofs.PackedLemmas.{length-front-all}
 use Rattle.run_journal.proofs.PlaceLaws.{layout_stands}
 use Rattle.run_journal.proofs.journal.Journal.append.Goals as goal
 
 pub invariant_of-self : goal.invariant_of-self
 invariant_of-self g c =
-    let items : c.push_reserved.new.self.items ≡ c.self.inside.items.items ++ c.args.item ∷ [] = c.push_reserved.ensures.items in
+    let items : c.push_reserved.new.self.items ≡ c.self.inside.items.items ++ c.args.item ∷ [] = c.push_reserved.ensures ∙ ap (λ (i : List ℕ). c.self.inside.items.items ++ i ∷ []) c.as_slice-in-Ok.ensures in
     let whole : length (front c.push_reserved.new.self.items) ≡ length (front c.self.inside.items.items) + (5 + length c.args.item) = ap (λ (l : List (List ℕ)). length (front l)) items ∙ length-front-push c.self.inside.items.items c.args.item in
     let ready : c.self.inside.prepared ≡ true = ap (λ (v : JournalView). v.prepared) c.self.view_is ∙ c.requires.prepared in
     record {
@@ -21,9 +22,14 @@ invariant_of-self g c =
       fits = omega (arith, c.len-size.ensures, c.if-length-gt-MOST_IMAGE.false);
       short = subst (λ (l : List (List ℕ)). All IsEntry l) (sym items) (All-push IsEntry c.self.inside.items.items c.args.item c.self.invariant.short c.requires.size);
       blank = λ none. absurd (false≢true (sym none ∙ ready));
+      item_place = λ lt. absurd (omega (arith, lt));
       item_room = λ lt. absurd (omega (arith, lt));
       block_room = λ lt. absurd (omega (arith, lt));
     }
+
+pub push_reserved-requires-clause-fits : goal.push_reserved-requires-clause-fits
+push_reserved-requires-clause-fits g c =
+    omega (arith, length-front-all c.self.inside.items.items, c.self.invariant.gate, c.len-size.ensures, c.if-length-gt-MOST_IMAGE.false, ap length c.as_slice-in-Ok.ensures)
 
 pub returns-in-Ok-clause-each_beat : goal.returns-in-Ok-clause-each_beat
 returns-in-Ok-clause-each_beat g c = λ whole.
