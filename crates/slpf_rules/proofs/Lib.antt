@@ -7,12 +7,14 @@ pub mod Indexed
 pub mod NetWidths
 pub mod Counting
 pub mod QuickLemmas
+pub mod QuickLemmas6
 pub mod SideLemmas
 pub mod Filings
 pub mod Smallest
 pub mod SoleLemmas
 pub mod Deciders
 pub mod PickLemmas
+pub mod BlockLemmas
 pub mod QuickDecides
 pub mod ReplyRanges
 pub mod ReplyLengths

@@ -3,15 +3,18 @@ use Rattle.std.proofs.Common.{◌≡◌, ℕ, ◌+◌, ◌≤◌, Bool, true, fa
 use Rattle.std.specs.Option.{option_map_or}
 use Rattle.oc2_nets.specs.declared.flows.Flow.{Flow}
 use Rattle.oc2_nets.specs.declared.flows.Flow.TheVariants as flow
+use Rattle.oc2_msg.specs.declared.directions.Direction.{Direction}
 use Rattle.oc2_nets.specs.declared.ipv4_nets.Net4.{Net4}
+use Rattle.oc2_nets.specs.declared.ipv6_nets.Net6.{Net6}
 use Rattle.oc2_nets.specs.declared.packets.Address.{Address}
 use Rattle.oc2_nets.specs.declared.packets.Packet.{Packet}
 use Rattle.oc2_nets.specs.Flows.{covers}
 use Rattle.oc2_nets.specs.Nets.{lies4, lies6}
 use Rattle.slpf_rules.specs.declared.any_nets.AnyNet.{AnyNet}
-use Rattle.slpf_rules.specs.declared.any_nets.AnyNet.TheVariants.{V4}
+use Rattle.slpf_rules.specs.declared.any_nets.AnyNet.TheVariants.{V4, V6}
 use Rattle.slpf_rules.specs.declared.rules.Rule.{Rule}
 use Rattle.slpf_rules.specs.declared.slots.Slot.{Slot}
+use Rattle.slpf_rules.specs.declared.slots6.Slot6.{Slot6}
 use Rattle.slpf_rules.specs.declared.verdicts.Verdict.{Verdict}
 use Rattle.slpf_rules.specs.AnyNets.{width}
 use Rattle.slpf_rules.specs.Filed.{source_net, destination_net, is_net}
@@ -23,6 +26,8 @@ use Rattle.slpf_rules.specs.Verdicts.{has_direction, is_before_stop, decides, ve
 use Rattle.slpf_rules.specs.Deciding.{holds, holds_below, lies_in, number_decides}
 use Rattle.slpf_rules.specs.Slots.{is_of, said_if, said_by}
 use Rattle.slpf_rules.specs.Quick.{is_of_net, is_lasting, IsAlone}
+use Rattle.slpf_rules.specs.Slots6.{is_of6, said_by6}
+use Rattle.slpf_rules.specs.Quick6.{IsAlone6}
 use Rattle.slpf_rules.specs.Picking.{picked, NetsCover}
 use Rattle.slpf_rules.proofs.Indexed.{files, unwrap_listed}
 use Rattle.slpf_rules.proofs.QuickLemmas.{and_parts, le_from, le_is}
@@ -89,26 +94,40 @@ picked_if : (rules : List Rule) (n : ℕ) (v : Verdict) (b : Bool) → verdict_o
 picked_if rules n v true h = ap Some (sym h)
 picked_if rules n v false h = refl
 
+-- a rule that is alone under a net tells what is found there
+said_under : (net_of : Flow → Option AnyNet) (rules : List Rule) (entries : List (AnyNet × List ℕ)) (packet : Packet) (since moment : ℕ) (net : AnyNet) (r : Rule) (d : Bool) (n : ℕ) (direction : Option Direction)
+    → filter (files net_of net) rules ≡ r ∷ [] → d ≡ r.deny → n ≡ r.number → direction ≡ Some r.direction → is_lasting since r ≡ true
+    → since ≤ moment → IsIndexOf net_of rules entries → IsRising rules
+    → ((f : Flow) → is_of_net f ≡ true → is_net net (net_of f) ≡ true → covers f packet ≡ true)
+    → said_if (record { deny = d; rule = n }) packet.outward direction ≡ picked rules (find (number_decides rules packet moment) (unwrap_or (at entries net) []))
+said_under net_of rules entries packet since moment net r d n direction all deny_is number_is direction_is lasting le indexed rising covered =
+    let out = packet.outward in
+    let f = files net_of net in
+    let e = number_decides rules packet moment in
+    let each = subst (EachRule (λ q. rule_at q.number rules ≡ Some q)) all (each_filter (λ q. rule_at q.number rules ≡ Some q) f rules (found_each rules rising)) in
+    let found : rule_at r.number rules ≡ Some r = each.0 in
+    let passing = subst (EachRule (λ q. f q ≡ true)) all (passes_filter f rules) in
+    let passes : f r ≡ true = passing.0 in
+    let decided = decides_by_direction packet since moment r lasting le (λ h. covered r.flow h passes) in
+    let decides_is : e r.number ≡ has_direction r.direction out = ap (λ o. option_map_or (decides packet moment) o false) found ∙ decided in
+    let listed_is = ap (λ o. unwrap_or o []) (indexed net) ∙ unwrap_listed (numbers (filter f rules)) ∙ ap numbers all in
+    ap₂ (λ x y. said_if (record { deny = x; rule = y }) out direction) deny_is number_is
+    ∙ ap (said_if (record { deny = r.deny; rule = r.number }) out) direction_is
+    ∙ picked_if rules r.number (record { deny = r.deny; rule = r.number }) (has_direction r.direction out) (ap verdict_of found)
+    ∙ ap (λ b. picked rules (cond b (Some r.number) None)) (sym decides_is)
+    ∙ ap (λ ns. picked rules (find e ns)) (sym listed_is)
+
 -- what stands alone under a net tells what is found there
 pub alone_said : (net_of : Flow → Option AnyNet) (rules : List Rule) (entries : List (AnyNet × List ℕ)) (packet : Packet) (since moment : ℕ) (net : Net4) (slot : Slot)
     → IsAlone net_of rules since slot → is_of net slot ≡ true → since ≤ moment → IsIndexOf net_of rules entries → IsRising rules
     → ((f : Flow) → is_of_net f ≡ true → is_net (V4 net) (net_of f) ≡ true → covers f packet ≡ true)
     → said_by slot packet.outward ≡ picked rules (find (number_decides rules packet moment) (unwrap_or (at entries (V4 net)) []))
 alone_said net_of rules entries packet since moment net slot a is le indexed rising covered =
-    let r = a.rule in
-    let out = packet.outward in
-    let f = files net_of (V4 net) in
-    let e = number_decides rules packet moment in
-    let all = a.alone net is in
-    let each = subst (EachRule (λ q. rule_at q.number rules ≡ Some q)) all (each_filter (λ q. rule_at q.number rules ≡ Some q) f rules (found_each rules rising)) in
-    let found : rule_at r.number rules ≡ Some r = each.0 in
-    let passing = subst (EachRule (λ q. f q ≡ true)) all (passes_filter f rules) in
-    let passes : f r ≡ true = passing.0 in
-    let decided = decides_by_direction packet since moment r a.lasting le (λ h. covered r.flow h passes) in
-    let decides_is : e r.number ≡ has_direction r.direction out = ap (λ o. option_map_or (decides packet moment) o false) found ∙ decided in
-    let listed_is = ap (λ o. unwrap_or o []) (indexed (V4 net)) ∙ unwrap_listed (numbers (filter f rules)) ∙ ap numbers all in
-    ap₂ (λ d n. said_if (record { deny = d; rule = n }) out slot.direction) a.deny a.number
-    ∙ ap (said_if (record { deny = r.deny; rule = r.number }) out) a.direction
-    ∙ picked_if rules r.number (record { deny = r.deny; rule = r.number }) (has_direction r.direction out) (ap verdict_of found)
-    ∙ ap (λ b. picked rules (cond b (Some r.number) None)) (sym decides_is)
-    ∙ ap (λ ns. picked rules (find e ns)) (sym listed_is)
+    said_under net_of rules entries packet since moment (V4 net) a.rule slot.deny slot.number slot.direction (a.alone net is) a.deny a.number a.direction a.lasting le indexed rising covered
+
+pub alone_said6 : (net_of : Flow → Option AnyNet) (rules : List Rule) (entries : List (AnyNet × List ℕ)) (packet : Packet) (since moment : ℕ) (net : Net6) (slot : Slot6)
+    → IsAlone6 net_of rules since slot → is_of6 net slot ≡ true → since ≤ moment → IsIndexOf net_of rules entries → IsRising rules
+    → ((f : Flow) → is_of_net f ≡ true → is_net (V6 net) (net_of f) ≡ true → covers f packet ≡ true)
+    → said_by6 slot packet.outward ≡ picked rules (find (number_decides rules packet moment) (unwrap_or (at entries (V6 net)) []))
+alone_said6 net_of rules entries packet since moment net slot a is le indexed rising covered =
+    said_under net_of rules entries packet since moment (V6 net) a.rule slot.deny slot.number slot.direction (a.alone net is) a.deny a.number a.direction a.lasting le indexed rising covered

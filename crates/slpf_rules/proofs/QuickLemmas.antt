@@ -36,19 +36,19 @@ lt_is n k h = grind (arith, nat_tests, h)
 pub le_is : (n k : ℕ) → n ≤ k → nat_le n k ≡ true
 le_is n k h = grind (arith, nat_tests, h)
 
-same_from : (n k : ℕ) → (n == k) ≡ true → n ≡ k
+pub same_from : (n k : ℕ) → (n == k) ≡ true → n ≡ k
 same_from n k h = grind (arith, nat_tests, h)
 
 -- ---- places
 
-set_cases : {A : Type 0} (xs : List A) (j p : ℕ) (y s : A) → slice_get (slice_set xs j y) p ≡ Some s → (slice_get xs p ≡ Some s) ⊎ (s ≡ y)
+pub set_cases : {A : Type 0} (xs : List A) (j p : ℕ) (y s : A) → slice_get (slice_set xs j y) p ≡ Some s → (slice_get xs p ≡ Some s) ⊎ (s ≡ y)
 set_cases [] j p y s h = cc
 set_cases (x ∷ xs) zero zero y s h = inr (let e : y ≡ s = cc in sym e)
 set_cases (x ∷ xs) zero (suc p) y s h = inl h
 set_cases (x ∷ xs) (suc j) zero y s h = inl h
 set_cases (x ∷ xs) (suc j) (suc p) y s h = set_cases xs j p y s h
 
-at_set : {A : Type 0} (xs : List A) (j : ℕ) (y s : A) → slice_get (slice_set xs j y) j ≡ Some s → s ≡ y
+pub at_set : {A : Type 0} (xs : List A) (j : ℕ) (y s : A) → slice_get (slice_set xs j y) j ≡ Some s → s ≡ y
 at_set [] j y s h = cc
 at_set (x ∷ xs) zero y s h = let e : y ≡ s = cc in sym e
 at_set (x ∷ xs) (suc j) y s h = at_set xs j y s h
@@ -56,7 +56,7 @@ at_set (x ∷ xs) (suc j) y s h = at_set xs j y s h
 no_free : (s : Slot) → s ≡ free_slot → is_free s ≡ false → ⊥
 no_free s same taken = let e : true ≡ false = subst (λ x. is_free x ≡ false) same taken in cc
 
-gone_by : (b : Bool) → (b ≡ true → b ≡ false) → b ≡ false
+pub gone_by : (b : Bool) → (b ≡ true → b ≡ false) → b ≡ false
 gone_by true h = h refl
 gone_by false h = refl
 
@@ -121,7 +121,7 @@ Stands-added xs ys shift slot other h s =
 
 -- ---- rules that stand alone
 
-lasting_later : (a c : Bool) (n s t : ℕ) → s ≤ t → (a && nat_le n s && c) ≡ true → (a && nat_le n t && c) ≡ true
+pub lasting_later : (a c : Bool) (n s t : ℕ) → s ≤ t → (a && nat_le n s && c) ≡ true → (a && nat_le n t && c) ≡ true
 lasting_later a c n s t h e =
     let outer = and_parts (a && nat_le n s) c e in
     let inner = and_parts a (nat_le n s) outer.0 in
@@ -155,7 +155,7 @@ alone_still net_of rules more since slot a same = record {
   lasting = a.lasting;
 }
 
-apart_parts : (s w a aw b bw : ℕ) → ((s == a) && (w == aw)) ≡ false → ((s == b) && (w == bw)) ≡ true → ((b == a) && (bw == aw)) ≡ false
+pub apart_parts : (s w a aw b bw : ℕ) → ((s == a) && (w == aw)) ≡ false → ((s == b) && (w == bw)) ≡ true → ((b == a) && (bw == aw)) ≡ false
 apart_parts s w a aw b bw h k =
     let both = and_parts (s == b) (w == bw) k in
     ap₂ (λ x y. (x == a) && (y == aw)) (sym (same_from s b both.0)) (sym (same_from w bw both.1)) ∙ h
@@ -198,7 +198,7 @@ IsAlone-without_none net_of rule rules since slot is rising held a =
     alone_still net_of rules (without rule.number rules) since slot a
     (λ b h. filter-without_other (files net_of (V4 b)) rule.number rule rules rising held (ap (is_net (V4 b)) is))
 
-equal_self : (n k : ℕ) → ((n == n) && (k == k)) ≡ true
+pub equal_self : (n k : ℕ) → ((n == n) && (k == k)) ≡ true
 equal_self n k = grind (arith, nat_tests)
 
 equal_nets : (a b : Net4) → ((a.bits == b.bits) && (a.width == b.width)) ≡ true → eq_by_cmp net_cmp (V4 b) (V4 a) ≡ true

@@ -9,11 +9,14 @@ use Rattle.slpf_rules.specs.Rules.{rule_at, place, without}
 use Rattle.slpf_rules.specs.Filing.{IsSide}
 use Rattle.slpf_rules.proofs.Indexed.{IsIndexOf-place_none, IsIndexOf-without_none}
 use Rattle.slpf_rules.proofs.QuickLemmas.{IsAlone-place_none, IsAlone-without_none}
+use Rattle.slpf_rules.proofs.QuickLemmas6.{IsAlone6-place_none, IsAlone6-without_none}
 
 pub IsSide-place_none : (net_of : Flow → Option AnyNet) (rule : Rule) (rules : List Rule) (side : Side) → IsSide net_of rules side → net_of rule.flow ≡ None → IsSide net_of (place rule rules) side
 IsSide-place_none net_of rule rules side h is = record {
   indexed = IsIndexOf-place_none net_of rule rules side.index h.indexed is;
   quick = λ slot reads. IsAlone-place_none net_of rule rules side.quick.since slot is (h.quick slot reads);
+  quick6 = λ slot reads. IsAlone6-place_none net_of rule rules side.quick6.since slot is (h.quick6 slot reads);
+  blocks = h.blocks;
 }
 
 pub IsSide-without_none : (net_of : Flow → Option AnyNet) (rule : Rule) (rules : List Rule) (side : Side) → IsSide net_of rules side → net_of rule.flow ≡ None
@@ -21,4 +24,6 @@ pub IsSide-without_none : (net_of : Flow → Option AnyNet) (rule : Rule) (rules
 IsSide-without_none net_of rule rules side h is rising held = record {
   indexed = IsIndexOf-without_none net_of rule rules side.index h.indexed is rising held;
   quick = λ slot reads. IsAlone-without_none net_of rule rules side.quick.since slot is rising held (h.quick slot reads);
+  quick6 = λ slot reads. IsAlone6-without_none net_of rule rules side.quick6.since slot is rising held (h.quick6 slot reads);
+  blocks = h.blocks;
 }

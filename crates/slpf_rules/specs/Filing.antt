@@ -5,9 +5,11 @@ use Rattle.slpf_rules.specs.declared.any_nets.AnyNet.{AnyNet}
 use Rattle.slpf_rules.specs.declared.filing.Filing.{Filing}
 use Rattle.slpf_rules.specs.declared.rules.Rule.{Rule}
 use Rattle.slpf_rules.specs.declared.sides.Side.{Side}
+use Rattle.slpf_rules.specs.Blocks.{AreUsed}
 use Rattle.slpf_rules.specs.Filed.{source_net, destination_net, filed, unfiled}
 use Rattle.slpf_rules.specs.IndexEntries.{at}
 use Rattle.slpf_rules.specs.Quick.{AreAlone}
+use Rattle.slpf_rules.specs.Quick6.{AreAlone6}
 
 -- the entries are what is filed under each net
 abbrev pub IsIndexOf : (Flow → Option AnyNet) → List Rule → List (AnyNet × List ℕ) → Type 0
@@ -17,6 +19,8 @@ IsIndexOf net_of rules entries = (net : AnyNet) → at entries net ≡ filed net
 pub record IsSide (net_of : Flow → Option AnyNet) (rules : List Rule) (side : Side) : Type 0 where
   pub indexed : IsIndexOf net_of rules side.index
   pub quick : AreAlone net_of rules side.quick
+  pub quick6 : AreAlone6 net_of rules side.quick6
+  pub blocks : AreUsed side.blocks side.index
 
 -- each rule is filed where it belongs, and nowhere else
 pub record IsFiling (rules : List Rule) (filing : Filing) : Type 0 where

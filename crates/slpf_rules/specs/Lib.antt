@@ -11,6 +11,9 @@ pub mod Soles
 pub mod Indexes
 pub mod Slots
 pub mod Quick
+pub mod Slots6
+pub mod Quick6
+pub mod Blocks
 pub mod Filing
 pub mod Deciding
 pub mod Picking

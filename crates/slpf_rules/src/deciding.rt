@@ -1,5 +1,5 @@
 // What the rule of the least number says, among those that decide and that an index files round an address.
-ghost use Rattle.std.specs.Prelude.{◌≡◌, ◌+◌, ◌≤◌, Option, Some, [], find, unwrap_or};
+ghost use Rattle.std.specs.Prelude.{◌≡◌, ◌+◌, ◌*◌, ◌<◌, ◌≤◌, Option, Some, [], find, unwrap_or};
 ghost use Rattle.oc2_nets.specs.declared.flows.Flow.{Flow};
 ghost use Rattle.oc2_nets.specs.declared.packets.Address.TheVariants as kind;
 ghost use Rattle.slpf_rules.specs.declared.any_nets.AnyNet.{AnyNet};
@@ -162,8 +162,8 @@ fn least4(side: &Side, address: u32, query: &Query) -> Option<Verdict>
     best
 }
 
-/// One width more of the IPv6 nets round an address.
-fn more6(
+/// One width more of the IPv6 nets round an address, by the index.
+fn indexed6(
     best: Option<Verdict>,
     side: &Side,
     address: u128,
@@ -187,17 +187,69 @@ fn more6(
     }
 }
 
+/// One width more of the IPv6 nets round an address.
+fn more6(
+    best: Option<Verdict>,
+    side: &Side,
+    address: u128,
+    width: u8,
+    query: &Query,
+) -> Option<Verdict>
+    requires { width ≤ 128 }
+    ensures { (net_of : Flow → Option AnyNet) → IsSide net_of query.now.rules.now side.now → IsRising query.now.rules.now
+        → NetsCover net_of (kind.V6 address) query.now.packet.now
+        → best ≡ picked query.now.rules.now
+        (smallest (decides_below net_of width (kind.V6 address) query.now.packet.now query.now.moment) query.now.rules.now)
+        → result ≡ picked query.now.rules.now
+        (smallest (decides_below net_of (width + 1) (kind.V6 address) query.now.packet.now query.now.moment) query.now.rules.now) }
+{
+    if !side.index.has6(width) {
+        return best;
+    }
+    match side.quick6.find(&Net6::new(address, width), query.moment) {
+        Some(slot) => earlier(best, slot.said(query.packet.outward)),
+        None => indexed6(best, side, address, width, query),
+    }
+}
+
+/// Sixteen widths more of the IPv6 nets round an address.
+fn block6(
+    best: Option<Verdict>,
+    side: &Side,
+    address: u128,
+    block: u8,
+    query: &Query,
+) -> Option<Verdict>
+    requires { block < 8 }
+    ensures { (net_of : Flow → Option AnyNet) → IsSide net_of query.now.rules.now side.now → IsRising query.now.rules.now
+        → NetsCover net_of (kind.V6 address) query.now.packet.now
+        → best ≡ picked query.now.rules.now (smallest
+        (decides_below net_of (block * 16) (kind.V6 address) query.now.packet.now query.now.moment) query.now.rules.now)
+        → result ≡ picked query.now.rules.now (smallest
+        (decides_below net_of (block * 16 + 16) (kind.V6 address) query.now.packet.now query.now.moment) query.now.rules.now) }
+{
+    if !side.blocks.has(block) {
+        return best;
+    }
+    let mut most = best;
+    for width in block * 16..block * 16 + 16 {
+        most = more6(most, side, address, width, query);
+    }
+    most
+}
+
 /// What the rule of the least number says, of those that decide under the IPv6 nets that hold an address.
 fn least6(side: &Side, address: u128, query: &Query) -> Option<Verdict>
     ensures { (net_of : Flow → Option AnyNet) → IsSide net_of query.now.rules.now side.now → IsRising query.now.rules.now
+        → NetsCover net_of (kind.V6 address) query.now.packet.now
         → result ≡ picked query.now.rules.now
         (smallest (decides_in net_of (kind.V6 address) query.now.packet.now query.now.moment) query.now.rules.now) }
 {
     let mut best = None;
-    for width in 0..129 {
-        best = more6(best, side, address, width, query);
+    for block in 0..8 {
+        best = block6(best, side, address, block, query);
     }
-    best
+    more6(best, side, address, 128, query)
 }
 
 /// What the rule of the least number says, of those that decide under the nets that hold an address.

@@ -190,6 +190,17 @@ impl Index {
         true
     }
 
+    /// Whether there are IPv6 nets of this width.
+    pub(crate) fn has6(&self, width: u8) -> bool
+        requires { width ≤ 128 }
+        ensures { OnFalse result ((address : ℕ) → at self.now (V6 (net6 address width)) ≡ None) }
+    {
+        if self.widths.v6[width as usize] == 0 {
+            return false;
+        }
+        true
+    }
+
     /// What is known of the IPv4 net of this width round an address: `None` where it has no number, and the number
     /// within where it is alone.
     pub(crate) fn sole4(&self, address: u32, width: u8) -> Option<Option<u32>>

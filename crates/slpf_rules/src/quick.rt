@@ -18,12 +18,12 @@ use oc2_nets::{Flow, Net4};
 use std::alloc::{AllocError, Global};
 
 /// At how many places a net may stand: at its home, and at those behind it.
-const NEAR: usize = 8;
+pub(crate) const NEAR: usize = 8;
 
 /// The least and the greatest number of bits that tell a home.
-const FEWEST_BITS: u8 = 6;
+pub(crate) const FEWEST_BITS: u8 = 6;
 
-const MOST_BITS: u8 = 20;
+pub(crate) const MOST_BITS: u8 = 20;
 
 /// Rules of nets, each alone under its net and without an end. What stands near the home of a net holds of it; where nothing of
 /// it stands there, nothing is known. So a decision reads one or two lines of the processor's cache for most nets.
@@ -39,7 +39,7 @@ pub(crate) struct Quick {
 }
 
 /// The first place at which a net may stand.
-fn home(shift: u8, bits: u32, width: u8) -> usize
+pub(crate) fn home(shift: u8, bits: u32, width: u8) -> usize
     ensures value { result ≡ home shift bits width }
     ensures fits { result < 2 ^ 32 }
 {
@@ -56,7 +56,7 @@ fn is_near(shift: u8, at: usize, slot: &Slot) -> bool
 }
 
 /// Whether a rule is of a net, is in force from a moment on, in milliseconds, and has no end.
-fn is_lasting(rule: &Rule, moment: u64) -> bool
+pub(crate) fn is_lasting(rule: &Rule, moment: u64) -> bool
     ensures { result ≡ is_lasting moment rule.now }
 {
     let is_net = match rule.flow {

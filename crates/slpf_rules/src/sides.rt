@@ -8,8 +8,10 @@ ghost use Rattle.slpf_rules.specs.Order.{IsRising};
 ghost use Rattle.slpf_rules.specs.Filing.{IsSide};
 
 use crate::any_nets::AnyNet;
+use crate::blocks::Blocks;
 use crate::index::Index;
 use crate::quick::Quick;
+use crate::quick6::Quick6;
 use crate::rules::Rule;
 use std::alloc::{AllocError, Global};
 
@@ -18,6 +20,8 @@ use std::alloc::{AllocError, Global};
 pub(crate) struct Side {
     pub(crate) index: Index,
     pub(crate) quick: Quick,
+    pub(crate) quick6: Quick6,
+    pub(crate) blocks: Blocks,
 }
 
 impl Side {
@@ -28,6 +32,8 @@ impl Side {
         Side {
             index: Index::new(alloc),
             quick: Quick::new(alloc),
+            quick6: Quick6::new(alloc),
+            blocks: Blocks::new(),
         }
     }
 
@@ -49,6 +55,8 @@ impl Side {
             Some(net) => match self.index.add(alloc, net, rule.number) {
                 Ok(alone) => {
                     self.quick.file(alloc, &net, rule, alone, moment);
+                    self.quick6.file(alloc, &net, rule, alone, moment);
+                    self.blocks.note(&net);
                     Ok(())
                 }
                 Err(error) => Err(error),
@@ -67,6 +75,7 @@ impl Side {
             Some(net) => {
                 self.index.remove(&net, rule.number);
                 self.quick.unfile(&net);
+                self.quick6.unfile(&net);
             }
             None => (),
         }

@@ -1,27 +1,18 @@
-use Rattle.std.proofs.Common.{[], find, unwrap_or, sym, ap, ◌∙◌}
+use Rattle.std.proofs.Common.{◌≡◌, [], true, Option, find, unwrap_or, sym, ap, subst, ◌∙◌}
 use Rattle.oc2_nets.specs.declared.packets.Address.TheVariants as kind
 use Rattle.oc2_nets.specs.Nets.{net6}
+use Rattle.slpf_rules.specs.declared.any_nets.AnyNet.{AnyNet}
 use Rattle.slpf_rules.specs.declared.any_nets.AnyNet.TheVariants.{V6}
-use Rattle.slpf_rules.specs.IndexEntries.{at}
 use Rattle.slpf_rules.specs.Deciding.{number_decides}
 use Rattle.slpf_rules.specs.Picking.{picked}
+use Rattle.slpf_rules.specs.Slots6.{is_of6}
 use Rattle.slpf_rules.proofs.NetWidths.{holds_below-more6}
 use Rattle.slpf_rules.proofs.PickLemmas.{picked-more, earlier-none}
+use Rattle.slpf_rules.proofs.QuickDecides.{alone_said6, holds_net}
 use Rattle.slpf_rules.proofs.deciding.more6.Goals as goal
 
-pub returns-in-Some : goal.returns-in-Some
-returns-in-Some c = λ net_of h rising is.
-    let q = c.args.query.now in
-    let rules = q.rules.now in
-    let e = number_decides rules q.packet.now q.moment in
-    let entries = c.args.side.now.index in
-    c.earlier.ensures
-    ∙ picked-more net_of rules entries q.packet.now q.moment (kind.V6 c.args.address) c.args.width (V6 (net6 c.args.address c.args.width)) c.args.best _
-    (λ o. holds_below-more6 c.args.width c.args.address o c.requires) h.indexed rising is
-    (c.picked.ensures ∙ ap (picked rules) (c.first_under-first.ensures ∙ ap (λ n. find e (unwrap_or (at entries (V6 n)) [])) c.new.ensures))
-
-pub returns-in-None : goal.returns-in-None
-returns-in-None c = λ net_of h rising is.
+pub returns-then-not-has6 : goal.returns-then-not-has6
+returns-then-not-has6 c = λ net_of h rising covered is.
     let q = c.args.query.now in
     let rules = q.rules.now in
     let e = number_decides rules q.packet.now q.moment in
@@ -29,4 +20,22 @@ returns-in-None c = λ net_of h rising is.
     sym (earlier-none c.args.best)
     ∙ picked-more net_of rules entries q.packet.now q.moment (kind.V6 c.args.address) c.args.width (V6 (net6 c.args.address c.args.width)) c.args.best _
     (λ o. holds_below-more6 c.args.width c.args.address o c.requires) h.indexed rising is
-    (ap (λ o. picked rules (find e (unwrap_or o []))) (sym c.in-None.ensures))
+    (ap (λ o. picked rules (find e (unwrap_or o []))) (sym (c.if-not-has6.ensures c.args.address)))
+
+pub returns-in-Some : goal.returns-in-Some
+returns-in-Some c = λ net_of h rising covered is.
+    let q = c.args.query.now in
+    let rules = q.rules.now in
+    let entries = c.args.side.now.index in
+    let net = net6 c.args.address c.args.width in
+    let a = kind.V6 c.args.address in
+    let more = λ (o : Option AnyNet). holds_below-more6 c.args.width c.args.address o c.requires in
+    c.earlier.ensures
+    ∙ picked-more net_of rules entries q.packet.now q.moment a c.args.width (V6 net) c.args.best _ more h.indexed rising is
+    (c.said.ensures
+    ∙ alone_said6 net_of rules entries q.packet.now c.args.side.now.quick6.since q.moment net c.in-Some.slot (h.quick6 c.in-Some.slot c.in-Some.ensures.read)
+    (subst (λ n. is_of6 n c.in-Some.slot ≡ true) c.new.ensures c.in-Some.ensures.of) c.in-Some.ensures.begun h.indexed rising
+    (λ f of_net same. covered f of_net (holds_net c.args.width a (V6 net) (net_of f) (more (net_of f)) same)))
+
+pub returns-in-None : goal.returns-in-None
+returns-in-None c = λ net_of h rising covered is. c.indexed6.ensures net_of h rising is

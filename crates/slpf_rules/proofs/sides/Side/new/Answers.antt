@@ -6,4 +6,6 @@ pub returns : goal.returns
 returns c = λ net_of. record {
   indexed = λ net. ap (λ entries. at entries net) c.new.ensures;
   quick = λ slot reads. absurd (c.new-2.ensures slot reads);
+  quick6 = λ slot reads. absurd (c.new-3.ensures slot reads);
+  blocks = λ net unused. ap (λ entries. at entries net) c.new.ensures;
 }

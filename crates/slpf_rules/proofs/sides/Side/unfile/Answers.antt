@@ -1,5 +1,6 @@
 use Rattle.std.proofs.Common.{◌∙◌}
 use Rattle.slpf_rules.proofs.Indexed.{IsIndexOf-without}
+use Rattle.slpf_rules.proofs.BlockLemmas.{AreUsed-take}
 use Rattle.slpf_rules.proofs.SideLemmas.{IsSide-without_none}
 use Rattle.slpf_rules.proofs.sides.Side.unfile.Goals as goal
 
@@ -9,6 +10,8 @@ returns-in-Some c = λ net_of rules is h rising held.
     record {
       indexed = IsIndexOf-without net_of c.args.rule.now rules _ _ c.in-Some.net h.indexed same c.remove.ensures rising held;
       quick = c.unfile.ensures net_of rules c.args.rule.now same h.quick rising held;
+      quick6 = c.unfile-in-Some.ensures net_of rules c.args.rule.now same h.quick6 rising held;
+      blocks = AreUsed-take _ _ _ c.in-Some.net _ h.blocks c.remove.ensures;
     }
 
 pub returns-in-None : goal.returns-in-None
