@@ -1,6 +1,6 @@
 -- What calls of an engine offer, add and refuse.
-use Rattle.std.proofs.Common.{◌≡◌, ℕ, zero, suc, ◌==◌, Bool, false, cond, not, List, [], ◌∷◌, ◌++◌, length, Some, Result, Ok, Err, IfErr, OnOk, refl, sym, ap, subst, ◌∙◌, arith}
-use Rattle.std.specs.Prelude.{slice_get}
+use Rattle.std.proofs.Common.{◌≡◌, ℕ, zero, suc, ◌==◌, Bool, false, cond, not, List, [], ◌∷◌, ◌++◌, ◌-◌, length, length-append, Option, Some, Result, Ok, Err, IfErr, OnOk, refl, sym, ap, subst, ◌∙◌, arith}
+use Rattle.std.specs.Prelude.{IfSome, slice_get}
 use Rattle.cacao_site.specs.View.{SiteView}
 use Rattle.run_records.specs.declared.record.Record.{Record}
 use Rattle.flow_core_rules.specs.declared.issues.Issue.{Issue}
@@ -14,12 +14,14 @@ use Rattle.flow_core_rules.specs.Runs.{Next, after, shown_after}
 use Rattle.flow_core_rules.specs.State.{Lists, Shown, State}
 use Rattle.flow_engine_history.specs.Flows.{IsReached}
 use Rattle.flow_engine_history.specs.Views.{View, begins, taken}
-use Rattle.flow_engine_history.specs.HistoryCalls.{Adds, Is, IsOfMove, MayCome}
+use Rattle.flow_engine_history.specs.HistoryCalls.{Adds, Is, IsOfMove, MayCome, Refuses}
 use Rattle.flow_engine_history.specs.HistoryView.{HistoryView, flow_of}
 use Rattle.flow_engine_history.specs.declared.error.EngineError.{EngineError}
+use Rattle.flow_engine_history.specs.declared.error.EngineError.TheVariants as failed
 use Rattle.flow_engine_history.proofs.KindLemmas.{adds_as, refuses_as}
 use Rattle.flow_engine.specs.EngineCalls.{Appends, IsMove, IsStanding, Refused}
 use Rattle.flow_engine.specs.EngineView.{EngineView}
+use Rattle.flow_engine.specs.Inside.{IsLast}
 use Rattle.flow_engine.specs.OpenIssues.{ArePut, OpenIssues, without_ended}
 use Rattle.flow_engine.proofs.EndedPuts.{KeepsOthers, puts_stay}
 
@@ -66,6 +68,43 @@ pub appends_made : (v : EngineView) (h k : HistoryView) (p q : OpenIssues) (next
 appends_made v h k p q next old new is adds ended =
     subst (λ (x : EngineView). Appends x (record { history = k; puts = q }) (Is next) old new) is
     (record { adds = adds; puts = ended ∙ ap (λ (r : Record). without_ended p r) (sym ((adds.offers).comes).is) })
+
+-- ---- the record that was appended last
+
+at_end : (rs : List Record) (r : Record) → IsLast (rs ++ r ∷ []) r
+at_end rs r = subst (λ (n : ℕ). slice_get (rs ++ r ∷ []) n ≡ Some r) (sym (before_end rs)) (behind rs)
+  where
+    before_end : (xs : List Record) → length (xs ++ r ∷ []) - 1 ≡ length xs
+    before_end xs = omega (arith, length-append xs (r ∷ []))
+
+    behind : (xs : List Record) → slice_get (xs ++ r ∷ []) (length xs) ≡ Some r
+    behind [] = refl
+    behind (x ∷ xs) = behind xs
+
+pub last_added : (h k : HistoryView) (next : Record) (old new : SiteView) → Adds h k (Is next) old new → IsLast k.records next
+last_added h k next old new adds =
+    let c : MayCome h (Is next) = (adds.offers).comes in
+    subst (λ (x : HistoryView). IsLast x.records next) (sym adds.view)
+    (subst (λ (r : Record). IsLast (h.records ++ c.next ∷ []) r) c.is (at_end h.records c.next))
+
+-- the issues that were put wait, and the record that was appended last, if there is one, is the last one
+abbrev StandsSo : OpenIssues → Option Record → HistoryView → Type 0
+StandsSo p last h = ArePut h.seen p × IfSome last (IsLast h.records)
+
+-- a refusal changes neither the records nor what is shown
+last_still : (IsNext : Record → Type 0) (h k : HistoryView) (p : OpenIssues) (last : Option Record) (old new : SiteView) → StandsSo p last h → (error : EngineError) → Refuses h k IsNext error old new
+    → StandsSo p last k
+last_still IsNext h k p last old new kept failed.Disk r = subst (λ (x : HistoryView). StandsSo p last x) (sym r.1) kept
+last_still IsNext h k p last old new kept (failed.Limit what) r = subst (λ (x : HistoryView). StandsSo p last x) (sym r.1) kept
+last_still IsNext h k p last old new kept failed.Broken r = subst (λ (x : HistoryView). StandsSo p last x) (sym r.1) kept
+last_still IsNext h k p last old new kept failed.Memory r = subst (λ (x : HistoryView). StandsSo p last x) (sym r.1) kept
+last_still IsNext h k p last old new kept (failed.Damaged place) r = absurd r
+last_still IsNext h k p last old new kept (failed.OtherRun held asked) r = absurd r
+last_still IsNext h k p last old new kept (failed.OtherBook index) r = absurd r
+
+pub last_stays : (IsNext : Record → Type 0) (h k : HistoryView) (p : OpenIssues) (last : Option Record) (error : EngineError) (old new : SiteView) → Refuses h k IsNext error old new
+    → ArePut h.seen p × IfSome last (IsLast h.records) → ArePut k.seen p × IfSome last (IsLast k.records)
+last_stays IsNext h k p last error old new refused kept = last_still IsNext h k p last old new kept error refused
 
 -- ---- the issues that were put
 

@@ -1,5 +1,5 @@
 // The engine.
-ghost use Rattle.std.specs.Prelude.{◌≡◌, ◌≢◌, ◌↔◌, ◌+◌, ◌/◌, ◌<◌, ◌≤◌, [], length, false, Some, Err, slice_get, IsTrue, IsSome, IfOk, IfErr, IfSome};
+ghost use Rattle.std.specs.Prelude.{◌≡◌, ◌≢◌, ◌↔◌, ◌+◌, ◌-◌, ◌/◌, ◌<◌, ◌≤◌, [], length, false, Some, Err, slice_get, IsTrue, IsSome, IfOk, IfErr, IfSome};
 ghost use Rattle.cacao_site.specs.DiskCalls.{IsDurable, IsLeft, OnlyFile};
 ghost use Rattle.base_dues.specs.Pairs.{is_by, IsFirstBy};
 ghost use Rattle.flow_core_rules.specs.Moves.{deadline_of};
@@ -16,6 +16,7 @@ use crate::puts::Puts;
 use cacao_site::{Bytes, Disk};
 use flow_engine_history::{EngineError, Flow, History, Setup};
 use indexmap::IndexMap;
+use run_records::Record;
 use std::alloc::{AllocError, Global};
 use std::marker::Model;
 
@@ -28,6 +29,8 @@ pub struct Engine {
     pub(crate) alloc: Global,
     pub(crate) history: History,
     pub(crate) puts: OpenPuts,
+    /// The record that was appended last, since the opening.
+    pub(crate) last: Option<Record>,
 }
 
 impl Model for Engine {
@@ -87,6 +90,7 @@ impl Engine {
             alloc,
             history,
             puts: OpenPuts::new(alloc),
+            last: None,
         })
     }
 
@@ -141,6 +145,19 @@ impl Engine {
         ensures { IfOk result (λ bytes. IsLineAt self.now.history n bytes) }
     {
         self.history.line(n)
+    }
+
+    /// The line of the last record, with its line feed: from the record as it was appended where that was since the opening, else
+    /// from what is read back.
+    pub fn last_line(&self) -> Result<Bytes, AllocError>
+        requires { self.now.history.records ≢ [] }
+        ensures { IfOk result (λ bytes. IsLineAt self.now.history (length self.now.history.records - 1) bytes) }
+    {
+        let n = self.history.count() - 1;
+        match &self.last {
+            Some(item) => self.history.line_of(n, item),
+            None => self.history.line(n),
+        }
     }
 
     /// The moment and the issue of the next resend: 5,000 milliseconds after its last put, as long as it was put less than nine

@@ -84,18 +84,19 @@ impl Engine {
 
     /// Appends a record, so that it is durable, and goes on to what it leads to; the issue that it ends, if it ends one, is open no
     /// more. Nothing but a failure of the disk leaves a trace where it is refused.
-    fn append<D: Disk>(&mut self, disk: &mut D, next: &Record) -> Result<(), EngineError>
-        requires comes { IsComing self.old.history next.now }
+    fn append<D: Disk>(&mut self, disk: &mut D, next: Record) -> Result<(), EngineError>
+        requires comes { IsComing self.old.history next }
         requires ready { IsReady self.old.history (D.view disk.old) }
         ensures ready { IsReady self.new.history (D.view disk.new) }
-        ensures ok { OnOk result (Appends self.old self.new (Is next.now) (D.view disk.old) (D.view disk.new)) }
-        ensures refused { IfErr result (λ error. Refused self.old self.new (Is next.now) error (D.view disk.old) (D.view disk.new)) }
+        ensures ok { OnOk result (Appends self.old self.new (Is next) (D.view disk.old) (D.view disk.new)) }
+        ensures refused { IfErr result (λ error. Refused self.old self.new (Is next) error (D.view disk.old) (D.view disk.new)) }
     {
         self.stand();
         records_keep_issues();
-        match self.history.append(disk, next) {
+        match self.history.append(disk, &next) {
             Ok(()) => {
-                self.puts.end(next);
+                self.puts.end(&next);
+                self.last = Some(next);
                 Ok(())
             }
             Err(error) => Err(error),
@@ -126,17 +127,16 @@ impl Engine {
         moves_are_in_range();
     }
 
-    /// Appends the record of the enabled move, as `append` does, with what it changes made once; gives the record.
+    /// Appends the record of the enabled move, as `append` does, with what it changes made once.
     fn append_move<D: Disk>(
         &mut self,
         disk: &mut D,
         found: Move,
         moment: u64,
-    ) -> Result<Record, EngineError>
+    ) -> Result<(), EngineError>
         requires enabled { enabled_move self.old.history.seen moment ≡ Some found }
         requires ready { IsReady self.old.history (D.view disk.old) }
         ensures ready { IsReady self.new.history (D.view disk.new) }
-        ensures is { IfOk result (IsMove self.old.history moment) }
         ensures ok { OnOk result (Appends self.old self.new (IsMove self.old.history moment) (D.view disk.old) (D.view disk.new)) }
         ensures refused { IfErr result (λ error. Refused self.old self.new (IsMove self.old.history moment) error
             (D.view disk.old) (D.view disk.new)) }
@@ -145,9 +145,10 @@ impl Engine {
         records_keep_issues();
         self.may_move(found, moment);
         match self.history.append_move(disk, found, moment) {
-            Ok(next) => {
-                self.puts.end(&next);
-                Ok(next)
+            Ok(made) => {
+                self.puts.end(&made);
+                self.last = Some(made);
+                Ok(())
             }
             Err(error) => Err(error),
         }
@@ -233,7 +234,7 @@ impl Engine {
             return Err(EngineError::Broken);
         }
         let next = self.beginning(moment)?;
-        self.append(site, &next)
+        self.append(site, next)
     }
 
     /// Appends the record of the move that is enabled at a moment; false exactly where none is.
@@ -290,7 +291,7 @@ impl Engine {
             return Ok(false);
         };
         let next = self.reply_record(parcel, read, moment);
-        self.append(site, &next)?;
+        self.append(site, next)?;
         Ok(true)
     }
 
@@ -316,7 +317,7 @@ impl Engine {
         }
         self.may_expire(issue, moment);
         let next = Record::Expire { issue, moment };
-        self.append(site, &next)
+        self.append(site, next)
     }
 
     /// Appends the Upgrade of a run that has begun, has not ended and is not upgraded: it goes on with operators.
@@ -336,7 +337,7 @@ impl Engine {
         }
         self.may_upgrade(moment);
         let next = Record::Upgrade { version: 2, moment };
-        self.append(site, &next)
+        self.append(site, next)
     }
 
     /// The answer of an operator may end an issue that waits, of a filter or of an operator, once the run is upgraded. A moment is in
@@ -382,6 +383,6 @@ impl Engine {
             status,
             text: text.copy(self.alloc)?,
         };
-        self.append(site, &next)
+        self.append(site, next)
     }
 }

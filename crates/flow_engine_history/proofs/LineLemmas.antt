@@ -35,6 +35,11 @@ pub record_there : (h : Inside) (n : ℕ) → IsKept h → n < length (records_o
 record_there h n kept lt =
     ap (λ (l : List (List ℕ)). record_of (slice_index_or l n [])) kept.entries ∙ at_back (records_of h.journal.items) n kept.ranges lt
 
+pub in_range_at : (rs : List Record) (n : ℕ) (r : Record) → AllByRecursion InRange rs → slice_get rs n ≡ Some r → InRange r
+in_range_at [] n r ranges e = absurd (none-some r e)
+in_range_at (x ∷ rs) zero r ranges e = subst InRange (inner x r e) ranges.0
+in_range_at (x ∷ rs) (suc n) r ranges e = in_range_at rs n r ranges.1 e
+
 -- ---- a run keeps what it was given
 
 given_on : (s new : State) (rs : List Record) → HasPlacedWrites s → GoesOn s rs new → new.given ≡ s.given

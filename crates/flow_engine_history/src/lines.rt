@@ -112,7 +112,7 @@ fn add_head(out: &mut Vec<u8>, n: u32, moment: u64) -> Result<(), AllocError>
 }
 
 /// The line of a record with this number, by the key of the step at which the task of a Walk stood.
-fn line_of(alloc: Global, n: u32, item: &Record, key: &str) -> Result<Bytes, AllocError>
+fn line_by_key(alloc: Global, n: u32, item: &Record, key: &str) -> Result<Bytes, AllocError>
     requires { InRange item.now }
     ensures { (before : Shown) → IsKeyFor before item.now key.now
         → IfOk result (λ bytes. bytes ≡ record_line before n item.now) }
@@ -163,7 +163,15 @@ impl History {
         ensures { IfOk result (λ bytes. IsLineAt self.now n bytes) }
     {
         let item = self.record_at(n)?;
-        let key = self.key_of(n, &item);
-        line_of(self.alloc, n, &item, key)
+        self.line_of(n, &item)
+    }
+
+    /// The line of a record that is the one with this number, with its line feed. Nothing is read back.
+    pub fn line_of(&self, n: u32, item: &Record) -> Result<Bytes, AllocError>
+        requires { slice_get self.now.records n ≡ Some item.now }
+        ensures { IfOk result (λ bytes. IsLineAt self.now n bytes) }
+    {
+        let key = self.key_of(n, item);
+        line_by_key(self.alloc, n, item, key)
     }
 }

@@ -231,15 +231,19 @@ work_kept place v so sn keeps now work = work_stays v (seen_from place so) (seen
 
 -- ---- the line with the run's number
 
-pub numbered_line : {E : Type 0} (v : EngineView) (count : ℕ) (line bytes : List ℕ) (run : ℕ) (seen : Shown) (result : Result (Vec ℕ Global) E) → v.history.records ≢ [] → count ≡ length v.history.records
-    → IsLineAt v.history (count - 1) line → bytes ≡ line → seen ≡ v.history.seen → run ≡ seen.run → IfOk result (λ text. text.items ≡ head_of run ++ bytes) → IfOk result (λ text. IsNumberedLine v text.items)
-numbered_line v count line bytes run seen (Ok text) some is at same shown of_run made = record {
+pub numbered_line : {E : Type 0} (v : EngineView) (line bytes : List ℕ) (run : ℕ) (seen : Shown) (result : Result (Vec ℕ Global) E) → v.history.records ≢ []
+    → IsLineAt v.history (length v.history.records - 1) line → bytes ≡ line → seen ≡ v.history.seen → run ≡ seen.run → IfOk result (λ text. text.items ≡ head_of run ++ bytes) → IfOk result (λ text. IsNumberedLine v text.items)
+numbered_line v line bytes run seen (Ok text) some at same shown of_run made = record {
   bytes = bytes;
-  line = record { n = count - 1; last = more v.history.records some is; line = subst (λ (l : List ℕ). IsLineAt v.history (count - 1) l) (sym same) at };
+  line = record {
+    n = length v.history.records - 1;
+    last = more v.history.records some;
+    line = subst (λ (l : List ℕ). IsLineAt v.history (length v.history.records - 1) l) (sym same) at;
+  };
   is = made ∙ ap (λ (n : ℕ). head_of n ++ bytes) (of_run ∙ ap (λ (s : Shown). s.run) shown);
 }
   where
-    more : (records : List Record) → records ≢ [] → count ≡ length records → count - 1 + 1 ≡ length records
-    more [] none e = absurd (none refl)
-    more (r ∷ records) none e = omega (arith, e)
-numbered_line v count line bytes run seen (Err error) some is at same shown of_run made = tt
+    more : (records : List Record) → records ≢ [] → length records - 1 + 1 ≡ length records
+    more [] none = absurd (none refl)
+    more (r ∷ records) none = omega arith
+numbered_line v line bytes run seen (Err error) some at same shown of_run made = tt

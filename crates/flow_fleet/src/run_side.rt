@@ -49,7 +49,7 @@ fn last_line(alloc: Global, engine: &Engine) -> Result<Vec<u8>, AllocError>
     requires { engine.now.history.records ≢ [] }
     ensures { IfOk result (λ text. IsNumberedLine engine.now text.items) }
 {
-    let line = engine.line(engine.count() - 1)?;
+    let line = engine.last_line()?;
     numbered(alloc, engine.flow().run(), line.as_slice())
 }
 

@@ -10,7 +10,7 @@ ghost use Rattle.flow_fleet.specs.Searches.{FailedFirst, GoesOnHere, IsAround, I
 
 use flow_engine::Engine;
 use flow_world_parts::Filters;
-use flow_world_parts::due::{has_move, soonest};
+use flow_world_parts::due::{come, has_move, soonest};
 
 /// The place that is so far behind the turn, once around the circle.
 fn around(turn: u8, back: u8, count: u8) -> u8
@@ -58,13 +58,7 @@ pub(crate) fn first_overdue(engines: &[Engine], now: u64) -> Option<u8>
 fn resend_by(engine: &Engine, now: u64) -> Option<(u64, u32)>
     ensures { MatchOption result (HasNoResend now engine.now) (λ found. IsNextPut engine.now.puts (Some (found.0, found.1)) × (found.0 ≤ now)) }
 {
-    let Some((moment, issue)) = engine.next_put() else {
-        return None;
-    };
-    if now < moment {
-        return None;
-    }
-    Some((moment, issue))
+    come(engine.next_put(), now)
 }
 
 /// The first place with a resend whose moment has come, that moment, and its issue.

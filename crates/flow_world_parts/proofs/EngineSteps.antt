@@ -75,12 +75,16 @@ wants P so v p going filters notes given = record {
 -- ---- lines
 
 -- the line that was made is that of the last record
-pub last_line : (v : EngineView) (count : ℕ) (line bytes : List ℕ) {site : SiteView} → IsUp v site → count ≡ length v.history.records → IsLineAt v.history (count - 1) line → bytes ≡ line → IsLastLine v bytes
-last_line v count line bytes {site} up is at same = record { n = count - 1; last = more v.history.records up.begun is; line = subst (λ (l : List ℕ). IsLineAt v.history (count - 1) l) (sym same) at }
+pub last_line : (v : EngineView) (line bytes : List ℕ) {site : SiteView} → IsUp v site → IsLineAt v.history (length v.history.records - 1) line → bytes ≡ line → IsLastLine v bytes
+last_line v line bytes {site} up at same = record {
+  n = length v.history.records - 1;
+  last = more v.history.records up.begun;
+  line = subst (λ (l : List ℕ). IsLineAt v.history (length v.history.records - 1) l) (sym same) at;
+}
   where
-    more : (records : List Record) → records ≢ [] → count ≡ length records → count - 1 + 1 ≡ length records
-    more [] some e = absurd (some refl)
-    more (r ∷ records) some e = omega (arith, e)
+    more : (records : List Record) → records ≢ [] → length records - 1 + 1 ≡ length records
+    more [] some = absurd (some refl)
+    more (r ∷ records) some = omega arith
 
 module _ (v : EngineView) (so sn : SiteView) (bytes : List ℕ) (sound : IsSound so) (up : IsUp v so) (line : IsLastLine v bytes) (only : SaysOnly so sn) where
   pub line_said : Gains so.link.said (sn.disk.beat, bytes) sn.link.said → sn.counts.unsaid ≡ so.counts.unsaid → EngineGoes AnyNotes 0 so v owes sn v rests

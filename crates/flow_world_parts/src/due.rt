@@ -61,8 +61,8 @@ fn least_told(engine: &Engine, answers: &Answers) -> Option<u32>
     least
 }
 
-/// The next resend, where its moment has come.
-fn come(resend: Option<(u64, u32)>, now: u64) -> Option<(u64, u32)>
+/// The next resend, a moment and an issue, where its moment has come.
+pub fn come(resend: Option<(u64, u32)>, now: u64) -> Option<(u64, u32)>
     ensures { MatchOption result (IfSome resend (λ next. now < next.0))
         (λ found. (resend ≡ Some (found.0, found.1)) × (found.0 ≤ now)) }
 {

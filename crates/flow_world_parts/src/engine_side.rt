@@ -22,7 +22,7 @@ pub fn say_last<S: Site>(engine: &Engine, site: &mut S) -> Result<(), WorldError
     ensures filters { OnOk result (KeepsFilters (S.view site.old) (S.view site.new)) }
     ensures now { OnOk result ((S.view site.new).clock.now ≡ (S.view site.old).clock.now) }
 {
-    let Ok(line) = engine.line(engine.count() - 1) else {
+    let Ok(line) = engine.last_line() else {
         return Err(WorldError::Memory);
     };
     match site.say(line.as_slice()) {

@@ -48,6 +48,37 @@ fn user_of(engine: &Engine, filters: &Filters, run: u64) -> Option<u8>
     filters.first_with_run(run)
 }
 
+/// What a session does once all its files are open: none of its filters has an act of a run whose journal is empty, the clock is asked for
+/// the moment of the last record, and the session runs. At most as many records are appended as the session has left.
+fn run_session<S: Site>(
+    session: &mut Session,
+    site: &mut S,
+    answers: &Answers,
+    run: u64,
+) -> Result<Close, WorldError>
+    requires whole { IsWhole session.old.engine (S.view site.old) }
+    requires filters { FiltersReady session.old.filters (S.view site.old) }
+    requires of_run { session.old.engine.history.seen.run ≡ run }
+    requires no_puts { session.old.engine.puts ≡ [] }
+    requires none { session.old.ignored ≡ 0 }
+    requires some { 1 ≤ session.old.left }
+    ensures ended { (notes : Notes) → IsNewTo answers.now session.old.left notes
+        → EndedAt result (S.view site.new) (at (S.view site.old) session.old.engine session.old.filters notes opened) }
+{
+    if let Some(agent) = user_of(&session.engine, &session.filters, run) {
+        return Err(WorldError::RunUsed { agent });
+    }
+    let last = session.engine.last_moment();
+    match reach(site, last) {
+        Ok(Some(now)) => {
+            session.now = now;
+            session.run(site, answers)
+        }
+        Ok(None) => Ok(Close::Waiting { due: last }),
+        Err(error) => Err(error),
+    }
+}
+
 /// What follows once all files are open, beside any filters: none of them has an act of a run whose journal is empty, the clock is asked
 /// for the moment of the last record, and the session runs. At most `most` records are appended.
 pub fn run_opened<S: Site>(
@@ -66,22 +97,13 @@ pub fn run_opened<S: Site>(
     ensures ended { (notes : Notes) → IsNewTo answers.now most notes
         → EndedAt result (S.view site.new) (at (S.view site.old) engine filters notes opened) }
 {
-    if let Some(agent) = user_of(&engine, &filters, run) {
-        return Err(WorldError::RunUsed { agent });
-    }
-    let last = engine.last_moment();
-    match reach(site, last) {
-        Ok(Some(now)) => {
-            let mut session = Session {
-                engine,
-                filters,
-                now,
-                left: most,
-                ignored: 0,
-            };
-            session.run(site, answers)
-        }
-        Ok(None) => Ok(Close::Waiting { due: last }),
-        Err(error) => Err(error),
-    }
+    // The clock was not asked for the present moment yet.
+    let mut session = Session {
+        engine,
+        filters,
+        now: 0,
+        left: most,
+        ignored: 0,
+    };
+    run_session(&mut session, site, answers, run)
 }

@@ -10,7 +10,7 @@ returns-in_default-clause-did g c = wants AnyNotes (g.S.Disk.view c.args.site.no
 pub returns-in-Ok-say-clause-did : goal.returns-in-Ok-say-clause-did
 returns-in-Ok-say-clause-did g c =
     line_said c.args.engine.now (g.S.Disk.view c.args.site.now) (g.S.Disk.view c.say.new.self) c.as_slice.result.now (g.met.S.Disk.sound c.args.site.now) c.requires.work.up
-    (last_line c.args.engine.now c.count.result c.in-Ok.line c.as_slice.result.now c.requires.work.up c.count.ensures c.in-Ok.ensures c.as_slice.ensures) c.in-Ok-say.ensures.only
+    (last_line c.args.engine.now c.in-Ok.line c.as_slice.result.now c.requires.work.up c.in-Ok.ensures c.as_slice.ensures) c.in-Ok-say.ensures.only
     c.in-Ok-say.ensures.said c.in-Ok-say.ensures.unsaid
 
 pub returns-in-Ok-say-clause-work : goal.returns-in-Ok-say-clause-work
@@ -20,7 +20,7 @@ returns-in-Ok-say-clause-work g c =
 pub returns-clause-did : goal.returns-clause-did
 returns-clause-did g c =
     line_unsaid c.args.engine.now (g.S.Disk.view c.args.site.now) (g.S.Disk.view c.say.new.self) c.as_slice.result.now (g.met.S.Disk.sound c.args.site.now) c.requires.work.up
-    (last_line c.args.engine.now c.count.result c.in-Ok.line c.as_slice.result.now c.requires.work.up c.count.ensures c.in-Ok.ensures c.as_slice.ensures) c.in-Err.ensures.only
+    (last_line c.args.engine.now c.in-Ok.line c.as_slice.result.now c.requires.work.up c.in-Ok.ensures c.as_slice.ensures) c.in-Err.ensures.only
     c.in-Err.ensures.said_before c.in-Err.ensures.cause
 
 pub returns-in-Ok-say-clause-filters : goal.returns-in-Ok-say-clause-filters

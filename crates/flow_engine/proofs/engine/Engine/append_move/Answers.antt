@@ -5,7 +5,7 @@ use Rattle.flow_engine_history.specs.HistoryView.{flow_of}
 use Rattle.flow_engine_history.proofs.KindLemmas.{refuses_as}
 use Rattle.flow_engine.specs.EngineCalls.{IsMove, Refused}
 use Rattle.flow_engine.specs.EngineView.{EngineView}
-use Rattle.flow_engine.proofs.CallLemmas.{appends_made, done_as, is_move, puts_kept}
+use Rattle.flow_engine.proofs.CallLemmas.{appends_made, done_as, is_move, last_added, last_stays, puts_kept}
 use Rattle.flow_engine.proofs.engine.Engine.append_move.Goals as goal
 
 pub append_move-requires-clause-moves : goal.append_move-requires-clause-moves
@@ -13,21 +13,27 @@ append_move-requires-clause-moves g c = subst (λ (v : EngineView). MayMove (flo
 
 pub invariant_of-self : goal.invariant_of-self
 invariant_of-self g c =
-    puts_kept c.records_keep_issues.ensures c.args.self.now c.self.inside.history c.append_move.new.self c.self.inside.puts c.end.new.self c.in-Ok.next (g.D.Disk.view c.args.disk.now) (g.D.Disk.view c.append_move.new.disk)
-    c.self.view_is c.stand.ensures c.in-Ok.ensures.ok c.self.invariant c.end.ensures
+    let inside = c.self.inside in
+    let old = g.D.Disk.view c.args.disk.now in
+    let new = g.D.Disk.view c.append_move.new.disk in
+    record {
+      put = puts_kept c.records_keep_issues.ensures c.args.self.now inside.history c.append_move.new.self inside.puts c.end.new.self c.in-Ok.made old new
+          c.self.view_is c.stand.ensures c.in-Ok.ensures.ok c.self.invariant.put c.end.ensures;
+      last = last_added inside.history c.append_move.new.self c.in-Ok.made old new c.in-Ok.ensures.ok;
+    }
 
-pub returns-in-Ok-clause-is : goal.returns-in-Ok-clause-is
-returns-in-Ok-clause-is g c =
-    let now = c.args.self.now in
-    let next = c.in-Ok.next in
-    let made = subst (λ (v : EngineView). IsOfMove v.history c.args.found c.args.moment next) c.self.view_is c.in-Ok.ensures.made in
-    is_move now.history c.args.moment c.args.found c.requires.enabled next made
+pub invariant_of-self-in-Err : goal.invariant_of-self-in-Err
+invariant_of-self-in-Err g c =
+    let inside = c.self.inside in
+    let kept = last_stays (IsOfMove c.self.inside.history c.args.found c.args.moment) inside.history c.append_move.new.self inside.puts inside.last c.in-Err.error (g.D.Disk.view c.args.disk.now) (g.D.Disk.view c.append_move.new.disk)
+    c.in-Err.ensures.refused (c.self.invariant.put, c.self.invariant.last) in
+    record { put = kept.0; last = kept.1 }
 
 pub returns-in-Ok-clause-ok : goal.returns-in-Ok-clause-ok
 returns-in-Ok-clause-ok g c =
     let inside = c.self.inside in
     let now = c.args.self.now in
-    let next = c.in-Ok.next in
+    let next = c.in-Ok.made in
     let old = g.D.Disk.view c.args.disk.now in
     let new = g.D.Disk.view c.append_move.new.disk in
     let after : EngineView = record { history = c.append_move.new.self; puts = c.end.new.self } in

@@ -20,8 +20,11 @@ pub invariant_of-self-2 : goal.invariant_of-self-2
 invariant_of-self-2 g c =
     let w = c.requires.waiting in
     let history = ap (λ (v : EngineView). v.history) c.self.view_is in
-    puts_more c.self.inside.history.seen c.self.inside.puts c.put.new.self c.args.issue w.0 c.self.invariant c.in_ok-put.ensures.counted
-    (subst (λ (h : HistoryView). IsWaiting h.seen c.args.issue w.0) (sym history) w.1) c.in_ok-put.ensures.others
+    record {
+      put = puts_more c.self.inside.history.seen c.self.inside.puts c.put.new.self c.args.issue w.0 c.self.invariant.put c.in_ok-put.ensures.counted
+          (subst (λ (h : HistoryView). IsWaiting h.seen c.args.issue w.0) (sym history) w.1) c.in_ok-put.ensures.others;
+      last = c.self.invariant.last;
+    }
 
 pub returns-clause-ready : goal.returns-clause-ready
 returns-clause-ready g c =

@@ -1,5 +1,5 @@
 use Rattle.std.proofs.Common.{sym, subst}
-use Rattle.std.specs.Prelude.{Ok, Err}
+use Rattle.std.specs.Prelude.{Err}
 use Rattle.flow_world_parts.specs.Acting.{OneAnswers}
 use Rattle.flow_world_parts.specs.Leads.{FilterDid}
 use Rattle.flow_world_parts.proofs.HandSteps.{did, did_refuse}

@@ -1,4 +1,4 @@
-use Rattle.std.proofs.Common.{◌∙◌, ◌-◌, refl, sym, arith}
+use Rattle.std.proofs.Common.{◌∙◌, refl, sym, arith}
 use Rattle.flow_world_steps.specs.Worlds.{looked, rests}
 use Rattle.flow_world_parts.specs.Leads.{MayAnswer}
 use Rattle.flow_world_parts.proofs.SessionSteps.{engine_goes, engine_refuses, may_answer}
