@@ -7,3 +7,4 @@ pub mod LawLemmas
 pub mod LineLemmas
 pub mod PlacingLemmas
 pub mod QuoteLemmas
+pub mod TallyLemmas

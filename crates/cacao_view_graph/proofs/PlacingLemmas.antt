@@ -40,7 +40,7 @@ none_broken trees error told shaped is refuses = go (subst (λ (e : CheckError).
     go breaks = let one : IsWellShaped breaks.tree = subst (λ (o : Option Data). IfSome o IsWellShaped) breaks.tree_is (shaped told.book) in breaks.refused.2.is_broken (one breaks.refused.0)
 
 -- what stands at a place of a list with one more item
-get_pushed : {Y : Type 0} (ys : List Y) (new : Y) (k : ℕ) (y : Y) → slice_get (ys ++ new ∷ []) k ≡ Some y → (slice_get ys k ≡ Some y) ⊎ ((k ≡ length ys) × (new ≡ y))
+pub get_pushed : {Y : Type 0} (ys : List Y) (new : Y) (k : ℕ) (y : Y) → slice_get (ys ++ new ∷ []) k ≡ Some y → (slice_get ys k ≡ Some y) ⊎ ((k ≡ length ys) × (new ≡ y))
 get_pushed [] new zero y e = inr (refl, cc)
 get_pushed [] new (suc k) y e = absurd (cc)
 get_pushed (z ∷ zs) new zero y e = inl e

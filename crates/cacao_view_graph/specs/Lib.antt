@@ -8,4 +8,5 @@ pub mod Pictures
 pub mod Finding
 pub mod Places
 pub mod Placing
+pub mod Tallies
 pub mod Laws

@@ -16,6 +16,7 @@ mod placing;
 mod quoting;
 pub mod spot;
 mod steps;
+mod tally;
 
 pub use laws::picture_law;
 pub use marks::Marks;

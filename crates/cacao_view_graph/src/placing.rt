@@ -7,11 +7,13 @@ ghost use Rattle.cacao_json.specs.Tree.{data_of, pair_data};
 ghost use Rattle.cacao_view_graph.specs.Homes.{IsHome};
 ghost use Rattle.cacao_view_graph.specs.Pictures.{AreDrawn, AreMarked, AreStepsMarked, IsDrawn, IsMarked};
 ghost use Rattle.cacao_view_graph.specs.Placing.{AreDrawnOf, drawn_book, drawn_of};
+ghost use Rattle.cacao_view_graph.specs.Tallies.{AllTallied, IfTallied};
 
 use crate::homes::home_key;
 use crate::marks::{Marks, mark_at};
 use crate::placed::Placed;
 use crate::placed_book::PlacedBook;
+use crate::tally::{Tally, tallies_of};
 use cacao_book::Book;
 use cacao_book_shape::members_at;
 use cacao_check_regions::{Regions, Survey, regions_of};
@@ -25,12 +27,14 @@ fn placed_step<'a>(
     book: &'a Book,
     regions: &Regions,
     marks: &Option<Marks>,
+    tallies: &[Tally],
     number: u32,
     place: usize,
 ) -> Result<Placed<'a>, AllocError>
     requires there { place < length book.now.steps }
     requires same { slice_get book.now.steps place ≡ Some (step_of (pair_data pair.now)) }
     requires regions { AreRegionsOf book.now regions.now }
+    requires tallied { IfTallied marks.now number place tallies.now }
     ensures member { IfOk result (λ step. (drawn_of step).member ≡ pair_data pair.now) }
     ensures home { IfOk result (λ step. IsHome book.now place (drawn_of step).home) }
     ensures marked { IfOk result (λ step. IsMarked marks.now number place (drawn_of step)) }
@@ -38,7 +42,7 @@ fn placed_step<'a>(
     let steps = book.steps.as_slice();
     let step = &steps[place];
     let home = home_key(book, regions, place as u32);
-    let mark = mark_at(alloc, marks, number, place as u32)?;
+    let mark = mark_at(alloc, marks, tallies, number, place)?;
     Ok(Placed {
         pair,
         step,
@@ -54,16 +58,27 @@ fn placed_steps<'a>(
     book: &'a Book,
     regions: &Regions,
     marks: &Option<Marks>,
+    tallies: &[Tally],
     number: u32,
 ) -> Result<Vec<Placed<'a>>, AllocError>
     requires same { book.now.steps ≡ map step_of (map pair_data pairs.now) }
     requires regions { AreRegionsOf book.now regions.now }
+    requires tallied { AllTallied marks.now number (length pairs.now) tallies.now }
     ensures drawn { IfOk result (λ steps. AreDrawnOf book.now (map pair_data pairs.now) (map drawn_of steps.items)) }
     ensures marked { IfOk result (λ steps. AreStepsMarked marks.now number (map drawn_of steps.items)) }
 {
     let mut steps = Vec::new(alloc);
     for place in 0..pairs.len() {
-        let step = placed_step(alloc, &pairs[place], book, regions, marks, number, place)?;
+        let step = placed_step(
+            alloc,
+            &pairs[place],
+            book,
+            regions,
+            marks,
+            tallies,
+            number,
+            place,
+        )?;
         steps.push(step)?;
     }
     Ok(steps)
@@ -86,7 +101,16 @@ fn placed_book<'a>(
 {
     let regions = regions_of(alloc, book, &survey.chart)?;
     let pairs = members_at(tree, "workflow");
-    let steps = placed_steps(alloc, pairs, book, &regions, marks, number)?;
+    let tallies = tallies_of(alloc, marks, number, pairs.len())?;
+    let steps = placed_steps(
+        alloc,
+        pairs,
+        book,
+        &regions,
+        marks,
+        tallies.as_slice(),
+        number,
+    )?;
     Ok(PlacedBook { tree, book, steps })
 }
 

@@ -1,14 +1,13 @@
 -- What the words behind `preflight` are read as, word by word.
-use Rattle.std.proofs.Common.{◌≡◌, ◌≢◌, ◌∙◌, refl, sym, ap, subst, arith, ℕ, suc, ◌+◌, ◌<◌, ◌≤◌, nat_lt, Bool, true, false, not, cond, ◌&&◌, ◌||◌, ◌==◌, List, [], ◌∷◌, ◌++◌, length, ◌-◌, String, Global, string_bytes, map, take, drop, drop-cons, get_or, append_assoc, append-nil, Option, Some, None, codes}
+use Rattle.std.proofs.Common.{◌≡◌, ◌∙◌, refl, sym, ap, subst, arith, ℕ, suc, ◌+◌, ◌<◌, ◌≤◌, nat_lt, Bool, true, false, not, cond, ◌&&◌, ◌||◌, ◌==◌, List, [], ◌∷◌, ◌++◌, length, ◌-◌, String, Global, string_bytes, map, take, drop, drop-cons, get_or, append_assoc, append-nil, Option, Some, None, codes}
 use Rattle.std.specs.Prelude.{option_and_then, if◌then◌else◌}
-use Rattle.std.specs.List.{after_first, before_first, list_all, list_any, position, position_or_len}
+use Rattle.std.specs.List.{after_first, before_first, list_all, position, position_or_len}
 use Rattle.std.specs.Str.{bytes_eq}
-use Rattle.std.proofs.lemmas.Bool.{true≢false}
 use Rattle.std.proofs.lemmas.List.{drop_all, map-append, take_all, take_more, take_rest}
 use Rattle.std.proofs.lemmas.List.Sums.{passes_at_first, prefix_len-le-length}
 use Rattle.std.proofs.lemmas.Slice.Eq.{bytes_eq-Decides}
 use Rattle.std.proofs.lemmas.List.Folds.{list_all-append}
-use Rattle.cacao_cli_words.specs.Words.{State, Place, Reading, after_option, after_word, at, before_dashes, begins_hyphen, behind_dashes, behind_option, dashes, fits, has_equals, has_value, if_fits, is_known, next, option_in, read_from, with_name}
+use Rattle.cacao_cli_words.specs.Words.{State, Reading, after_option, after_word, at, before_dashes, begins_hyphen, behind_dashes, behind_option, dashes, fits, has_equals, if_fits, is_known, next, option_in, read_from, with_name}
 use Rattle.cacao_view_words.specs.Texts.{Text}
 use Rattle.cacao_view_words.specs.Options.{asks_at, asks_from, option_asks, reading}
 use Rattle.cacao_view_words.specs.Requests.{Request, explain_asks, explain_books_asks, lacks, preflight_of, preflights}
@@ -214,23 +213,6 @@ value-end names (word ∷ words) lt = absurd (omega (arith, lt))
 
 -- ---- all words are read
 
-pub at-end : (bind : Option Text) (names : List Text) → preflight_of (if_fits (reading bind names)) ≡ asks_from (reading bind names) before_dashes []
-unfolding read_from
-at-end bind names = refl
-
-pub whole-unfit : (bind : Option Text) (names : List Text) → (list_all fits names && list_all (λ p. fits p.1) (reading bind []).options) ≡ false → lacks want.Playbook ≡ preflight_of (if_fits (reading bind names))
-whole-unfit None names e = rw e refl
-whole-unfit (Some value) names e = rw e refl
-
-none-fit : (value : Text) (b : Bool) → lacks want.Playbook ≡ preflight_of (if b && true then Some (reading (Some value) []) else None)
-none-fit value true = refl
-none-fit value false = refl
-
-pub whole-none : (bind : Option Text) (names : List Text) → length names ≡ 0 → lacks want.Playbook ≡ preflight_of (if_fits (reading bind names))
-whole-none None [] e = refl
-whole-none (Some value) [] e = none-fit value (fits value)
-whole-none bind (name ∷ names) e = absurd (omega (arith, e))
-
 pub whole-some : (bind : Option Text) (names : List Text) → (list_all fits names && list_all (λ p. fits p.1) (reading bind []).options) ≡ true → 0 < length names → preflights bind names ≡ preflight_of (if_fits (reading bind names))
 whole-some bind [] e lt = absurd (omega (arith, lt))
 whole-some None (name ∷ names) e lt = rw e refl
@@ -238,20 +220,6 @@ whole-some (Some value) (name ∷ names) e lt = rw e refl
 
 pub all-parts : (before between behind : List Text) → (list_all fits before && (list_all fits between && list_all fits behind)) ≡ list_all fits (before ++ (between ++ behind))
 all-parts before between behind = ap (λ b. list_all fits before && b) (sym (list_all-append fits between behind)) ∙ sym (list_all-append fits before (between ++ behind))
-
--- ---- an option by its name
-
-pub known-bind : (names : List Text) (name : Text) (value : Option Text) (words : List Text) → bytes_eq name (codes "bind") ≡ true
-    → asks_at (after_option (reading None names) (codes "bind") value) words ≡ option_asks names (name, value) words
-known-bind names name value words e = ap (λ (n : Text). option_asks names (n, value) words) (sym ((bytes_eq-Decides name (codes "bind")).0 e))
-
-other-from : (names : List Text) (name : Text) (value : Option Text) (words : List Text) (b : Bool) → b ≡ bytes_eq (codes "bind") name → bytes_eq name (codes "bind") ≡ false
-    → lacks want.Playbook ≡ (if b || false then asks_at (after_option (reading None names) name value) words else lacks want.Playbook)
-other-from names name value words false k e = refl
-other-from names name value words true k e = absurd (true≢false (sym ((bytes_eq-Decides name (codes "bind")).1 (sym ((bytes_eq-Decides (codes "bind") name).0 (sym k)))) ∙ e))
-
-pub known-other : (names : List Text) (name : Text) (value : Option Text) (words : List Text) → bytes_eq name (codes "bind") ≡ false → lacks want.Playbook ≡ option_asks names (name, value) words
-known-other names name value words e = other-from names name value words (bytes_eq (codes "bind") name) refl e
 
 -- ---- lists
 

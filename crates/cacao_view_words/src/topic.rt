@@ -1,7 +1,7 @@
 // The words of which help tells.
-ghost use Rattle.std.specs.Prelude.{◌≡◌};
+ghost use Rattle.std.specs.Prelude.{◌≡◌, drop, take};
 ghost use Rattle.cacao_view_words.specs.Texts.{AreLines, lines_in};
-ghost use Rattle.cacao_view_words.specs.Topics.{all_words, topic_in, topic_lines, version_lines};
+ghost use Rattle.cacao_view_words.specs.Topics.{all_words, first_named, topic_in, topic_lines, topics, version_lines};
 
 use crate::topic_texts::{
     ALL_WORDS, AUDIT, CANON, CHECK, DECIDE, EXPLAIN, FILTERS, FLEET, GRAPH, HELP, LOG, PAIR,
@@ -64,6 +64,26 @@ impl Topic {
 pub(crate) fn topic_in(word: &str) -> Option<Topic>
     ensures { result ≡ topic_in word.now }
 {
+    match first_topic(word) {
+        Some(topic) => Some(topic),
+        None => later_topic(word),
+    }
+}
+
+/// The word, if it is none of the first six.
+fn later_topic(word: &str) -> Option<Topic>
+    ensures { result ≡ first_named word.now (drop 6 topics) }
+{
+    match more_topic(word) {
+        Some(topic) => Some(topic),
+        None => view_topic(word),
+    }
+}
+
+/// The word, if it is one of the first six of `cacao`.
+fn first_topic(word: &str) -> Option<Topic>
+    ensures { result ≡ first_named word.now (take 6 topics) }
+{
     if word == "canon" {
         return Some(Topic::Canon);
     }
@@ -82,6 +102,13 @@ pub(crate) fn topic_in(word: &str) -> Option<Topic>
     if word == "fleet" {
         return Some(Topic::Fleet);
     }
+    None
+}
+
+/// The word, if it is one of the other six of `cacao`.
+fn more_topic(word: &str) -> Option<Topic>
+    ensures { result ≡ first_named word.now (take 6 (drop 6 topics)) }
+{
     if word == "show" {
         return Some(Topic::Show);
     }
@@ -100,6 +127,13 @@ pub(crate) fn topic_in(word: &str) -> Option<Topic>
     if word == "rehearse" {
         return Some(Topic::Rehearse);
     }
+    None
+}
+
+/// The word, if it is one of the program that only looks.
+fn view_topic(word: &str) -> Option<Topic>
+    ensures { result ≡ first_named word.now (drop 12 topics) }
+{
     if word == "help" {
         return Some(Topic::Help);
     }

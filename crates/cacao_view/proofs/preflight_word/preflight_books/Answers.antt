@@ -1,5 +1,5 @@
 -- Too many playbooks, or their files were read.
-use Rattle.std.proofs.Common.{◌∙◌, sym, ap, subst, refl, arith, ℕ, ◌<◌, List, ◌++◌, length, map, Bool, Bor}
+use Rattle.std.proofs.Common.{◌∙◌, sym, ap, subst, refl, arith, ℕ, ◌<◌, List, length, map, Bool, Bor}
 use Rattle.std.specs.Prelude.{is_some, if◌then◌else◌}
 use Rattle.std.proofs.lemmas.List.{length-map}
 use Rattle.cacao_cli_ends.specs.Told.{end_of}

@@ -18,6 +18,9 @@ loop-place-init c = record {
 pub placed_step-requires-clause-same : goal.placed_step-requires-clause-same
 placed_step-requires-clause-same c = made_twice pair_data step_of c.args.pairs.now c.args.book.now.steps c.loop-place.place c.index-pairs-place.result c.requires.same c.loop-place-test.true c.index-pairs-place.is
 
+pub placed_step-requires-clause-tallied : goal.placed_step-requires-clause-tallied
+placed_step-requires-clause-tallied c = c.requires.tallied c.loop-place.place c.loop-place-test.true
+
 pub loop-place-preserved : goal.loop-place-preserved
 loop-place-preserved c = record {
   count = grown c.loop-place.steps.items c.push.new.self.items c.in_ok-step.step c.loop-place.place c.loop-place.invariant.count c.in_ok-push.ensures.items;

@@ -1,5 +1,5 @@
 -- The lines so far were said.
-use Rattle.std.proofs.Common.{◌≡◌, ◌∙◌, sym, ap, subst, ℕ, ◌+◌, List, take, take_all, drop, get_or}
+use Rattle.std.proofs.Common.{◌≡◌, ◌∙◌, sym, subst, ℕ, ◌+◌, List, take, take_all, drop, get_or}
 use Rattle.std.proofs.lemmas.List.{take_more}
 use Rattle.cacao_site.specs.View.{SiteView}
 use Rattle.cacao_cli_words.specs.Words.{Text}

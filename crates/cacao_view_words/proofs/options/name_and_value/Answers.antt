@@ -1,5 +1,5 @@
 -- A text without `=` is a name alone.
-use Rattle.std.proofs.Common.{refl, arith}
+use Rattle.std.proofs.Common.{arith}
 use Rattle.cacao_view_words.proofs.OptionLemmas.{named-alone}
 use Rattle.cacao_view_words.proofs.options.name_and_value.Goals as goal
 

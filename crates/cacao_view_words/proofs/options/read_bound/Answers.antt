@@ -1,13 +1,9 @@
 -- All words are names, or those before the first that begins with a hyphen.
-use Rattle.std.proofs.Common.{rules, ◌≡◌, ◌∙◌, ◌++◌, ◌∷◌, ◌<◌, ◌&&◌, [], List, Option, Some, None, Bool, true, false, not, refl, sym, ap, subst, arith, ℕ, length, map, take, drop, append-nil, append_assoc, String, Global, string_bytes, length-append}
-use Rattle.std.proofs.lemmas.List.{length-map}
+use Rattle.std.proofs.Common.{◌∙◌, ◌++◌, ◌∷◌, List, Option, Some, sym, ap, map, take, append-nil, String, Global, string_bytes}
 use Rattle.std.specs.Prelude.{option_and_then}
-use Rattle.std.specs.List.{list_all, position_or_len}
-use Rattle.std.specs.Str.{bytes_eq}
-use Rattle.cacao_cli_words.specs.Words.{Reading, before_dashes, begins_hyphen, behind_dashes, dashes, fits, if_fits, option_in}
-use Rattle.cacao_view_words.specs.Asked.{book_names, maybe_text}
-use Rattle.cacao_view_words.specs.Options.{asks_from, option_asks, reading}
-use Rattle.cacao_view_words.specs.Requests.{Request, preflight_of, preflights}
+use Rattle.cacao_cli_words.specs.Words.{Reading, before_dashes, begins_hyphen, if_fits}
+use Rattle.cacao_view_words.specs.Options.{asks_from, reading}
+use Rattle.cacao_view_words.specs.Requests.{Request, preflight_of}
 use Rattle.cacao_view_words.specs.Texts.{Text}
 use Rattle.cacao_view_words.proofs.OptionLemmas.{first-hyphen, walk-none, walk-some}
 use Rattle.cacao_view_words.proofs.options.read_bound.Goals as goal

@@ -1,13 +1,11 @@
 -- Names alone stand behind `--`.
-use Rattle.std.proofs.Common.{rules, ◌≡◌, ◌∙◌, ◌++◌, ◌∷◌, ◌<◌, ◌&&◌, [], List, Option, Some, None, Bool, true, false, not, refl, sym, ap, subst, arith, ℕ, length, map, take, drop, append-nil, append_assoc, String, Global, string_bytes, length-append}
-use Rattle.std.proofs.lemmas.List.{length-map}
+use Rattle.std.proofs.Common.{◌≡◌, ◌∙◌, ◌++◌, ◌<◌, List, Option, sym, ap, subst, arith, length, map, append_assoc, String, Global, string_bytes}
 use Rattle.std.specs.Prelude.{option_and_then}
-use Rattle.std.specs.List.{list_all, position_or_len}
-use Rattle.std.specs.Str.{bytes_eq}
-use Rattle.cacao_cli_words.specs.Words.{Reading, before_dashes, begins_hyphen, behind_dashes, dashes, fits, if_fits, option_in}
-use Rattle.cacao_view_words.specs.Asked.{book_names, maybe_text}
-use Rattle.cacao_view_words.specs.Options.{asks_from, option_asks, reading}
-use Rattle.cacao_view_words.specs.Requests.{Request, preflight_of, preflights}
+use Rattle.std.specs.List.{position_or_len}
+use Rattle.cacao_cli_words.specs.Words.{Reading, begins_hyphen, if_fits}
+use Rattle.cacao_view_words.specs.Asked.{maybe_text}
+use Rattle.cacao_view_words.specs.Options.{reading}
+use Rattle.cacao_view_words.specs.Requests.{Request, preflight_of}
 use Rattle.cacao_view_words.specs.Texts.{Text}
 use Rattle.cacao_view_words.proofs.OptionLemmas.{names-behind, options-behind}
 use Rattle.cacao_view_words.proofs.options.read_names.Goals as goal
