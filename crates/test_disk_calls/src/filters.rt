@@ -85,6 +85,28 @@ fn command(alloc: Global, row: &Row) -> Result<Command, AllocError> {
     })
 }
 
+/// Hands filter 1 these commands; then how many acts and rules it has, and whether it has acts of these runs.
+fn play_open<S: Site>(
+    alloc: Global,
+    filter: &mut Actuator,
+    site: &mut S,
+    commands: &[Command],
+    run: u64,
+    other: u64,
+) -> Result<Vec<u8>, ActError>
+    requires agent { filter.old.agent ≡ 1 }
+    requires ready { IsReady filter.old (S.view site.old) }
+{
+    let mut answer = hand_all(alloc, filter, site, commands)?;
+    let held = held(alloc, filter)?;
+    answer.extend_from_slice(held.as_slice())?;
+    let has_run = filter.has_run(run);
+    let has_other = filter.has_run(other);
+    let runs = format!(in alloc; "; run {run} {has_run}, run {other} {has_other}")?;
+    answer.extend_from_slice(runs.as_bytes())?;
+    Ok(answer)
+}
+
 /// Opens the file of filter 1 and hands it these commands; then how many acts and rules it has, and whether it has acts of these runs.
 fn play<S: Site>(
     alloc: Global,
@@ -94,14 +116,7 @@ fn play<S: Site>(
     other: u64,
 ) -> Result<Vec<u8>, ActError> {
     let mut filter = Actuator::open_on(alloc, site, 1)?;
-    let mut answer = hand_all(alloc, &mut filter, site, commands)?;
-    let held = held(alloc, &filter)?;
-    answer.extend_from_slice(held.as_slice())?;
-    let has_run = filter.has_run(run);
-    let has_other = filter.has_run(other);
-    let runs = format!(in alloc; "; run {run} {has_run}, run {other} {has_other}")?;
-    answer.extend_from_slice(runs.as_bytes())?;
-    Ok(answer)
+    play_open(alloc, &mut filter, site, commands, run, other)
 }
 
 /// How many acts and rules a filter has.
@@ -112,14 +127,44 @@ fn held(alloc: Global, filter: &Actuator) -> Result<Vec<u8>, AllocError> {
     text(alloc, held.as_str())
 }
 
-/// What a file of filter 1 with these bytes, at most 10,000, opens with.
-fn open_bytes(alloc: Global, bytes: &[u8]) -> Result<Vec<u8>, ActError> {
-    let mut site = small_site(alloc)?;
+/// What the file of filter 1 opens with.
+fn open_held(alloc: Global, site: &mut MemorySite) -> Result<Vec<u8>, ActError> {
+    let filter = Actuator::open_on(alloc, site, 1)?;
+    match held(alloc, &filter) {
+        Ok(held) => Ok(held),
+        Err(_) => Err(ActError::Memory),
+    }
+}
+
+/// What the file of filter 1 opens with once these bytes, at most 10,000, are written to it.
+fn write_and_open(alloc: Global, site: &mut MemorySite, bytes: &[u8]) -> Result<Vec<u8>, ActError> {
     if bytes.len() > 10_000 || site.write(1, 0, bytes).is_err() {
         return Err(ActError::Disk);
     }
-    let filter = Actuator::open_on(alloc, &mut site, 1)?;
-    Ok(held(alloc, &filter)?)
+    open_held(alloc, site)
+}
+
+/// What a file of filter 1 with these bytes, at most 10,000, opens with.
+fn open_bytes(alloc: Global, bytes: &[u8]) -> Result<Vec<u8>, ActError> {
+    let mut site = small_site(alloc)?;
+    write_and_open(alloc, &mut site, bytes)
+}
+
+/// Hands filter 1 a command. `Broken` is answered, too, where a refusal does not break it.
+fn hand_open<S: Site>(
+    alloc: Global,
+    filter: &mut Actuator,
+    site: &mut S,
+    command: &Command,
+) -> Result<bool, ActError>
+    requires agent { filter.old.agent ≡ 1 }
+    requires ready { IsReady filter.old (S.view site.old) }
+{
+    let acted = hand(alloc, filter, site, command);
+    if acted.is_err() && hand(alloc, filter, site, command) != Err(ActError::Broken) {
+        return Err(ActError::Broken);
+    }
+    acted
 }
 
 /// Opens the file of filter 1 and hands it a command. `Broken` is answered, too, where a refusal does not break it.
@@ -129,11 +174,7 @@ fn open_and_hand<S: Site>(
     command: &Command,
 ) -> Result<bool, ActError> {
     let mut filter = Actuator::open_on(alloc, site, 1)?;
-    let acted = hand(alloc, &mut filter, site, command);
-    if acted.is_err() && hand(alloc, &mut filter, site, command) != Err(ActError::Broken) {
-        return Err(ActError::Broken);
-    }
-    acted
+    hand_open(alloc, &mut filter, site, command)
 }
 
 /// How many acts the file of filter 1 opens with.
@@ -187,22 +228,33 @@ impl Crashed {
     }
 }
 
+/// What came of a command before a crash, with what comes of it behind the crash.
+fn behind_crash(
+    alloc: Global,
+    site: &mut MemorySite,
+    command: &Command,
+    first: &'static str,
+    reply: Vec<u8>,
+) -> Result<Crashed, ActError> {
+    let acts = count(alloc, site)?;
+    let once = open_and_hand(alloc, site, command) == Ok(acts == 0);
+    Ok(Crashed {
+        first,
+        reply,
+        acts,
+        once,
+        reply_again: taken(alloc, site)?,
+        last: taken(alloc, site)?,
+    })
+}
+
 /// Lets this device call fail, and then the site crash, and hands the command again to the filter that is opened after it.
 fn crash(alloc: Global, call: u32, choice: u64, command: &Command) -> Result<Crashed, ActError> {
     let mut site = MemorySite::new(alloc, failing_plan(alloc, call)?)?;
     let first = word(open_and_hand(alloc, &mut site, command));
     let reply = taken(alloc, &mut site)?;
     let mut site = site.crash_with(choice, small_plan(alloc, Vec::new(alloc)))?;
-    let acts = count(alloc, &mut site)?;
-    let once = open_and_hand(alloc, &mut site, command) == Ok(acts == 0);
-    Ok(Crashed {
-        first,
-        reply,
-        acts,
-        once,
-        reply_again: taken(alloc, &mut site)?,
-        last: taken(alloc, &mut site)?,
-    })
+    behind_crash(alloc, &mut site, command, first, reply)
 }
 
 /// The answer to a command on a site where this call fails: what came of it, alike behind each crash of a list of choices, and whether the count
