@@ -264,7 +264,7 @@ class Ways(Repository):
         first = self.started("a")
         self.until((self.notes / "begun").exists)
         second = self.started("b")
-        self.assertIn("another call does so already; waiting to use what it builds", second.stderr.readline())
+        self.assertIn("another call is at work there already; waiting to use what it builds", second.stderr.readline())
         self.note("go")
         self.assertEqual([it.communicate(timeout=120)[0] for it in (first, second)], ["unproved a\n", "unproved b\n"])
         self.assertEqual(self.count("builds"), 1)
@@ -471,6 +471,12 @@ class Builder(Repository):
         self.assertEqual(ended.returncode, 1)
         self.assertEqual((self.room / "words").read_text().splitlines(), ["-O1", f"--sysroot={real}", "a file.bc"])
         self.assertTrue((work / "compiling").exists() and (work / "program.o").exists())
+
+    def test_the_work_of_a_group_is_counted(self):
+        import unproved_build
+
+        self.assertGreater(unproved_build.work_done(os.getpgrp()), 0)
+        self.assertEqual(unproved_build.work_done(0x7FFFFFFF), 0)
 
 
 def main():

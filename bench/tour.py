@@ -50,11 +50,9 @@ def agrees(wanted, came):
 
 def played(command, folder, status):
     """The lines that a command gives in a folder, behind one that ended with this status; and its own status."""
-    names = {"cacao": ROOT / "cacao", "cacao-view": ROOT / "cacao-view"}
-    words = "".join(f'{name}() {{ exec_or_run "{path}" "$@"; }}\n' for name, path in names.items())
-    # (a command in the background is the program itself, so that it can be killed)
-    script = 'exec_or_run() { if [ "$BASHPID" != "$$" ]; then exec "$@"; else "$@"; fi; }\n' + words + f"(exit {status})\n" + command
-    done = subprocess.run(["bash", "-c", script], cwd=folder, stdout=subprocess.PIPE, stderr=subprocess.DEVNULL, check=False)
+    script = f"(exit {status})\n{command}"
+    paths = {**os.environ, "PATH": f"{ROOT}:{os.environ['PATH']}"}
+    done = subprocess.run(["bash", "-c", script], cwd=folder, env=paths, stdout=subprocess.PIPE, stderr=subprocess.DEVNULL, check=False)
     return done.stdout.decode().split("\n")[:-1], done.returncode
 
 

@@ -36,4 +36,7 @@ def playbook(count):
 
 
 if __name__ == "__main__":
-    json.dump(playbook(int(sys.argv[1])), sys.stdout, indent=1)
+    words = sys.argv[1:]
+    if len(words) != 1 or not words[0].isdecimal() or not 1 <= int(words[0]) <= 2_000:
+        sys.exit("make_many.py N, with N from 1 to 2000")
+    json.dump(playbook(int(words[0])), sys.stdout, indent=1)

@@ -144,7 +144,7 @@ take_turn() {
     touch "$folder/$1.lock" || return 1
     exec 9>"$folder/$1.lock"
     flock -n 9 && return
-    say "another call does so already; waiting to $2"
+    say "another call is at work there already; waiting to $2"
     setpriv --pdeathsig TERM flock 9 </dev/null &
     child=$!
     end
