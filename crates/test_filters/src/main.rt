@@ -21,18 +21,40 @@ use answers::Answers;
 use std::io;
 use std::process::ExitCode;
 use std::rt::Files;
-use test_rows::{Tally, read_file};
+use test_rows::{Row, Tally, read_file};
+
+/// Plays the rows of the file of this name, from these answers on.
+fn play_rows(
+    rt: &(impl Print + AllocGlobal),
+    name: &str,
+    rows: &[Row],
+    answers: &mut Answers,
+    tally: &mut Tally,
+) -> io::Result<()> {
+    for row in rows {
+        let came = answers.answer(rt.alloc(), name, row)?;
+        tally.compare(rt, row, came.as_bytes())?;
+    }
+    Ok(())
+}
+
+/// Plays the rows of the file of this name from the first on.
+fn play_all(
+    rt: &(impl Print + AllocGlobal),
+    name: &str,
+    rows: &[Row],
+    tally: &mut Tally,
+) -> io::Result<()> {
+    let mut answers = Answers::new(rt.alloc());
+    play_rows(rt, name, rows, &mut answers, tally)
+}
 
 /// Plays a file of rows; true where all agreed.
 fn play(rt: &(impl Files + Print + AllocGlobal), name: &str) -> io::Result<bool> {
     let file = format!(in rt.alloc(); "{name}.rows")?;
     let rows = read_file(rt, file.as_str())?;
     let mut tally = Tally::new(rt.alloc(), name)?;
-    let mut answers = Answers::new(rt.alloc());
-    for row in rows.as_slice() {
-        let came = answers.answer(rt.alloc(), name, row)?;
-        tally.compare(rt, row, came.as_bytes())?;
-    }
+    play_all(rt, name, rows.as_slice(), &mut tally)?;
     tally.end(rt)
 }
 

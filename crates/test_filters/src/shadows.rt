@@ -31,17 +31,22 @@ fn lines(alloc: Global, shadows: &[Shadow]) -> Result<String, AllocError> {
     Ok(text)
 }
 
-/// What is listed of the rules of these commands.
-fn shadows(alloc: Global, commands: &str) -> Result<String, AllocError> {
-    let mut filter = Filter::new(alloc);
+/// What is listed of the rules of a filter and of these commands.
+fn shadows_with(alloc: Global, filter: &mut Filter, commands: &str) -> Result<String, AllocError> {
     for command in commands.split('\n') {
-        if !is_added(alloc, &mut filter, command)? {
+        if !is_added(alloc, filter, command)? {
             return unknown(alloc);
         }
     }
     let list = filter.shadowed(alloc)?;
     let lines = lines(alloc, list.as_slice())?;
     text_or_none(alloc, lines.as_str())
+}
+
+/// What is listed of the rules of these commands.
+fn shadows(alloc: Global, commands: &str) -> Result<String, AllocError> {
+    let mut filter = Filter::new(alloc);
+    shadows_with(alloc, &mut filter, commands)
 }
 
 fn within(alloc: Global, inner: &str, outer: &str) -> Result<String, AllocError> {

@@ -19,18 +19,28 @@ fn read(alloc: Global, text: &str) -> Result<Option<Cond>, AllocError> {
     }
 }
 
+/// A condition as it is printed.
+fn printed_of(alloc: Global, cond: &Cond) -> Result<String, AllocError> {
+    text_of(alloc, print_cond(alloc, cond)?.as_slice())
+}
+
 /// The text of a condition as it is printed.
 fn printed(alloc: Global, text: &str) -> Result<String, AllocError> {
     match read(alloc, text)? {
-        Some(cond) => text_of(alloc, print_cond(alloc, &cond)?.as_slice()),
+        Some(cond) => printed_of(alloc, &cond),
         None => word(alloc, "none"),
     }
 }
 
 /// The names of a condition.
+fn names_of(alloc: Global, cond: &Cond) -> Result<String, AllocError> {
+    listed(alloc, &names(alloc, cond)?)
+}
+
+/// The names of the condition of a text.
 fn named(alloc: Global, text: &str) -> Result<String, AllocError> {
     match read(alloc, text)? {
-        Some(cond) => listed(alloc, &names(alloc, &cond)?),
+        Some(cond) => names_of(alloc, &cond),
         None => word(alloc, "none"),
     }
 }
