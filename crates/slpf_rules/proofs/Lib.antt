@@ -15,6 +15,7 @@ pub mod SoleLemmas
 pub mod Deciders
 pub mod PickLemmas
 pub mod BlockLemmas
+pub mod BriefLemmas
 pub mod QuickDecides
 pub mod ReplyRanges
 pub mod ReplyLengths

@@ -6,6 +6,7 @@ use Rattle.slpf_rules.specs.declared.filing.Filing.{Filing}
 use Rattle.slpf_rules.specs.declared.rules.Rule.{Rule}
 use Rattle.slpf_rules.specs.declared.sides.Side.{Side}
 use Rattle.slpf_rules.specs.Blocks.{AreUsed}
+use Rattle.slpf_rules.specs.Briefs.{AreListed}
 use Rattle.slpf_rules.specs.Filed.{source_net, destination_net, filed, unfiled}
 use Rattle.slpf_rules.specs.IndexEntries.{at}
 use Rattle.slpf_rules.specs.Quick.{AreAlone}
@@ -21,6 +22,7 @@ pub record IsSide (net_of : Flow → Option AnyNet) (rules : List Rule) (side : 
   pub quick : AreAlone net_of rules side.quick
   pub quick6 : AreAlone6 net_of rules side.quick6
   pub blocks : AreUsed side.blocks side.index
+  pub lists : AreListed net_of rules side.lists
 
 -- each rule is filed where it belongs, and nowhere else
 pub record IsFiling (rules : List Rule) (filing : Filing) : Type 0 where

@@ -14,6 +14,7 @@ pub mod Quick
 pub mod Slots6
 pub mod Quick6
 pub mod Blocks
+pub mod Briefs
 pub mod Filing
 pub mod Deciding
 pub mod Picking

@@ -6,11 +6,13 @@ ghost use Rattle.slpf_rules.specs.declared.any_nets.AnyNet.{AnyNet};
 ghost use Rattle.slpf_rules.specs.IndexEntries.{at};
 ghost use Rattle.slpf_rules.specs.Order.{IsRising};
 ghost use Rattle.slpf_rules.specs.Soles.{IsSole};
+ghost use Rattle.slpf_rules.specs.Briefs.{brief_decides, said_of};
 ghost use Rattle.slpf_rules.specs.Filing.{IsSide};
 ghost use Rattle.slpf_rules.specs.Deciding.{smallest, number_decides, decides_in, decides_below};
 ghost use Rattle.slpf_rules.specs.Picking.{earlier, picked, said_or_allowed, NetsCover};
 
 use crate::any_nets::AnyNet;
+use crate::briefs::Brief;
 use crate::index::Index;
 use crate::numbers::Numbers;
 use crate::rules::Rules;
@@ -77,6 +79,25 @@ pub(crate) fn first_of(numbers: &Numbers, query: &Query) -> Option<u32>
         .find(|number| number_decides(query, *number))
 }
 
+/// The first of a list that decides.
+fn first_brief(list: &Vec<Brief>, query: &Query) -> Option<Brief>
+    ensures { result ≡ find (brief_decides query.now.packet.now query.now.moment) list.now.items }
+{
+    list.iter()
+        .copied()
+        .find(|brief| brief.decides(query.packet, query.moment))
+}
+
+/// What a rule says, if one was found.
+fn said_of(found: Option<Brief>) -> Option<Verdict>
+    ensures { result ≡ said_of found }
+{
+    match found {
+        Some(brief) => Some(brief.verdict()),
+        None => None,
+    }
+}
+
 /// The first number under a net whose rule decides, where the only number there is given, if that is known.
 fn first_under(index: &Index, net: &AnyNet, sole: Option<u32>, query: &Query) -> Option<u32>
     requires { IsSole (Some sole) (at index.now net.now) }
@@ -123,6 +144,27 @@ fn indexed4(
     }
 }
 
+/// One width more of the IPv4 nets round an address, by the list of the net, if there is one.
+fn listed4(
+    best: Option<Verdict>,
+    side: &Side,
+    address: u32,
+    width: u8,
+    query: &Query,
+) -> Option<Verdict>
+    requires { width ≤ 32 }
+    ensures { (net_of : Flow → Option AnyNet) → IsSide net_of query.now.rules.now side.now → IsRising query.now.rules.now
+        → best ≡ picked query.now.rules.now
+        (smallest (decides_below net_of width (kind.V4 address) query.now.packet.now query.now.moment) query.now.rules.now)
+        → result ≡ picked query.now.rules.now
+        (smallest (decides_below net_of (width + 1) (kind.V4 address) query.now.packet.now query.now.moment) query.now.rules.now) }
+{
+    match side.lists.get(&Net4::new(address, width)) {
+        Some(list) => earlier(best, said_of(first_brief(list, query))),
+        None => indexed4(best, side, address, width, query),
+    }
+}
+
 /// One width more of the IPv4 nets round an address.
 fn more4(
     best: Option<Verdict>,
@@ -144,7 +186,7 @@ fn more4(
     }
     match side.quick.find(&Net4::new(address, width), query.moment) {
         Some(slot) => earlier(best, slot.said(query.packet.outward)),
-        None => indexed4(best, side, address, width, query),
+        None => listed4(best, side, address, width, query),
     }
 }
 

@@ -10,6 +10,7 @@ ghost use Rattle.slpf_rules.specs.Filing.{IsSide};
 use crate::any_nets::AnyNet;
 use crate::blocks::Blocks;
 use crate::index::Index;
+use crate::lists::Lists;
 use crate::quick::Quick;
 use crate::quick6::Quick6;
 use crate::rules::Rule;
@@ -22,6 +23,7 @@ pub(crate) struct Side {
     pub(crate) quick: Quick,
     pub(crate) quick6: Quick6,
     pub(crate) blocks: Blocks,
+    pub(crate) lists: Lists,
 }
 
 impl Side {
@@ -34,6 +36,7 @@ impl Side {
             quick: Quick::new(alloc),
             quick6: Quick6::new(alloc),
             blocks: Blocks::new(),
+            lists: Lists::new(alloc),
         }
     }
 
@@ -57,6 +60,7 @@ impl Side {
                     self.quick.file(alloc, &net, rule, alone, moment);
                     self.quick6.file(alloc, &net, rule, alone, moment);
                     self.blocks.note(&net);
+                    self.lists.file(alloc, &net, rule, alone, moment);
                     Ok(())
                 }
                 Err(error) => Err(error),
@@ -76,6 +80,7 @@ impl Side {
                 self.index.remove(&net, rule.number);
                 self.quick.unfile(&net);
                 self.quick6.unfile(&net);
+                self.lists.unfile(&net);
             }
             None => (),
         }

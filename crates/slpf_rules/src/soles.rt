@@ -20,7 +20,7 @@ pub(crate) struct Soles {
 }
 
 /// The number that stands for a net: its address, and behind it 8 bits for the width.
-fn key4(net: Net4) -> u64
+pub(crate) fn key4(net: Net4) -> u64
     ensures { result ≡ key4 net }
 {
     u64::from(net.bits) * 256 + u64::from(net.width)

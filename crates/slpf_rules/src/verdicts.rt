@@ -45,7 +45,7 @@ pub(crate) fn has_direction(direction: Direction, outward: bool) -> bool
     }
 }
 
-fn is_before_stop(moment: u64, stop: Option<u64>) -> bool
+pub(crate) fn is_before_stop(moment: u64, stop: Option<u64>) -> bool
     ensures { result ≡ is_before_stop moment stop }
 {
     match stop {

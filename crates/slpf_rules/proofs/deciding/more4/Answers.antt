@@ -38,4 +38,4 @@ returns-in-Some c = λ net_of h rising covered is.
     (λ f of_net same. covered f of_net (holds_net c.args.width a (V4 net) (net_of f) (more (net_of f)) same)))
 
 pub returns-in-None : goal.returns-in-None
-returns-in-None c = λ net_of h rising covered is. c.indexed4.ensures net_of h rising is
+returns-in-None c = λ net_of h rising covered is. c.listed4.ensures net_of h rising is

@@ -16,6 +16,7 @@ returns-in-Ok-clause-ok c = λ net_of rules is h rising free.
       quick = c.file.ensures net_of rules same h.quick rising none;
       quick6 = c.file-in-Ok.ensures net_of rules same h.quick6 rising none;
       blocks = AreUsed-put _ _ _ _ net _ h.blocks c.in-Ok.ensures.ok c.note.ensures.noted c.note.ensures.kept;
+      lists = c.file-in-Ok-2.ensures net_of rules same h.lists rising none;
     }
 
 pub returns-in-Err-clause-err : goal.returns-in-Err-clause-err
@@ -24,6 +25,7 @@ returns-in-Err-clause-err c = λ net_of rules h. record {
   quick = h.quick;
   quick6 = h.quick6;
   blocks = λ net unused. c.in-Err.ensures.err net ∙ h.blocks net unused;
+  lists = h.lists;
 }
 
 pub returns-in-None-clause-ok : goal.returns-in-None-clause-ok

@@ -12,6 +12,7 @@ returns-in-Some c = λ net_of rules is h rising held.
       quick = c.unfile.ensures net_of rules c.args.rule.now same h.quick rising held;
       quick6 = c.unfile-in-Some.ensures net_of rules c.args.rule.now same h.quick6 rising held;
       blocks = AreUsed-take _ _ _ c.in-Some.net _ h.blocks c.remove.ensures;
+      lists = c.unfile-in-Some-2.ensures net_of rules c.args.rule.now same h.lists rising held;
     }
 
 pub returns-in-None : goal.returns-in-None
