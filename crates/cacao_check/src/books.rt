@@ -6,9 +6,15 @@ use std::alloc::{AllocError, Global};
 use std::marker::Model;
 
 /// Playbooks in order: the one that is run first, then those that it may call.
-#[derive(Drop)]
 pub struct Books {
     items: Vec<Book>,
+}
+
+// (by hand, and not by derive: so a drop is one call in the proofs of all who own one)
+impl Drop for Books {
+    fn drop(self) {
+        let Self { items: _ } = self;
+    }
 }
 
 impl Model for Books {

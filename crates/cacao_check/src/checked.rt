@@ -10,12 +10,23 @@ use std::marker::Model;
 
 /// Playbooks that break no rule of their mode, with what was read of their steps and with the tables of their regions. Books
 /// have numbers from 0, and a step is named by its key.
-#[derive(Drop)]
 pub struct Checked {
     books: Books,
     mode: Mode,
     surveys: Vec<Survey>,
     regions: Vec<Regions>,
+}
+
+// (by hand, and not by derive: so a drop is one call in the proofs of all who own one)
+impl Drop for Checked {
+    fn drop(self) {
+        let Self {
+            books: _,
+            mode: _,
+            surveys: _,
+            regions: _,
+        } = self;
+    }
 }
 
 impl Model for Checked {

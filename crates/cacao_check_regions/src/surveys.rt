@@ -12,13 +12,25 @@ use std::alloc::{AllocError, Global};
 
 /// What is found out of a book: what is read of its steps, its links, and the places of the steps that stand in a region, from
 /// which a path can end, and that enclose themselves.
-#[derive(Drop)]
 pub struct Survey {
     pub parts: Vec<Parts>,
     pub chart: Chart,
     pub placed: Bits,
     pub ending: Bits,
     pub enclosing: Bits,
+}
+
+// (by hand, and not by derive: so a drop is one call in the proofs of all who own one)
+impl Drop for Survey {
+    fn drop(self) {
+        let Self {
+            parts: _,
+            chart: _,
+            placed: _,
+            ending: _,
+            enclosing: _,
+        } = self;
+    }
 }
 
 fn survey_book(alloc: Global, books: &[Book], book: &Book) -> Result<Survey, AllocError>

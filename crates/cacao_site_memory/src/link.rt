@@ -11,7 +11,6 @@ use std::alloc::{AllocError, Global};
 use std::collections::VecDeque;
 
 /// The parcels that were put and what became of them. A parcel is named by its place among the puts.
-#[derive(Drop)]
 pub struct Link {
     /// Each parcel put, with its beat.
     pub puts: Vec<(u64, Parcel)>,
@@ -23,6 +22,19 @@ pub struct Link {
     pub taken: Vec<(u64, usize)>,
     /// The moments of the takes that found none.
     pub empty_takes: Vec<u64>,
+}
+
+// (by hand, and not by derive: so a drop is one call in the proofs of all who own one)
+impl Drop for Link {
+    fn drop(self) {
+        let Self {
+            puts: _,
+            pending: _,
+            held: _,
+            taken: _,
+            empty_takes: _,
+        } = self;
+    }
 }
 
 impl Link {

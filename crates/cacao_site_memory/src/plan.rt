@@ -117,7 +117,6 @@ impl WeatherList {
 /// The plan of a `MemorySite`.
 ///
 /// Its device calls are the calls of `Disk` and of `say`, numbered together from 0.
-#[derive(Drop)]
 pub struct SitePlan {
     /// The bytes that there is room for: of writes, of lines, and of parcels put with 64 more for each copy.
     pub room: u64,
@@ -132,6 +131,20 @@ pub struct SitePlan {
     pub failing: CallList,
     /// What becomes of the parcels put.
     pub weather: WeatherList,
+}
+
+// (by hand, and not by derive: so a drop is one call in the proofs of all who own one)
+impl Drop for SitePlan {
+    fn drop(self) {
+        let Self {
+            room: _,
+            calls: _,
+            start: _,
+            stop_clock: _,
+            failing: _,
+            weather: _,
+        } = self;
+    }
 }
 
 impl SitePlan {

@@ -24,13 +24,24 @@ use std::marker::Model;
 /// put since it was opened.
 ///
 /// Moments are in milliseconds. After `Disk` it answers `Broken` until the file is opened again.
-#[derive(Drop)]
 pub struct Engine {
     pub(crate) alloc: Global,
     pub(crate) history: History,
     pub(crate) puts: OpenPuts,
     /// The record that was appended last, since the opening.
     pub(crate) last: Option<Record>,
+}
+
+// (by hand, and not by derive: so a drop is one call in the proofs of all who own one)
+impl Drop for Engine {
+    fn drop(self) {
+        let Self {
+            alloc: _,
+            history: _,
+            puts: _,
+            last: _,
+        } = self;
+    }
 }
 
 impl Model for Engine {

@@ -38,9 +38,15 @@ impl From<AllocError> for AnswerError {
 }
 
 /// The answers for one run, in the order of their lines.
-#[derive(Drop)]
 pub struct Answers {
     list: Vec<OperatorAnswer>,
+}
+
+// (by hand, and not by derive: so a drop is one call in the proofs of all who own one)
+impl Drop for Answers {
+    fn drop(self) {
+        let Self { list: _ } = self;
+    }
 }
 
 impl Model for Answers {

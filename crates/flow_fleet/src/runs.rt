@@ -9,9 +9,15 @@ use std::alloc::{AllocError, Global};
 use std::marker::Model;
 
 /// The runs of a fleet, by place: 1 to 16 numbers, each once, with what each run is given.
-#[derive(Drop)]
 pub struct FleetRuns {
     list: Vec<(u64, Setup)>,
+}
+
+// (by hand, and not by derive: so a drop is one call in the proofs of all who own one)
+impl Drop for FleetRuns {
+    fn drop(self) {
+        let Self { list: _ } = self;
+    }
 }
 
 impl Model for FleetRuns {
@@ -87,6 +93,7 @@ impl FleetRuns {
         ensures list { result.items ≡ self }
         ensures runs { AreFleetRuns self }
     {
-        self.list
+        let Self { list } = self;
+        list
     }
 }

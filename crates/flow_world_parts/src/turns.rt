@@ -34,7 +34,6 @@ pub const MOST_IGNORED: u32 = 1_000_000;
 const MOST_BYTES: usize = 1_048_576;
 
 /// The engine and the filters of a session whose files are open, and what is left of its bounds.
-#[derive(Drop)]
 pub struct Session {
     pub engine: Engine,
     pub filters: Filters,
@@ -44,6 +43,19 @@ pub struct Session {
     pub left: u64,
     /// How many parcels changed neither journal.
     pub ignored: u32,
+}
+
+// (by hand, and not by derive: so a drop is one call in the proofs of all who own one)
+impl Drop for Session {
+    fn drop(self) {
+        let Self {
+            engine: _,
+            filters: _,
+            now: _,
+            left: _,
+            ignored: _,
+        } = self;
+    }
 }
 
 /// Whether a parcel is for an agent 1 to 16, and has at most 1,048,576 bytes.

@@ -12,7 +12,6 @@ use std::marker::Model;
 /// The entries of a file of a disk, in order, as this value read and appended them.
 ///
 /// After `Disk` the value answers `Broken` until the file is opened again.
-#[derive(Drop)]
 pub struct Journal {
     pub(crate) file: u8,
     // The place of the closed gate, in bytes.
@@ -23,6 +22,21 @@ pub struct Journal {
     // Room for what is written behind the gate.
     pub(crate) block: Vec<u8>,
     pub(crate) spare: usize,
+}
+
+// (by hand, and not by derive: so a drop is one call in the proofs of all who own one)
+impl Drop for Journal {
+    fn drop(self) {
+        let Self {
+            file: _,
+            gate: _,
+            broken: _,
+            prepared: _,
+            items: _,
+            block: _,
+            spare: _,
+        } = self;
+    }
 }
 
 impl Model for Journal {

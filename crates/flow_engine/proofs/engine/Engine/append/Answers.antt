@@ -18,8 +18,8 @@ invariant_of-self g c =
       last = last_added inside.history c.append.new.self c.args.next old new c.in-Ok.ensures.ok;
     }
 
-pub invariant_of-self-in-Err : goal.invariant_of-self-in-Err
-invariant_of-self-in-Err g c =
+pub invariant_of-self-in-Err-1 : goal.invariant_of-self-in-Err-1
+invariant_of-self-in-Err-1 g c =
     let inside = c.self.inside in
     let kept = last_stays (Is c.args.next) inside.history c.append.new.self inside.puts inside.last c.in-Err.error (g.D.Disk.view c.args.disk.now) (g.D.Disk.view c.append.new.disk)
     c.in-Err.ensures.refused (c.self.invariant.put, c.self.invariant.last) in

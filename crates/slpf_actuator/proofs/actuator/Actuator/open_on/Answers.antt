@@ -1,4 +1,4 @@
-use Rattle.std.proofs.Common.{◌≡◌, ◌∙◌, Err, sym, ap}
+use Rattle.std.proofs.Common.{rules, ◌≡◌, ◌∙◌, Err, sym, ap}
 use Rattle.run_journal.specs.declared.error.JournalError.{JournalError}
 use Rattle.slpf_actuator.specs.declared.error.ActError.TheVariants.{Broken, Full}
 use Rattle.slpf_actuator.proofs.ErrorLemmas.{from_broken, from_full}
@@ -10,3 +10,11 @@ returns-in-Err-clause-no_other g c = λ needed.
       λ e. let same : c.from.result ≡ Broken = cc in says.0 (ap (λ (j : JournalError). Err j) (from_broken c.in-Err.error (sym c.from.ensures ∙ same))),
       λ e. let same : c.from.result ≡ Full needed = cc in says.1 (ap (λ (j : JournalError). Err j) (from_full c.in-Err.error needed (sym c.from.ensures ∙ same))),
     )
+
+pub returns-in-Ok-replay-clause-ready : goal.returns-in-Ok-replay-clause-ready
+returns-in-Ok-replay-clause-ready g c = record {
+  low = search rules;
+  high = search rules;
+  history = search rules;
+  images = λ w told image left. search rules;
+}
