@@ -5,7 +5,7 @@ import time
 
 from .books import loop, text_of
 from .fleets import Kept, journal_of
-from .hands import DISK_FAILED, Started
+from .hands import AGENTS_LOCK, DISK_FAILED, LOCK, Started
 from .journal import ENGINE, Damaged, agent_file, line_front
 from .play import Folder, bytes_of, progress
 from .processes import Watched, left_in
@@ -110,7 +110,7 @@ def held(program, table):
         row.expect((played.status, played.lines) == DISK_FAILED, f"{how}: {played}")
         row.expect(before == journals(folder), f"{how}: a file was written")
 
-    for name in ("engine.lock", "engine-01.lock", "agent-01.lock", "agent-16.lock"):
+    for name in (LOCK, "engine-01.lock", AGENTS_LOCK):
         for steps in ([], ["--steps", "9"]):
             with Folder(files) as folder:
                 if steps:
@@ -165,7 +165,7 @@ def readers(program, table, rounds, turns):
                     row.expect(played.status == 0 and is_right(played.lines), f"{played}")
                 row.expect(set(os.listdir(folder)) <= names, "a reader made a file")
                 if row.tries >= rounds:
-                    fleet.process.kill()
+                    fleet.kill()
                 ended = fleet.end()
                 row.expect(ended.status in (0, KILLED), f"{ended}")
 

@@ -7,8 +7,8 @@ import tempfile
 import threading
 import time
 
-from .hands import Started
-from .journal import Damaged, Kept, agent_file, kinds, record
+from .hands import AGENTS_LOCK, Started
+from .journal import Damaged, Kept, kinds, record
 from .lines import MOST_IDLE, MOST_LINE, MOST_TEXT, agree, command
 from .play import SECONDS, Played, progress, put
 from .processes import HERE, Watched, children, end, ends, goes_on, is_refused, listening
@@ -245,7 +245,7 @@ class Clients:
                 client.sendall(b"n\n")
                 row.expect(client.recv(2) == b"n\n", "no answer")
                 row.expect(is_refused("127.0.0.1", filters.port) and not listening(filters.process.pid), "it listens behind the first connection")
-                row.expect(sorted(os.listdir(folder)) == sorted(agent_file(agent).replace("journal", "lock") for agent in range(1, 17)), f"{os.listdir(folder)}")
+                row.expect(os.listdir(folder) == [AGENTS_LOCK], f"{os.listdir(folder)}")
             ended = filters.end()
             row.expect(ended.status == 0 and not os.listdir(folder), f"{ended}, {os.listdir(folder)}")
 

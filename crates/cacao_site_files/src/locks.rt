@@ -1,32 +1,19 @@
 // The locks of the files that a program writes.
-ghost use Rattle.std.specs.Prelude.{◌≤◌, OnOk};
-ghost use Rattle.cacao_site_files.specs.Holding.{IsHeld, KeepsHeld};
+ghost use Rattle.std.specs.Prelude.{◌≡◌, ◌≤◌, ◌<◌, OnOk};
+ghost use Rattle.cacao_site_files.specs.Holding.{IsHeld, KeepsHeld, lock_number};
 
-use crate::open_files::FILES;
 use std::fs::{File, OpenFile, OpenOptions};
 use std::os::unix::fs::{MetadataExt, OpenOptionsExt};
 use std::rt::Files;
 use std::{array, fs, io};
 
-/// The names of the lock files in the current folder, each beside the file of its number.
-static NAMES: [&str; FILES] = [
+/// How many locks the files of a disk have.
+const LOCKS: usize = 17;
+
+/// The names of the lock files in the current folder, by the numbers of the locks.
+static NAMES: [&str; LOCKS] = [
     "engine.lock",
-    "agent-01.lock",
-    "agent-02.lock",
-    "agent-03.lock",
-    "agent-04.lock",
-    "agent-05.lock",
-    "agent-06.lock",
-    "agent-07.lock",
-    "agent-08.lock",
-    "agent-09.lock",
-    "agent-10.lock",
-    "agent-11.lock",
-    "agent-12.lock",
-    "agent-13.lock",
-    "agent-14.lock",
-    "agent-15.lock",
-    "agent-16.lock",
+    "agents.lock",
     "engine-01.lock",
     "engine-02.lock",
     "engine-03.lock",
@@ -51,17 +38,30 @@ const MODE: u32 = 0o660;
 pub(crate) fn has_file<R: Files>(rt: &R, file: u8) -> bool
     requires { file ≤ 31 }
 {
-    rt.metadata(NAMES[file as usize]).is_ok()
+    rt.metadata(NAMES[lock_of(file)]).is_ok()
 }
 
-/// The locks that this program holds, by the numbers of the files that they stand for.
+/// The number of the file's lock.
+fn lock_of(file: u8) -> usize
+    requires { file ≤ 31 }
+    ensures is { result ≡ lock_number file }
+    ensures fits { result < 17 }
+{
+    match file {
+        0 => 0,
+        1..=16 => 1,
+        _ => file as usize - 15,
+    }
+}
+
+/// The locks that this program holds, by their numbers.
 ///
-/// A lock is held from the first call for its file until the value is dropped or the process ends, however it does. A
-/// lock file has no bytes. Who holds its lock removes it, as the last that it does; one that was killed leaves the file,
-/// which locks nothing then.
+/// A lock is held from the first call for one of its files until the value is dropped or the process ends, however it
+/// does. A lock file has no bytes. Who holds its lock removes it, as the last that it does; one that was killed leaves the
+/// file, which locks nothing then.
 #[derive(Drop)]
 pub(crate) struct Locks {
-    pub(crate) held: [Option<File>; FILES],
+    pub(crate) held: [Option<File>; LOCKS],
 }
 
 impl Locks {
@@ -80,27 +80,37 @@ impl Locks {
         ensures holds { OnOk result (IsHeld self.new.held file) }
         ensures keeps { KeepsHeld self.old.held self.new.held }
     {
-        if self.held[file as usize].is_some() {
+        if self.held[lock_of(file)].is_some() {
             return Ok(());
         }
+        self.take(rt, file)
+    }
+
+    /// Takes the lock of the file, which is not held. It stands apart from `hold`, which nearly always has nothing to do.
+    fn take<R: Files<File = File>>(&mut self, rt: &R, file: u8) -> io::Result<()>
+        requires { file ≤ 31 }
+        ensures holds { OnOk result (IsHeld self.new.held file) }
+        ensures keeps { KeepsHeld self.old.held self.new.held }
+    {
+        let number = lock_of(file);
         let lock = OpenOptions::new()
             .write(true)
             .create(true)
             .mode(MODE)
-            .open(rt, NAMES[file as usize])?;
+            .open(rt, NAMES[number])?;
         lock.try_lock()?;
         if lock.metadata()?.nlink() == 0 {
             return Err(io::Error::from(io::ErrorKind::WouldBlock));
         }
-        self.held[file as usize] = Some(lock);
+        self.held[number] = Some(lock);
         Ok(())
     }
 
     /// Removes the files of the locks that are held. One that can't be removed stays, and locks nothing later.
     pub(crate) fn remove_files<R: Files<File = File>>(&self, rt: &R) {
-        for file in 0..FILES {
-            if self.held[file].is_some() {
-                let _ = fs::remove_file(rt, NAMES[file]);
+        for number in 0..LOCKS {
+            if self.held[number].is_some() {
+                let _ = fs::remove_file(rt, NAMES[number]);
             }
         }
     }

@@ -78,6 +78,9 @@ pub struct OpenFiles<'a, R> {
     // None where no file is to be written.
     locks: Option<Locks>,
     slots: [Option<OneFile>; FILES],
+    // Whether the file was sought and is not there, by its number. Never where files are to be read alone: another program
+    // may make one then, and none may while the lock is held.
+    absent: [bool; FILES],
     // Whether the folder is known to have the file, by its number.
     in_folder: [bool; FILES],
     // Whether a sync of the file failed. What was written before may be lost, and no later sync would tell.
@@ -93,6 +96,7 @@ impl<'a, R: Files<File = File>> OpenFiles<'a, R> {
             rt,
             locks: None,
             slots: array::from_fn(|_| None),
+            absent: [false; FILES],
             in_folder: [false; FILES],
             spoilt: [false; FILES],
         }
@@ -150,7 +154,7 @@ impl<'a, R: Files<File = File>> OpenFiles<'a, R> {
         }
     }
 
-    /// The length that the system tells, if the file is there.
+    /// The length that the system tells, if the file is there. A file that was sought and is not there is not sought again.
     fn length_now(&mut self, file: u8) -> io::Result<Option<u64>>
         requires { file ≤ 31 }
         ensures locks { self.new.locks ≡ self.old.locks }
@@ -158,9 +162,15 @@ impl<'a, R: Files<File = File>> OpenFiles<'a, R> {
         if let Some(one) = &self.slots[file as usize] {
             return Ok(Some(one.file.metadata()?.len()));
         }
+        if self.absent[file as usize] {
+            return Ok(None);
+        }
         match self.rt.metadata(NAMES[file as usize]) {
             Ok(metadata) => Ok(Some(metadata.len())),
-            Err(e) if e.kind() == io::ErrorKind::NotFound => Ok(None),
+            Err(e) if e.kind() == io::ErrorKind::NotFound => {
+                self.absent[file as usize] = self.locks.is_some();
+                Ok(None)
+            }
             Err(e) => Err(e),
         }
     }
@@ -214,6 +224,7 @@ impl<'a, R: Files<File = File>> OpenFiles<'a, R> {
                 return put(&one.file, at, bytes);
             }
         }
+        self.absent[file as usize] = false;
         let opened = OpenOptions::new()
             .read(true)
             .write(true)
@@ -270,12 +281,12 @@ impl<'a, R: Files<File = File>> OpenFiles<'a, R> {
         Ok(())
     }
 
-    /// Opens the file, if it is there and not open.
+    /// Opens the file, if it is there and not open. A file that was sought and is not there is not sought again.
     fn open_to_read(&mut self, file: u8) -> io::Result<()>
         requires { file ≤ 31 }
         ensures locks { self.new.locks ≡ self.old.locks }
     {
-        if self.slots[file as usize].is_some() {
+        if self.slots[file as usize].is_some() || self.absent[file as usize] {
             return Ok(());
         }
         match fs::open(self.rt, NAMES[file as usize]) {
@@ -286,7 +297,10 @@ impl<'a, R: Files<File = File>> OpenFiles<'a, R> {
                 });
                 Ok(())
             }
-            Err(e) if e.kind() == io::ErrorKind::NotFound => Ok(()),
+            Err(e) if e.kind() == io::ErrorKind::NotFound => {
+                self.absent[file as usize] = self.locks.is_some();
+                Ok(())
+            }
             Err(e) => Err(e),
         }
     }

@@ -48,8 +48,8 @@ impl<'a, R: Files<File = File> + Print> FileSite<'a, R> {
 
     /// A site over this runtime that reads and writes. It opens nothing and takes no memory.
     ///
-    /// The first call on a file, whichever it is, takes the lock of that file, `engine.lock`, `agent-NN.lock` or
-    /// `engine-KK.lock` beside it, which is held as long as the site. Where it can't be taken, since another program
+    /// The first call on a file, whichever it is, takes the lock of that file beside it, which is held as long as the
+    /// site: `engine.lock`, `engine-KK.lock`, or `agents.lock`, the one for the files of all filters. Where it can't be taken, since another program
     /// holds it or for any other cause, the call fails, and the next one tries again. `end` removes the locks' files.
     pub fn writing(rt: &'a R, alloc: Global) -> FileSite<'a, R>
         ensures { ⟦<FileSite<'a, R> as Disk>⟧.view result ≡ untold_site 0 0 [] (clock_at 0) no_counts }
