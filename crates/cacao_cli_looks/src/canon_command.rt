@@ -48,7 +48,10 @@ pub fn canon<'w, L: Shelf, S: Site>(
         Ok(tree) => tree,
         Err(end) => return end,
     };
-    match canon_line(alloc, &tree, text.bytes.len()) {
+    let read = text.bytes.len();
+    // (the line takes as much memory as the text, which nothing asks for any more)
+    drop(text);
+    match canon_line(alloc, &tree, read) {
         Ok(line) => {
             // The work ends with this line, and the tree's memory goes back with that of the process, all at once.
             forget(tree);

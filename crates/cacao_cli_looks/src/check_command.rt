@@ -12,6 +12,7 @@ use cacao_check::Mode;
 use cacao_cli_ends::{End, Limit};
 use cacao_site::{Shelf, Site};
 use std::alloc::Global;
+use std::mem::forget;
 
 /// `check`: says whether the playbooks are accepted, or the first break of a rule.
 pub fn check<'w, L: Shelf, S: Site>(
@@ -37,7 +38,12 @@ pub fn check<'w, L: Shelf, S: Site>(
         Err(end) => return end,
     };
     match trees_of(alloc, texts.as_slice()) {
-        Ok(trees) => judge(alloc, trees.as_slice(), Mode::Read),
+        Ok(trees) => {
+            let end = judge(alloc, trees.as_slice(), Mode::Read);
+            // The work ends here, and the trees' memory goes back with that of the process, all at once.
+            forget(trees);
+            end
+        }
         Err(end) => end,
     }
 }

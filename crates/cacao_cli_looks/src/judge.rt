@@ -8,6 +8,7 @@ use cacao_check::{CheckError, Mode, read_books};
 use cacao_cli_ends::End;
 use cacao_json::Tree;
 use std::alloc::Global;
+use std::mem::forget;
 
 /// Whether the playbooks with these trees are accepted, or the first break of a rule: first the rules of shape (K1 to K12), playbook by
 /// playbook, then those of sense (K13 to K25).
@@ -17,7 +18,11 @@ pub fn judge<'w>(alloc: Global, trees: &[Tree], mode: Mode) -> End<'w>
     ensures { IsJudgedOrMemory (map data_of trees.now) mode result }
 {
     match read_books(alloc, trees, mode) {
-        Ok(_) => End::Accepted,
+        Ok(checked) => {
+            // What was found out of the playbooks serves nobody behind the verdict: its memory goes back with the process.
+            forget(checked);
+            End::Accepted
+        }
         Err(error) => refusal_end(error),
     }
 }

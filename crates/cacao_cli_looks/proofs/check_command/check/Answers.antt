@@ -42,17 +42,17 @@ returns-in-Ok-trees_of-clause-performed g c =
     let shelf : ShelfCall = record { told = g.L.Shelf.told c.args.shelf.now; before = g.L.Shelf.faults c.args.shelf.now; after = g.L.Shelf.faults c.read_files.new.shelf; reads_before = g.L.Shelf.reads c.args.shelf.now; reads_after = g.L.Shelf.reads c.read_files.new.shelf } in
     let site : SiteView = g.S.Disk.view c.args._site.now in
     let texts : List NamedText = map text_of c.in-Ok.texts.items in
-    let end : End = end_of c.judge.result in
+    let end : End = end_of c.judge-end.result in
     let roots : List Data = map data_of c.in-Ok-trees_of.trees.items in
     let all : trees_of texts ≡ Ok roots = ap (λ (l : List FileText). trees_of (map text_of l)) (sym c.as_slice.ensures.value) ∙ c.in-Ok-trees_of.ensures in
     check-read c.args.names.now shelf site (Ok texts) end (omega (arith, c.most.ensures)) c.in-Ok.ensures.reads
-    (check-judged (map (λ name. name.now) c.args.names.now) texts roots site end all (subst (λ l. IsJudgement (map data_of l) Reading end) c.as_slice-in-Ok-trees_of.ensures.value c.judge.ensures))
+    (check-judged (map (λ name. name.now) c.args.names.now) texts roots site end all (subst (λ l. IsJudgement (map data_of l) Reading end) c.as_slice-in-Ok-trees_of.ensures.value c.judge-end.ensures))
 
 tree_count : (names : List (Bor Text)) (texts : List FileText) (roots : List Data) → length (map text_of texts) ≡ length (map (λ (name : Bor Text). book_file name.now) names) → trees_of (map text_of texts) ≡ Ok roots → length roots ≡ length names
 tree_count names texts roots same all = trees-length (map text_of texts) roots all ∙ same ∙ length-map names (λ (name : Bor Text). book_file name.now)
 
-pub judge-requires-clause-few : goal.judge-requires-clause-few
-judge-requires-clause-few g c =
+pub judge-end-requires-clause-few : goal.judge-end-requires-clause-few
+judge-end-requires-clause-few g c =
     let texts : List FileText = c.in-Ok.texts.items in
     let roots : List Data = map data_of c.in-Ok-trees_of.trees.items in
     let all : trees_of (map text_of texts) ≡ Ok roots = ap (λ (l : List FileText). trees_of (map text_of l)) (sym c.as_slice.ensures.value) ∙ c.in-Ok-trees_of.ensures in
@@ -60,8 +60,8 @@ judge-requires-clause-few g c =
     let count = tree_count c.args.names.now texts roots same all in
     omega (arith, count, length-map c.in-Ok-trees_of.trees.items data_of, ap length c.as_slice-in-Ok-trees_of.ensures.value, c.most.ensures)
 
-pub judge-requires-clause-some : goal.judge-requires-clause-some
-judge-requires-clause-some g c =
+pub judge-end-requires-clause-some : goal.judge-end-requires-clause-some
+judge-end-requires-clause-some g c =
     let texts : List FileText = c.in-Ok.texts.items in
     let roots : List Data = map data_of c.in-Ok-trees_of.trees.items in
     let all : trees_of (map text_of texts) ≡ Ok roots = ap (λ (l : List FileText). trees_of (map text_of l)) (sym c.as_slice.ensures.value) ∙ c.in-Ok-trees_of.ensures in

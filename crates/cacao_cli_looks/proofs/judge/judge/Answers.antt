@@ -7,7 +7,7 @@ use Rattle.cacao_cli_looks.proofs.judge.judge.Goals as goal
 pub returns-in-Ok : goal.returns-in-Ok
 returns-in-Ok c = inl (c.in-Ok.ensures.accepted, refl)
 
-pub returns : goal.returns
-returns c =
+pub returns-in-Err : goal.returns-in-Err
+returns-in-Err c =
     subst (IsJudgement (map data_of c.args.trees.now) c.args.mode) (sym c.refusal_end.ensures)
     (judged-refused (map data_of c.args.trees.now) c.args.mode c.in-Err.error c.in-Err.ensures.broken)
