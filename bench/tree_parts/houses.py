@@ -37,14 +37,9 @@ HOUSES = {
 # The crates whose public calls are promises.
 OWNERS = {crate for crates in HOUSES.values() for crate in crates}
 
-# The one part of the program `cacao`. (So many names begin with that word that no other crate is taken for one.)
-PROGRAM = "cacao_main"
-
-
 def house_of(crate):
     """The house whose name a crate bears, or None."""
-    if crate == PROGRAM:
-        return "cacao"
+    # (so many names begin with the word `cacao` that the house of the program is its crate alone)
     found = [house for house in HOUSES if crate == house or (house != "cacao" and crate.startswith(f"{house}_"))]
     return max(found, key=len, default=None)
 

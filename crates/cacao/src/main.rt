@@ -1,8 +1,10 @@
 //! The program `cacao`.
 #![tactic(auto)]
 
+mod running;
+
 use std::process::ExitCode;
 
 fn main(rt: HostRuntime) -> ExitCode {
-    cacao_main::run(&rt)
+    running::run(&rt)
 }

@@ -1,6 +1,4 @@
-//! The program from its runtime on: the words of the command line and the outside of the system are handed to the commands.
-#![tactic(auto)]
-
+// The program from its runtime on: the words of the command line and the outside of the system are handed to the commands.
 use cacao_cli::top;
 use cacao_site_files::{FileShelf, FileSite};
 use oc2_wire_process::ProcessPeers;
