@@ -103,20 +103,20 @@ pub(crate) fn call_finding(
     place: u32,
     step: &Step,
     called: &Book,
-    spot: Spot,
+    spot: &Spot,
 ) -> Result<Finding, AllocError>
     requires { IsSurveyOf books.now book.now survey.now }
 {
     let _ = books;
     let ins = in_args_of(&step.kind);
     if let Some(misfit) = first_misfit(alloc, book, survey, place, step, called, ins, true)? {
-        let found = argument_place(alloc, bytes, &spot, "in_args", misfit.number)?;
+        let found = argument_place(alloc, bytes, spot, "in_args", misfit.number)?;
         return found.finding(alloc, misfit.name.text(), misfit.says);
     }
     let outs = out_args_of(&step.kind);
     if let Some(misfit) = first_misfit(alloc, book, survey, place, step, called, outs, false)? {
-        let found = argument_place(alloc, bytes, &spot, "out_args", misfit.number)?;
+        let found = argument_place(alloc, bytes, spot, "out_args", misfit.number)?;
         return found.finding(alloc, misfit.name.text(), misfit.says);
     }
-    Finding::of(alloc, spot, UNLIKE)
+    Finding::of(alloc, spot.again(alloc)?, UNLIKE)
 }

@@ -69,11 +69,11 @@ fn sense_finding(
     };
     let suspect = Suspect { books, book, bytes };
     let Some(key) = &broken.step else {
-        return suspect.book_fault(alloc, spot, broken.rule);
+        return suspect.book_fault(alloc, &spot, broken.rule);
     };
     let steps = book.steps.as_slice();
     match find_place(steps, key.text()) {
-        Some(place) => suspect.step_fault(alloc, object, spot, &steps[place], broken.rule),
+        Some(place) => suspect.step_fault(alloc, object, &spot, &steps[place], broken.rule),
         None => Finding::of(alloc, spot, "a rule is broken here"),
     }
 }

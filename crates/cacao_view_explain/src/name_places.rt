@@ -57,7 +57,12 @@ pub(crate) fn argument_place(
 
 /// The number of the name in this list.
 fn number_of(names: &[Name], name: &Name) -> Option<usize> {
-    names.iter().position(|other| other.text() == name.text())
+    for (number, other) in names.iter().enumerate() {
+        if other.text() == name.text() {
+            return Some(number);
+        }
+    }
+    None
 }
 
 /// The text in which a control step of this kind uses names.

@@ -58,7 +58,7 @@ impl<'a> Suspect<'a> {
     fn at_member(
         &self,
         alloc: Global,
-        spot: Spot,
+        spot: &Spot,
         name: &str,
         what: &str,
     ) -> Result<Finding, AllocError> {
@@ -70,7 +70,7 @@ impl<'a> Suspect<'a> {
     pub(crate) fn book_fault(
         &self,
         alloc: Global,
-        spot: Spot,
+        spot: &Spot,
         rule: u8,
     ) -> Result<Finding, AllocError> {
         if rule == 14 {
@@ -109,7 +109,7 @@ impl<'a> Suspect<'a> {
         &self,
         alloc: Global,
         object: &Tree,
-        spot: Spot,
+        spot: &Spot,
         step: &Step,
         rule: u8,
     ) -> Result<Finding, AllocError> {
@@ -119,7 +119,7 @@ impl<'a> Suspect<'a> {
             19 => self.version_fault(alloc, spot, step),
             20 => self.value_fault(alloc, spot, "step_variables", &step.variables),
             21 => self.condition_fault(alloc, spot, step),
-            _ => Finding::of(alloc, spot, "a rule is broken here"),
+            _ => Finding::of(alloc, spot.again(alloc)?, "a rule is broken here"),
         }
     }
 
@@ -127,7 +127,7 @@ impl<'a> Suspect<'a> {
     fn value_fault(
         &self,
         alloc: Global,
-        spot: Spot,
+        spot: &Spot,
         dictionary: &str,
         vars: &Vars,
     ) -> Result<Finding, AllocError> {
@@ -137,7 +137,7 @@ impl<'a> Suspect<'a> {
                 let spot = spot.member(alloc, self.bytes, var.name.text())?;
                 return self.at_member(
                     alloc,
-                    spot,
+                    &spot,
                     "value",
                     "the value is not a text of the variable's type",
                 );
@@ -151,7 +151,7 @@ impl<'a> Suspect<'a> {
         &self,
         alloc: Global,
         object: &Tree,
-        spot: Spot,
+        spot: &Spot,
         step: &Step,
     ) -> Result<Finding, AllocError> {
         for link in links_of(&step.kind) {
@@ -164,7 +164,7 @@ impl<'a> Suspect<'a> {
         match &step.kind {
             StepKind::Parallel { .. } => self.branch_fault(alloc, object, spot),
             StepKind::Switch { .. } => self.case_fault(alloc, object, spot),
-            _ => Finding::of(alloc, spot, "a link leads to no step"),
+            _ => Finding::of(alloc, spot.again(alloc)?, "a link leads to no step"),
         }
     }
 
@@ -173,7 +173,7 @@ impl<'a> Suspect<'a> {
         &self,
         alloc: Global,
         object: &Tree,
-        spot: Spot,
+        spot: &Spot,
     ) -> Result<Finding, AllocError> {
         let spot = spot.member(alloc, self.bytes, "next_steps")?;
         if let Some(Tree::List(items)) = member(object, "next_steps") {
@@ -195,12 +195,12 @@ impl<'a> Suspect<'a> {
     }
 
     /// A case of a switch that leads to no step.
-    fn case_fault(&self, alloc: Global, object: &Tree, spot: Spot) -> Result<Finding, AllocError> {
+    fn case_fault(&self, alloc: Global, object: &Tree, spot: &Spot) -> Result<Finding, AllocError> {
         let spot = spot.member(alloc, self.bytes, "cases")?;
         if let Some(Tree::Members(pairs)) = member(object, "cases") {
             for pair in pairs.as_slice() {
                 if !self.item_names_step(&pair.tree) {
-                    return self.at_member(alloc, spot, pair.name.text(), NO_STEP);
+                    return self.at_member(alloc, &spot, pair.name.text(), NO_STEP);
                 }
             }
         }
@@ -208,12 +208,21 @@ impl<'a> Suspect<'a> {
     }
 
     fn defines(&self, name: &Text) -> bool {
-        let agents = self.book.agents.as_slice();
-        agents.iter().any(|agent| agent.text() == name.text())
+        for agent in self.book.agents.as_slice() {
+            if agent.text() == name.text() {
+                return true;
+            }
+        }
+        false
     }
 
     /// An agent or a target that is not defined.
-    fn agent_fault(&self, alloc: Global, object: &Tree, spot: Spot) -> Result<Finding, AllocError> {
+    fn agent_fault(
+        &self,
+        alloc: Global,
+        object: &Tree,
+        spot: &Spot,
+    ) -> Result<Finding, AllocError> {
         if let Some(Tree::Text(agent)) = member(object, "agent") {
             if !self.defines(agent) {
                 return self.at_member(
@@ -242,7 +251,12 @@ impl<'a> Suspect<'a> {
         Finding::of(alloc, spot, "an agent or a target is not defined")
     }
 
-    fn version_fault(&self, alloc: Global, spot: Spot, step: &Step) -> Result<Finding, AllocError> {
+    fn version_fault(
+        &self,
+        alloc: Global,
+        spot: &Spot,
+        step: &Step,
+    ) -> Result<Finding, AllocError> {
         if let Some(version) = version_of(&step.kind) {
             if let Some(book) = called_by(self.books, step) {
                 if book.modified.text() != version.text() {
@@ -270,7 +284,7 @@ impl<'a> Suspect<'a> {
     fn condition_fault(
         &self,
         alloc: Global,
-        spot: Spot,
+        spot: &Spot,
         step: &Step,
     ) -> Result<Finding, AllocError> {
         match subject_of(&step.kind) {

@@ -101,10 +101,10 @@ fn wanted_of_control(kind: &str) -> &'static [(&'static str, Wants)] {
 }
 
 /// What is said of a member that is not there.
-fn missing(alloc: Global, spot: Spot, name: &str, says: &str) -> Result<Finding, AllocError> {
+fn missing(alloc: Global, spot: &Spot, name: &str, says: &str) -> Result<Finding, AllocError> {
     let what = format!(in alloc; "there is no member {name}: {says}")?;
     Ok(Finding {
-        spot,
+        spot: spot.again(alloc)?,
         named: None,
         what,
     })
@@ -123,7 +123,7 @@ fn misfit(
         if wants.may_be_absent() {
             return Ok(None);
         }
-        let finding = missing(alloc, spot.again(alloc)?, name, wants.says())?;
+        let finding = missing(alloc, spot, name, wants.says())?;
         return Ok(Some(finding));
     };
     if wants.fits(alloc, value)? {
@@ -135,7 +135,12 @@ fn misfit(
 }
 
 /// What breaks the rule on links that go together.
-fn link_fault(alloc: Global, bytes: &[u8], step: &Tree, spot: Spot) -> Result<Finding, AllocError> {
+fn link_fault(
+    alloc: Global,
+    bytes: &[u8],
+    step: &Tree,
+    spot: &Spot,
+) -> Result<Finding, AllocError> {
     let name = if member(step, "on_success").is_some() {
         "on_success"
     } else {
@@ -178,7 +183,7 @@ pub(crate) fn shape_fault(
         }
     }
     if rule == 8 {
-        return link_fault(alloc, bytes, object, spot);
+        return link_fault(alloc, bytes, object, &spot);
     }
     Finding::of(alloc, spot, "an object is wanted")
 }

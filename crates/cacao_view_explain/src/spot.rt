@@ -8,10 +8,16 @@ use std::alloc::{AllocError, Global};
 
 /// A value in a text: the pointer to it from the object at fault (RFC 6901), without its first slash, nothing for that object; and the
 /// place at which it begins, counted in bytes.
-#[derive(Drop)]
 pub(crate) struct Spot {
     pub(crate) part: Option<String>,
     pub(crate) at: usize,
+}
+
+// (by hand, and not by derive: so a drop is one call in the proofs of all who own one)
+impl Drop for Spot {
+    fn drop(self) {
+        let Self { part: _, at: _ } = self;
+    }
 }
 
 /// A name, and the place within a value at which it is to be found.
@@ -22,11 +28,21 @@ pub(crate) struct Named {
 }
 
 /// What is at fault, and where. The words begin with the name, if one is told.
-#[derive(Drop)]
 pub(crate) struct Finding {
     pub(crate) spot: Spot,
     pub(crate) named: Option<Named>,
     pub(crate) what: String,
+}
+
+// (by hand too)
+impl Drop for Finding {
+    fn drop(self) {
+        let Self {
+            spot: _,
+            named: _,
+            what: _,
+        } = self;
+    }
 }
 
 /// The name as it stands in a pointer: `~` is `~0`, and `/` is `~1`.

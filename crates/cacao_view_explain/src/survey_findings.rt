@@ -46,7 +46,9 @@ fn step_finding(
     let Some(called) = called_by(others.as_slice(), step) else {
         return Finding::of(alloc, spot, BROKEN);
     };
-    call_finding(alloc, bytes, books, book, survey, place, step, called, spot)
+    call_finding(
+        alloc, bytes, books, book, survey, place, step, called, &spot,
+    )
 }
 
 /// What breaks this rule in the step with this key of the first of these playbooks.

@@ -240,7 +240,15 @@ fn is_list(tree: &Tree, least: usize, most: usize) -> bool {
 }
 
 fn are_texts(tree: &Tree, least: usize, most: usize) -> bool {
-    is_list(tree, least, most) && items_of(tree).iter().all(|item| text_of(item).is_some())
+    if !is_list(tree, least, most) {
+        return false;
+    }
+    for item in items_of(tree) {
+        if text_of(item).is_none() {
+            return false;
+        }
+    }
+    true
 }
 
 /// Whether the value is the name of a variable, or a reference to it.
@@ -252,7 +260,15 @@ pub(crate) fn is_argument(tree: &Tree) -> bool {
 }
 
 fn are_names(tree: &Tree, most: usize) -> bool {
-    is_list(tree, 0, most) && items_of(tree).iter().all(|item| is_argument(item))
+    if !is_list(tree, 0, most) {
+        return false;
+    }
+    for item in items_of(tree) {
+        if !is_argument(item) {
+            return false;
+        }
+    }
+    true
 }
 
 /// Whether the value is an object with a type.
@@ -264,7 +280,15 @@ pub(crate) fn is_command(tree: &Tree) -> bool {
 }
 
 fn are_commands(tree: &Tree) -> bool {
-    is_list(tree, 1, 64) && items_of(tree).iter().all(|item| is_command(item))
+    if !is_list(tree, 1, 64) {
+        return false;
+    }
+    for item in items_of(tree) {
+        if !is_command(item) {
+            return false;
+        }
+    }
+    true
 }
 
 fn are_cases(tree: &Tree) -> bool {
@@ -272,7 +296,15 @@ fn are_cases(tree: &Tree) -> bool {
         return false;
     };
     let pairs = pairs.as_slice();
-    pairs.len() >= 1 && pairs.len() <= 64 && pairs.iter().all(|pair| text_of(&pair.tree).is_some())
+    if pairs.is_empty() || pairs.len() > 64 {
+        return false;
+    }
+    for pair in pairs {
+        if text_of(&pair.tree).is_none() {
+            return false;
+        }
+    }
+    true
 }
 
 /// Whether the command has a content as an openc2-http command has it.

@@ -1,5 +1,5 @@
 -- Promise: Whether the first bytes of a text are found to begin a JSON text: what closes their string and their brackets is put behind them.
-use Rattle.std.specs.Prelude.{◌≡◌, ℕ, ◌-◌, ◌==◌, ◌&&◌, ◌||◌, ◌++◌, Bool, true, false, not, nat_lt, if◌then◌else◌, List, All, [], ◌∷◌, length, take, fold, codes, reverse, is_some}
+use Rattle.std.specs.Prelude.{◌≡◌, ℕ, ◌-◌, ◌==◌, ◌&&◌, ◌||◌, ◌++◌, Bool, true, false, not, if◌then◌else◌, List, All, [], ◌∷◌, length, take, fold, codes, reverse, is_some}
 use Rattle.cacao_json.specs.Reading.{reading}
 
 -- where some bytes end: whether in a string, whether behind a backslash in it, and what closes the brackets that are open, the first one first

@@ -154,7 +154,7 @@ pub(crate) fn is_digit(byte: u8) -> bool {
 }
 
 /// The place behind the digits that stand from this place on.
-fn digits_end(bytes: &[u8], from: usize) -> usize {
+pub(crate) fn digits_end(bytes: &[u8], from: usize) -> usize {
     for at in from..bytes.len() {
         if !is_digit(bytes[at]) {
             return at;

@@ -129,6 +129,16 @@ fn next_part(bytes: &[u8], value: usize) -> Option<usize>
     }
 }
 
+/// Whether a backslash stands in the text of a string.
+fn has_escape(text: &[u8]) -> bool {
+    for at in 0..text.len() {
+        if text[at] == b'\\' {
+            return true;
+        }
+    }
+    false
+}
+
 /// Whether the string that stands from a place on and before another, with its quotation marks, is this name.
 fn is_name(
     alloc: Global,
@@ -143,7 +153,7 @@ fn is_name(
     if found == name.as_bytes() {
         return Ok(true);
     }
-    if !found.iter().any(|byte| *byte == b'\\') {
+    if !has_escape(found) {
         return Ok(false);
     }
     let Some(quoted) = bytes.get(from..end) else {

@@ -2,11 +2,11 @@
 ghost use Rattle.std.specs.Prelude.{◌≡◌, ◌≤◌, ◌<◌, IfOk, IfSome, IsTrue, codes, false, length, nat_le, nat_lt, slice_range, true};
 ghost use Rattle.cacao_json.specs.Refusals.{answer};
 ghost use Rattle.cacao_view_faults.specs.Stands.{in_place};
-ghost use Rattle.cacao_view_faults.specs.Tokens.{IsBrokenNumber, IsTwice, are_together, begins_number, is_broken_number, is_not_whole, is_not_whole_at, renamed, repeats, stands_again};
+ghost use Rattle.cacao_view_faults.specs.Tokens.{IsBrokenNumber, IsTwice, are_together, is_broken_number, is_not_whole, is_not_whole_at, renamed, repeats, stands_again};
 
 use crate::scan::{byte_at, string_end, word_end};
 use crate::standing::{in_place, is_json, is_text_at, same_bytes};
-use crate::tokens::{Twice, number_not_whole};
+use crate::tokens::{Twice, begins_number, number_not_whole};
 use cacao_json::{JsonError, TEXT_LIMIT, read_tree};
 use std::alloc::{AllocError, Global};
 
@@ -54,6 +54,14 @@ fn has_fewer(alloc: Global, made: &[u8], bytes: &[u8]) -> Result<bool, AllocErro
     Ok(left < all)
 }
 
+/// The text with `~` at the end of the name that ends before a place, with its quotation mark.
+fn renamed(alloc: Global, bytes: &[u8], end: usize) -> Result<Vec<u8>, AllocError>
+    requires { end ≤ length bytes.now }
+    ensures { IfOk result (λ made. made.items ≡ renamed bytes.now end) }
+{
+    in_place(alloc, b"~\"", bytes, end.saturating_sub(1), end)
+}
+
 /// Whether a name stands from a place on and before another that stands again in its object.
 fn stands_again(alloc: Global, bytes: &[u8], from: usize, end: usize) -> Result<bool, AllocError>
     requires { length bytes.now ≤ 1048576 }
@@ -65,7 +73,7 @@ fn stands_again(alloc: Global, bytes: &[u8], from: usize, end: usize) -> Result<
     if !is_text_at(alloc, bytes, from, end)? {
         return Ok(false);
     }
-    let made = in_place(alloc, b"~\"", bytes, end.saturating_sub(1), end)?;
+    let made = renamed(alloc, bytes, end)?;
     if !is_json(alloc, made.as_slice())? {
         return Ok(false);
     }
@@ -80,14 +88,6 @@ fn are_alike(bytes: &[u8], from: usize, end: usize, other: usize, other_end: usi
         return false;
     }
     same_bytes(&bytes[from..end], &bytes[other..other_end])
-}
-
-/// The text with `~` at the end of the name that ends before a place, with its quotation mark.
-fn renamed(alloc: Global, bytes: &[u8], end: usize) -> Result<Vec<u8>, AllocError>
-    requires { end ≤ length bytes.now }
-    ensures { IfOk result (λ made. made.items ≡ renamed bytes.now end) }
-{
-    in_place(alloc, b"~\"", bytes, end.saturating_sub(1), end)
 }
 
 /// Whether one text has no more names that stand again than another.
@@ -179,12 +179,6 @@ fn is_counted(
     }
     let same = is_not_whole_at(alloc, made.as_slice(), number)?;
     Ok(!same)
-}
-
-fn begins_number(byte: u8) -> bool
-    ensures { result ≡ begins_number byte }
-{
-    byte == b'-' || (byte >= b'0' && byte <= b'9')
 }
 
 /// Whether a number that is not whole stands as a value from a place on and before another.

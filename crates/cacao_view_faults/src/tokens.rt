@@ -1,6 +1,8 @@
 // Names that stand twice in one object, and numbers that are not whole, in texts that are JSON otherwise.
-ghost use Rattle.std.specs.Prelude.{◌≤◌, IfOk, IfSome, length};
+ghost use Rattle.std.specs.Prelude.{◌≡◌, ◌≤◌, IfOk, IfSome, length};
+ghost use Rattle.cacao_view_faults.specs.Tokens.{begins_number};
 
+use crate::faults::digits_end;
 use crate::scan::{byte_at, is_space, skip_space, string_end, word_end};
 use std::alloc::{AllocError, Global};
 use std::collections::BTreeMap;
@@ -101,7 +103,7 @@ fn is_whole(text: &[u8]) -> bool {
         Some(digits) => digits,
         None => text,
     };
-    if !digits.iter().all(|byte| *byte >= b'0' && *byte <= b'9') {
+    if digits_end(digits, 0) < digits.len() {
         return false;
     }
     digits.len() < 16 || (digits.len() == 16 && is_at_most(digits, b"9007199254740991"))
@@ -120,7 +122,9 @@ fn is_at_most(digits: &[u8], most: &[u8]) -> bool {
 }
 
 /// Whether a number begins with this byte.
-fn begins_number(byte: u8) -> bool {
+pub(crate) fn begins_number(byte: u8) -> bool
+    ensures { result ≡ begins_number byte }
+{
     byte == b'-' || (byte >= b'0' && byte <= b'9')
 }
 

@@ -1,6 +1,6 @@
 -- What is counted at steps, one more at a time.
-use Rattle.std.proofs.Common.{append-nil, ◌≤◌, IfSome, ◌≡◌, ◌≢◌, ◌∙◌, inl, inr, refl, sym, ap, subst, arith, ℕ, zero, suc, ◌+◌, ◌<◌, Bool, true, false, List, [], ◌∷◌, ◌++◌, length, length-append, take, set, get_or, Option, Some, None}
-use Rattle.std.specs.Prelude.{count_by, flat_map, slice_get, if◌then◌else◌}
+use Rattle.std.proofs.Common.{append-nil, ◌≤◌, IfSome, ◌≡◌, ◌≢◌, ◌∙◌, inl, inr, refl, sym, ap, ap₂, subst, arith, ℕ, zero, suc, ◌+◌, ◌<◌, ◌==◌, Bool, true, false, List, [], ◌∷◌, ◌++◌, length, length-append, take, set, get_or, Option, Some, None, Result, Ok, Err}
+use Rattle.std.specs.Prelude.{IfOk, codes, count_by, decimal, flat_map, slice_get, if◌then◌else◌}
 use Rattle.std.specs.List.{filter}
 use Rattle.std.proofs.lemmas.Bool.{cases_eq}
 use Rattle.std.proofs.lemmas.Grind.{common_steps, flat_map-append}
@@ -10,7 +10,9 @@ use Rattle.std.proofs.lemmas.List.Sums.{count_by-le-length, length-filter}
 use Rattle.std.proofs.lemmas.Option.{none-some, same_Some, slice_get_read, slice_get_within}
 use Rattle.cacao_check.proofs.LawLemmas.{at_some}
 use Rattle.cacao_view_graph.specs.Marks.{is_at, noted}
-use Rattle.cacao_view_graph.specs.Tallies.{AreTallies, HasFew, IsTally}
+use Rattle.cacao_view_graph.specs.Tallies.{AllTallied, AreTallies, HasFew, HasTally, HaveTallies, IfTallied, IsMarkOf, IsTally}
+use Rattle.cacao_view_graph.specs.declared.marks.Mark.{Mark}
+use Rattle.cacao_view_graph.specs.declared.marks.Marks.{Marks}
 use Rattle.cacao_view_graph.specs.declared.note.Note.{Note}
 use Rattle.cacao_view_graph.specs.declared.spot.Spot.{Spot}
 use Rattle.cacao_view_graph.specs.declared.tally.Tally.{Tally}
@@ -155,3 +157,28 @@ next_note book walked notes place note new lt is are =
 
 pub short : {X : Type 0} (xs : List X) (place : ℕ) → place < length xs → place < 18446744073709551615 → length (take place xs) < 18446744073709551615
 short xs place lt fits = let taken : length (take place xs) ≡ place = grind (arith, common_steps) in omega (arith, taken, fits)
+
+-- ---- what is marked at a step
+
+abbrev told_walks : ℕ → List ℕ → List ℕ
+told_walks walks text = codes "\nwalked " ++ (decimal walks ++ 10 ∷ text)
+
+mark_there : (marks : Marks) (book step : ℕ) (tally : Tally) (mark : Mark) → mark.text.items ≡ told_walks tally.walks tally.text.items → mark.pale ≡ (tally.walks == 0) → IsTally book marks.walked.items marks.notes.items step tally
+    → IsMarkOf (Some marks) book step mark
+mark_there marks book step tally mark text pale is = record { text = text ∙ ap₂ told_walks is.walks is.text; pale = pale ∙ ap (λ (n : ℕ). n == 0) is.walks }
+
+pub marked_there : {E : Type 0} (o : Option Marks) (marks : Marks) (step : ℕ) (tallies : List Tally) (tally : Tally) (result : Result Mark E) → o ≡ Some marks → tally ≡ get_or tallies step tally
+    → IfOk result (λ mark. mark.text.items ≡ told_walks tally.walks tally.text.items) → IfOk result (λ mark. mark.pale ≡ (tally.walks == 0))
+    → IfOk result (λ mark. (book : ℕ) → IfTallied o book step tallies → IsMarkOf o book step mark)
+marked_there o marks step tallies tally (Err e) some is text pale = tt
+marked_there o marks step tallies tally (Ok mark) some is text pale = λ book tallied.
+    let own = subst (λ (m : Option Marks). IfTallied m book step tallies) some tallied in
+    subst (λ (m : Option Marks). IsMarkOf m book step mark) (sym some)
+    (mark_there marks book step tally mark text pale (own.1 step tally (slice_get_read tallies (length tallies) step tally refl own.0 is)))
+
+has_tally : (o : Option Marks) (book step : ℕ) (tallies : List Tally) → IfTallied o book step tallies → HasTally o step tallies
+has_tally None book step tallies tallied = tt
+has_tally (Some marks) book step tallies tallied = tallied.0
+
+pub have_tallies : (o : Option Marks) (book steps : ℕ) (tallies : List Tally) → AllTallied o book steps tallies → HaveTallies o steps tallies
+have_tallies o book steps tallies all step lt = has_tally o book step tallies (all step lt)

@@ -1,7 +1,6 @@
 // What a run marks at the steps of its playbooks.
-ghost use Rattle.std.specs.Prelude.{◌≡◌, ◌==◌, ◌∷◌, ◌++◌, IfOk, OnOk, codes, decimal};
-ghost use Rattle.cacao_view_graph.specs.Marks.{notes_at, pale_at};
-ghost use Rattle.cacao_view_graph.specs.Tallies.{IfTallied};
+ghost use Rattle.std.specs.Prelude.{◌≡◌, ◌==◌, ◌∷◌, ◌++◌, ℕ, IfOk, OnOk, codes, decimal};
+ghost use Rattle.cacao_view_graph.specs.Tallies.{HasTally, IfTallied, IsMarkOf};
 
 use crate::note::Note;
 use crate::spot::Spot;
@@ -47,19 +46,16 @@ fn mark_of(alloc: Global, tally: &Tally) -> Result<Mark, AllocError>
     })
 }
 
-/// What is marked at a step of the playbook with this number, where there is a run.
+/// What is marked at a step of the playbook of which these tallies are, where there is a run.
 pub(crate) fn mark_at(
     alloc: Global,
     marks: &Option<Marks>,
     tallies: &[Tally],
-    book: u32,
     step: usize,
 ) -> Result<Mark, AllocError>
-    requires { IfTallied marks.now book step tallies.now }
-    ensures text { IfOk result (λ mark. mark.text.items ≡ notes_at marks.now book step) }
-    ensures pale { IfOk result (λ mark. mark.pale ≡ pale_at marks.now book step) }
+    requires { HasTally marks.now step tallies.now }
+    ensures { IfOk result (λ mark. (book : ℕ) → IfTallied marks.now book step tallies.now → IsMarkOf marks.now book step mark) }
 {
-    let _ = book;
     match marks {
         Some(_) => mark_of(alloc, &tallies[step]),
         None => Ok(Mark {

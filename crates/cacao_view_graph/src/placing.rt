@@ -1,5 +1,5 @@
 // The steps of playbooks, each with the cluster in which it is drawn.
-ghost use Rattle.std.specs.Prelude.{◌≡◌, ◌<◌, ◌≤◌, IfOk, Some, length, map, slice_get};
+ghost use Rattle.std.specs.Prelude.{◌≡◌, ◌<◌, ◌≤◌, ℕ, IfOk, Some, length, map, slice_get};
 ghost use Rattle.cacao_book.specs.Books.{book as book_of, step_of};
 ghost use Rattle.cacao_check_regions.specs.Charts.{AreRegionsOf, IsChartOf};
 ghost use Rattle.cacao_check_regions.specs.Surveys.{AreSurveysOf};
@@ -7,7 +7,7 @@ ghost use Rattle.cacao_json.specs.Tree.{data_of, pair_data};
 ghost use Rattle.cacao_view_graph.specs.Homes.{IsHome};
 ghost use Rattle.cacao_view_graph.specs.Pictures.{AreDrawn, AreMarked, AreStepsMarked, IsDrawn, IsMarked};
 ghost use Rattle.cacao_view_graph.specs.Placing.{AreDrawnOf, drawn_book, drawn_of};
-ghost use Rattle.cacao_view_graph.specs.Tallies.{AllTallied, IfTallied};
+ghost use Rattle.cacao_view_graph.specs.Tallies.{AllTallied, HasTally, HaveTallies, IfTallied};
 
 use crate::homes::home_key;
 use crate::marks::{Marks, mark_at};
@@ -20,7 +20,7 @@ use cacao_check_regions::{Regions, Survey, regions_of};
 use cacao_json::{Pair, Tree};
 use std::alloc::{AllocError, Global};
 
-/// The step at a place of the playbook with this number, with its home and what is marked there.
+/// The step at a place of the playbook, with its home and what is marked there.
 fn placed_step<'a>(
     alloc: Global,
     pair: &'a Pair,
@@ -28,21 +28,20 @@ fn placed_step<'a>(
     regions: &Regions,
     marks: &Option<Marks>,
     tallies: &[Tally],
-    number: u32,
     place: usize,
 ) -> Result<Placed<'a>, AllocError>
     requires there { place < length book.now.steps }
     requires same { slice_get book.now.steps place ≡ Some (step_of (pair_data pair.now)) }
     requires regions { AreRegionsOf book.now regions.now }
-    requires tallied { IfTallied marks.now number place tallies.now }
+    requires tallied { HasTally marks.now place tallies.now }
     ensures member { IfOk result (λ step. (drawn_of step).member ≡ pair_data pair.now) }
     ensures home { IfOk result (λ step. IsHome book.now place (drawn_of step).home) }
-    ensures marked { IfOk result (λ step. IsMarked marks.now number place (drawn_of step)) }
+    ensures marked { IfOk result (λ step. (number : ℕ) → IfTallied marks.now number place tallies.now → IsMarked marks.now number place (drawn_of step)) }
 {
     let steps = book.steps.as_slice();
     let step = &steps[place];
     let home = home_key(book, regions, place as u32);
-    let mark = mark_at(alloc, marks, tallies, number, place)?;
+    let mark = mark_at(alloc, marks, tallies, place)?;
     Ok(Placed {
         pair,
         step,
@@ -51,7 +50,7 @@ fn placed_step<'a>(
     })
 }
 
-/// The steps of the playbook with this number, each with its home and what is marked there.
+/// The steps of the playbook, each with its home and what is marked there.
 fn placed_steps<'a>(
     alloc: Global,
     pairs: &'a [Pair],
@@ -59,26 +58,17 @@ fn placed_steps<'a>(
     regions: &Regions,
     marks: &Option<Marks>,
     tallies: &[Tally],
-    number: u32,
 ) -> Result<Vec<Placed<'a>>, AllocError>
     requires same { book.now.steps ≡ map step_of (map pair_data pairs.now) }
     requires regions { AreRegionsOf book.now regions.now }
-    requires tallied { AllTallied marks.now number (length pairs.now) tallies.now }
+    requires tallied { HaveTallies marks.now (length pairs.now) tallies.now }
     ensures drawn { IfOk result (λ steps. AreDrawnOf book.now (map pair_data pairs.now) (map drawn_of steps.items)) }
-    ensures marked { IfOk result (λ steps. AreStepsMarked marks.now number (map drawn_of steps.items)) }
+    ensures marked { IfOk result (λ steps. (number : ℕ) → AllTallied marks.now number (length pairs.now) tallies.now
+        → AreStepsMarked marks.now number (map drawn_of steps.items)) }
 {
     let mut steps = Vec::new(alloc);
     for place in 0..pairs.len() {
-        let step = placed_step(
-            alloc,
-            &pairs[place],
-            book,
-            regions,
-            marks,
-            tallies,
-            number,
-            place,
-        )?;
+        let step = placed_step(alloc, &pairs[place], book, regions, marks, tallies, place)?;
         steps.push(step)?;
     }
     Ok(steps)
@@ -102,15 +92,7 @@ fn placed_book<'a>(
     let regions = regions_of(alloc, book, &survey.chart)?;
     let pairs = members_at(tree, "workflow");
     let tallies = tallies_of(alloc, marks, number, pairs.len())?;
-    let steps = placed_steps(
-        alloc,
-        pairs,
-        book,
-        &regions,
-        marks,
-        tallies.as_slice(),
-        number,
-    )?;
+    let steps = placed_steps(alloc, pairs, book, &regions, marks, tallies.as_slice())?;
     Ok(PlacedBook { tree, book, steps })
 }
 

@@ -1,6 +1,6 @@
 -- A run of the same files ends as `preflight` says, or holds its session.
 use Rattle.std.proofs.Common.{◌≡◌, ◌≢◌, ◌⊎◌, ◌∙◌, inl, inr, refl, sym, ap, subst, arith, ℕ, Bool, true, false, List, [], ◌++◌, append-nil, length, map, Option, Some, None, Result, Ok, Err}
-use Rattle.std.specs.Prelude.{is_some, if◌then◌else◌}
+use Rattle.std.specs.Prelude.{IfSome, IsSomeAnd, is_some, if◌then◌else◌}
 use Rattle.serde_json.specs.Data.{Data}
 use Rattle.cacao_check.specs.Fits.{FitsKind}
 use Rattle.cacao_check.specs.declared.breaks.Break.{Break}
@@ -17,7 +17,7 @@ use Rattle.cacao_cli_ends.specs.Ends.{End, bind_refused, done, no_memory, past, 
 use Rattle.cacao_cli_ends.specs.FileCauses.{HasTexts}
 use Rattle.cacao_cli_ends.specs.Files.{File, Files, NamedText, Reads, ShelfCall, book_file, files_of, has_too_many, listed, reading, run_names}
 use Rattle.cacao_cli_ends.specs.Lines.{SaysWork}
-use Rattle.cacao_cli_ends.specs.Work.{Start, ends, or_end, start_of, starts, trees_of, trees_wanted, work, work_on}
+use Rattle.cacao_cli_ends.specs.Work.{Start, ends, or_end, start_of, starts, trees_of, trees_wanted, work_on}
 use Rattle.cacao_cli_ends.specs.declared.limit.Limit.TheVariants.{BookCount}
 use Rattle.cacao_cli_ends.proofs.EndLemmas.{no_cons}
 use Rattle.cacao_cli_ends.proofs.ReadLemmas.{Fails, Read, by_memory, by_shelf, reads-length, reads-told}
@@ -29,7 +29,7 @@ use Rattle.cacao_view.specs.BookReading.{ReadsOf, are_too_many, book_files}
 use Rattle.cacao_view.specs.Flying.{FliesBooks, bound_names}
 use Rattle.cacao_view.proofs.BookLemmas.{file-end, file_list}
 use Rattle.cacao_view.proofs.DrawLemmas.{treeless-five}
-use Rattle.cacao_view_preflight_law.specs.Foretold.{ForetellsRuns, IsCutOff, IsFault, IsForetold}
+use Rattle.cacao_view_preflight_law.specs.Foretold.{ForetellsRuns, HasRead, IsCutOff, IsFault, IsForetold, ReadAlike}
 use Rattle.cacao_view_preflight_law.proofs.BreakLemmas.{binds_one, breaks_one, no_bind, no_both, no_break}
 use Rattle.cacao_view_preflight_law.proofs.TextLemmas.{all-wanted, no-answers, start-texts}
 
@@ -41,9 +41,9 @@ not-done end h e = h (ap status_of e)
 by-memory : (end : End) → end ≡ no_memory → IsFault end
 by-memory end e = inr (ap status_of e)
 
-module _ (wanted : RunRequest) (files : Files) (end last : End) (old new : SiteView) where
+module _ (wanted : RunRequest) (told : Option Files) (read : Read) (end last : End) (old new : SiteView) where
   abbrev Told : Type 0
-  Told = IsForetold wanted files end old new last
+  Told = IsForetold wanted told read end old new last
 
   cut-off : IsCutOff old new last → Told
   cut-off cut = inr (inr cut)
@@ -62,7 +62,7 @@ module _ (wanted : RunRequest) (files : Files) (end last : End) (old new : SiteV
 
   -- ---- the texts are judged
 
-  module _ (texts : List NamedText) (start : Start) (none : start.answers ≡ None) (has : HasTexts files wanted texts) (of : start ≡ start_of wanted texts) where
+  module _ (texts : List NamedText) (start : Start) (none : start.answers ≡ None) (has : HasRead wanted told read texts) (of : start ≡ start_of wanted texts) where
     no-bad-line : TellsBadLine start old new last → ⊥
     no-bad-line h = absurd (let no : None ≡ Some h.text = sym none ∙ h.is in cc)
 
@@ -92,7 +92,7 @@ module _ (wanted : RunRequest) (files : Files) (end last : End) (old new : SiteV
     on-ready given a is (inr (inl other)) = absurd (no_break start.books start.bind other.broken given other.breaks a)
     on-ready given a is (inr (inr (inl other))) = absurd (no_bind start.books start.bind other.rule given other.breaks a)
     on-ready given a is (inr (inr (inr (inl held)))) =
-        inl (inr (record { ready = is; texts = texts; has = has; holds = subst (λ (s : Start). HoldsSession s old new last) of held }))
+        inl (inr (record { ready = is; texts = texts; texts_are = has; holds = subst (λ (s : Start). HoldsSession s old new last) of held }))
     on-ready given a is (inr (inr (inr (inr wants)))) = wants-to-start wants
 
   -- ---- the files were read
@@ -104,7 +104,7 @@ module _ (wanted : RunRequest) (files : Files) (end last : End) (old new : SiteV
     abbrev files_wanted : List File
     files_wanted = map book_file (run_names wanted)
 
-    module _ (texts : List NamedText) (has : HasTexts files wanted texts) (many : length texts ≡ length files_wanted) where
+    module _ (texts : List NamedText) (has : HasRead wanted told read texts) (many : length texts ≡ length files_wanted) where
       abbrev start : Start
       start = start_of wanted texts
 
@@ -136,63 +136,84 @@ module _ (wanted : RunRequest) (files : Files) (end last : End) (old new : SiteV
           by-trees (trees_of texts) refl h (subst (λ (l : List NamedText). Performs (or_end (trees_of l) (λ roots. starts start)) old new last) (all-wanted wanted texts none many) run)
       told-texts (inr h) run = inr (inl (by-memory end h.1))
 
+    -- of a shelf that tells its files, the texts that were read are those of the files
+    has-texts : (o : Option Files) (count : ℕ) (texts : List NamedText) → has_too_many (runs wanted) ≡ false → Reads o files_wanted count (Ok texts) → IfSome o (λ files. HasTexts files wanted texts)
+    has-texts None count texts few reads = tt
+    has-texts (Some files) count texts few reads = go (reads-told files files_wanted count (Ok texts) reads)
+      where
+        go : (Ok texts ≡ reading files files_wanted) ⊎ Fails files_wanted (Ok texts) → HasTexts files wanted texts
+        go (inl is) = record { few = few; are = sym is }
+        go (inr (by_shelf name e faults)) = absurd (cc)
+        go (inr (by_memory e faults)) = absurd (cc)
+
     -- what reading came to, with the words that name too many playbooks or not
-    told-read : (b : Bool) (read : Read) (told : Option Files) (count : ℕ) → has_too_many (runs wanted) ≡ b → reading files (if b then [] else files_wanted) ≡ read → Reads told (if b then [] else files_wanted) count read
-        → ReadsOf (Preflights bound) b read lines end → Performs (if b then ends [] (past BookCount) else or_end read (work_on (runs wanted))) old new last → Told
-    told-read true read told count few is reads h run = said (past BookCount) h.1 (λ k. absurd (omega (arith, k))) run
-    told-read false (Err why) told count few is reads h run =
+    told-read : (b : Bool) (r : Read) (count : ℕ) → has_too_many (runs wanted) ≡ b → read ≡ r → Reads told (if b then [] else files_wanted) count r
+        → ReadsOf (Preflights bound) b r lines end → Performs (if b then ends [] (past BookCount) else or_end r (work_on (runs wanted))) old new last → Told
+    told-read true r count few is reads h run = said (past BookCount) h.1 (λ k. absurd (omega (arith, k))) run
+    told-read false (Err why) count few is reads h run =
         said why h.1 (λ k. not-among 0 file_list refl (subst (λ (n : ℕ). IsOneOf n file_list) k (file-end told files_wanted count (Err why) why reads refl))) run
-    told-read false (Ok texts) told count few is reads h run =
-        told-texts texts (record { few = few; are = is }) (reads-length told files_wanted count (Ok texts) texts reads refl) h run
+    told-read false (Ok texts) count few is reads h run =
+        told-texts texts (record { few = few; are = is; has = has-texts told count texts few reads }) (reads-length told files_wanted count (Ok texts) texts reads refl) h run
 
     -- ---- faults
 
-    seen-fails : (b : Bool) (read : Read) (names : List Text) → Fails (if b then [] else map book_file names) read → ReadsOf (Preflights bound) b read lines end → IsFault end
-    seen-fails true read names (by_shelf name e faults) h = absurd (cc)
-    seen-fails true read names (by_memory e faults) h = absurd (cc)
-    seen-fails false read names (by_shelf name e faults) h = let told = subst (λ (r : Read). ReadsOf (Preflights bound) false r lines end) e h in inl (ap status_of told.1)
-    seen-fails false read names (by_memory e faults) h = let told = subst (λ (r : Read). ReadsOf (Preflights bound) false r lines end) e h in inr (ap status_of told.1)
+    seen-fails : (b : Bool) (r : Read) (names : List Text) → Fails (if b then [] else map book_file names) r → ReadsOf (Preflights bound) b r lines end → IsFault end
+    seen-fails true r names (by_shelf name e faults) h = absurd (cc)
+    seen-fails true r names (by_memory e faults) h = absurd (cc)
+    seen-fails false r names (by_shelf name e faults) h = let told = subst (λ (x : Read). ReadsOf (Preflights bound) false x lines end) e h in inl (ap status_of told.1)
+    seen-fails false r names (by_memory e faults) h = let told = subst (λ (x : Read). ReadsOf (Preflights bound) false x lines end) e h in inr (ap status_of told.1)
 
     says-fault : (why : End) → IsFault why → SaysWork [] why old new last → IsCutOff old new last
     says-fault why fault (inl whole) = record { fault = subst IsFault (sym whole.ends) fault; same = whole.says }
     says-fault why fault (inr (inl stops)) = absurd (no_cons stops.front stops.behind stops.line stops.line stops.is)
     says-fault why fault (inr (inr wants)) = record { fault = by-memory last wants.ends; same = wants.same }
 
-    run-fails : (b : Bool) (read : Read) → Fails (if b then [] else files_wanted) read → Performs (if b then ends [] (past BookCount) else or_end read (work_on (runs wanted))) old new last → IsCutOff old new last
-    run-fails true read (by_shelf name e faults) run = absurd (cc)
-    run-fails true read (by_memory e faults) run = absurd (cc)
-    run-fails false read (by_shelf name e faults) run =
-        says-fault (shelf_failed name) (inl refl) (subst (λ (r : Read). Performs (or_end r (work_on (runs wanted))) old new last) e run)
-    run-fails false read (by_memory e faults) run =
-        says-fault no_memory (inr refl) (subst (λ (r : Read). Performs (or_end r (work_on (runs wanted))) old new last) e run)
+    run-fails : (b : Bool) (r : Read) → Fails (if b then [] else files_wanted) r → Performs (if b then ends [] (past BookCount) else or_end r (work_on (runs wanted))) old new last → IsCutOff old new last
+    run-fails true r (by_shelf name e faults) run = absurd (cc)
+    run-fails true r (by_memory e faults) run = absurd (cc)
+    run-fails false r (by_shelf name e faults) run =
+        says-fault (shelf_failed name) (inl refl) (subst (λ (x : Read). Performs (or_end x (work_on (runs wanted))) old new last) e run)
+    run-fails false r (by_memory e faults) run =
+        says-fault no_memory (inr refl) (subst (λ (x : Read). Performs (or_end x (work_on (runs wanted))) old new last) e run)
 
-    -- ---- both calls
+-- ---- both calls
 
-    names-same : bound_names wanted.bind wanted.books ≡ run_names wanted
-    names-same =
-        ap (λ (l : List Text). wanted.books ++ l) (sym (append-nil (listed wanted.bind)) ∙ ap (λ (o : Option Text). listed wanted.bind ++ listed o) (sym none))
+module _ (wanted : RunRequest) (none : wanted.answers ≡ None) where
+  names-same : bound_names wanted.bind wanted.books ≡ run_names wanted
+  names-same =
+      ap (λ (l : List Text). wanted.books ++ l) (sym (append-nil (listed wanted.bind)) ∙ ap (λ (o : Option Text). listed wanted.bind ++ listed o) (sym none))
 
-    lists-same : book_files wanted.books (bound_names wanted.bind wanted.books) ≡ files_of (Some (runs wanted))
-    lists-same = ap (λ (l : List Text). if are_too_many wanted.books then [] else map book_file l) names-same
+  lists-same : book_files wanted.books (bound_names wanted.bind wanted.books) ≡ files_of (Some (runs wanted))
+  lists-same = ap (λ (l : List Text). if are_too_many wanted.books then [] else map book_file l) names-same
 
-    both-read : (seen shelf : ShelfCall) (d : FliesBooks wanted.bind wanted.books seen lines end) (p : Performed (Some (runs wanted)) shelf old new last)
-        → d.read ≡ reading files (files_of (Some (runs wanted))) → p.read ≡ reading files (files_of (Some (runs wanted))) → Told
-    both-read seen shelf d p e f =
-        told-read (has_too_many (runs wanted)) (reading files (files_of (Some (runs wanted)))) shelf.told p.reads.count refl refl
-        (subst (λ (r : Read). Reads shelf.told (files_of (Some (runs wanted))) p.reads.count r) f p.reads.reads)
-        (subst (λ (r : Read). ReadsOf (Preflights bound) (are_too_many wanted.books) r lines end) e d.comes)
-        (subst (λ (r : Read). Performs (work (Some (runs wanted)) r) old new last) f p.performs)
+module _ (wanted : RunRequest) (seen shelf : ShelfCall) (lines : List Text) (end : End) (old new : SiteView) (last : End) (none : wanted.answers ≡ None)
+    (flight : FliesBooks wanted.bind wanted.books seen lines end) (run : Performed (Some (runs wanted)) shelf old new last) where
+  abbrev Foretold : Type 0
+  Foretold = IsForetold wanted shelf.told run.read end old new last
 
-    told-so : (seen shelf : ShelfCall) → seen.told ≡ Some files → shelf.told ≡ Some files → FliesBooks wanted.bind wanted.books seen lines end → Performed (Some (runs wanted)) shelf old new last → Told
-    told-so seen shelf s t d p =
-        elim (reads-told files (book_files wanted.books (bound_names wanted.bind wanted.books)) d.reads.count d.read
-        (subst (λ (o : Option Files). Reads o (book_files wanted.books (bound_names wanted.bind wanted.books)) d.reads.count d.read) s d.reads.reads)) [
-          | inr fails ↦ inr (inl (seen-fails (are_too_many wanted.books) d.read (bound_names wanted.bind wanted.books) fails d.comes))
-          | inl e ↦ elim (reads-told files (files_of (Some (runs wanted))) p.reads.count p.read (subst (λ (o : Option Files). Reads o (files_of (Some (runs wanted))) p.reads.count p.read) t p.reads.reads)) [
-            | inr fails ↦ cut-off (run-fails (has_too_many (runs wanted)) p.read fails p.performs)
-            | inl f ↦ both-read seen shelf d p (e ∙ ap (reading files) lists-same) f
-          ]
+  both-read : flight.read ≡ run.read → Foretold
+  both-read same =
+      told-read wanted shelf.told run.read end last old new lines none (has_too_many (runs wanted)) run.read run.reads.count refl refl run.reads.reads
+      (subst (λ (r : Read). ReadsOf (Preflights (is_some wanted.bind)) (are_too_many wanted.books) r lines end) same flight.comes) run.performs
+
+  told-so : (files : Files) → seen.told ≡ Some files → shelf.told ≡ Some files → Foretold
+  told-so files s t =
+      elim (reads-told files (book_files wanted.books (bound_names wanted.bind wanted.books)) flight.reads.count flight.read
+      (subst (λ (o : Option Files). Reads o (book_files wanted.books (bound_names wanted.bind wanted.books)) flight.reads.count flight.read) s flight.reads.reads)) [
+        | inr fails ↦ inr (inl (seen-fails wanted shelf.told run.read end last old new lines none (are_too_many wanted.books) flight.read (bound_names wanted.bind wanted.books) fails flight.comes))
+        | inl e ↦ elim (reads-told files (files_of (Some (runs wanted))) run.reads.count run.read (subst (λ (o : Option Files). Reads o (files_of (Some (runs wanted))) run.reads.count run.read) t run.reads.reads)) [
+          | inr fails ↦ inr (inr (run-fails wanted shelf.told run.read end last old new lines none (has_too_many (runs wanted)) run.read fails run.performs))
+          | inl f ↦ both-read (e ∙ ap (reading files) (lists-same wanted none) ∙ sym f)
         ]
+      ]
+
+  foretold : ReadAlike seen shelf flight.read run.read → Foretold
+  foretold (inr same) = both-read same
+  foretold (inl tells) = go seen.told refl tells
+    where
+      go : (o : Option Files) → seen.told ≡ o → IsSomeAnd o (λ files. shelf.told ≡ Some files) → Foretold
+      go None is h = absurd h
+      go (Some files) is h = told-so files is h
 
 pub foretells_runs : ForetellsRuns
-foretells_runs wanted files seen shelf lines end old new last none s t d p = told-so wanted files end last old new lines none seen shelf s t d p
+foretells_runs wanted seen shelf lines end old new last none flight run alike = foretold wanted seen shelf lines end old new last none flight run alike

@@ -1,4 +1,4 @@
-use Rattle.std.proofs.Common.{rules, arith, ◌≡◌, ◌≤◌, ◌<◌, ◌==◌, ◌∙◌, sym, false, true, length, take}
+use Rattle.std.proofs.Common.{rules, ◌≡◌, ◌≤◌, ◌<◌, ◌==◌, ◌∙◌, sym, false, true, length, take}
 use Rattle.std.specs.Prelude.{slice_range}
 use Rattle.cacao_view_faults.specs.Closing.{is_begun}
 use Rattle.cacao_view_faults.specs.Kinds.{is_piece}

@@ -12,7 +12,7 @@ pub loop-place-init : goal.loop-place-init
 loop-place-init c = record {
   count = ap length c.new-steps.ensures.items;
   drawn = subst (λ (l : List Placed). AreDrawnOf c.args.book.now [] (map drawn_of l)) (sym c.new-steps.ensures.items) (none_drawn c.args.book.now);
-  marked = subst (λ (l : List Placed). AreStepsMarked c.args.marks.now c.args.number (map drawn_of l)) (sym c.new-steps.ensures.items) (λ place step e. absurd (none-some step e));
+  marked = λ number all. subst (λ (l : List Placed). AreStepsMarked c.args.marks.now number (map drawn_of l)) (sym c.new-steps.ensures.items) (λ place step e. absurd (none-some step e));
 }
 
 pub placed_step-requires-clause-same : goal.placed_step-requires-clause-same
@@ -26,6 +26,6 @@ loop-place-preserved c = record {
   count = grown c.loop-place.steps.items c.push.new.self.items c.in_ok-step.step c.loop-place.place c.loop-place.invariant.count c.in_ok-push.ensures.items;
   drawn = drawn_next drawn_of c.args.book.now c.args.pairs.now c.loop-place.place c.index-pairs-place.result c.loop-place.steps.items c.push.new.self.items c.in_ok-step.step c.loop-place-test.true c.index-pairs-place.is c.in_ok-push.ensures.items
       c.in_ok-step.ensures.member c.in_ok-step.ensures.home c.loop-place.invariant.drawn;
-  marked = each_next (IsMarked c.args.marks.now c.args.number) drawn_of c.loop-place.place c.loop-place.steps.items c.push.new.self.items c.in_ok-step.step c.loop-place.invariant.count c.in_ok-push.ensures.items
-      c.in_ok-step.ensures.marked c.loop-place.invariant.marked;
+  marked = λ number all. each_next (IsMarked c.args.marks.now number) drawn_of c.loop-place.place c.loop-place.steps.items c.push.new.self.items c.in_ok-step.step c.loop-place.invariant.count c.in_ok-push.ensures.items
+      (c.in_ok-step.ensures.marked number (all c.loop-place.place c.loop-place-test.true)) (c.loop-place.invariant.marked number all);
 }

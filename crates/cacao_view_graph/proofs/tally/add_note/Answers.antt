@@ -1,4 +1,4 @@
-use Rattle.std.proofs.Common.{◌∙◌, ◌+◌, ◌++◌, ℕ, List, sym, ap, arith}
+use Rattle.std.proofs.Common.{◌∙◌, ◌++◌, ℕ, List, sym, ap, arith}
 use Rattle.cacao_view_graph.specs.declared.tally.Tally.{Tally}
 use Rattle.cacao_view_graph.proofs.TallyLemmas.{note_past, note_there}
 use Rattle.cacao_view_graph.proofs.tally.add_note.Goals as goal
