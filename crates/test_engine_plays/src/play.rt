@@ -1,6 +1,7 @@
 // A site on which engines are played.
 ghost use Rattle.std.specs.Prelude.{IfOk};
 ghost use Rattle.flow_core.specs.Setups.{IsReadable};
+ghost use Rattle.flow_engine_history.specs.HistoryView.{IsReady};
 
 use crate::call::Call;
 use crate::calls::open;
@@ -8,7 +9,7 @@ use crate::lives::{Life, live};
 use cacao_site::{Bytes, Disk, Site};
 use cacao_site_memory::{CallList, MemorySite, SitePlan, WeatherList};
 use flow_core::{Setup, SetupError};
-use flow_engine::EngineError;
+use flow_engine::{Engine, EngineError};
 use std::alloc::{AllocError, Global};
 
 /// What came of an opening.
@@ -61,6 +62,19 @@ fn setup(alloc: Global, text: &str) -> Result<Setup, SetupError> {
     Setup::read(alloc, &texts, &bind)
 }
 
+/// What comes of the calls of an engine that is open.
+fn lived<S: Site>(
+    alloc: Global,
+    engine: &mut Engine,
+    site: &mut S,
+    calls: &[Call<'_>],
+) -> Result<Played, AllocError>
+    requires ready { IsReady engine.old.history (S.view site.old) }
+{
+    let life = live(alloc, engine, site, calls)?;
+    Ok(Played::Lived(life))
+}
+
 /// Opens file 0 of a site for a run of a setup, and makes calls.
 fn open_and_live<S: Site>(
     alloc: Global,
@@ -70,7 +84,7 @@ fn open_and_live<S: Site>(
     calls: &[Call<'_>],
 ) -> Result<Played, AllocError> {
     match open(alloc, site, setup, run) {
-        Ok(mut engine) => Ok(Played::Lived(live(alloc, &mut engine, site, calls)?)),
+        Ok(mut engine) => lived(alloc, &mut engine, site, calls),
         Err(error) => Ok(Played::Unopened(error)),
     }
 }

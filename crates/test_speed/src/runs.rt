@@ -104,16 +104,26 @@ fn answer(
     }
 }
 
+/// What comes of each row, from this run on.
+fn answers_on(
+    alloc: Global,
+    texts: &Texts,
+    played: &mut Option<Played>,
+    rows: &[Row],
+) -> Result<Vec<String>, AllocError> {
+    let mut answers = Vec::new(alloc);
+    for row in rows {
+        answers.push(answer(alloc, texts, played, row)?)?;
+    }
+    Ok(answers)
+}
+
 /// What comes of each row.
 pub(crate) fn answers(
     alloc: Global,
     texts: &Texts,
     rows: &[Row],
 ) -> Result<Vec<String>, AllocError> {
-    let mut answers = Vec::new(alloc);
     let mut played = None;
-    for row in rows {
-        answers.push(answer(alloc, texts, &mut played, row)?)?;
-    }
-    Ok(answers)
+    answers_on(alloc, texts, &mut played, rows)
 }
