@@ -3,7 +3,7 @@ use Rattle.std.proofs.Common.{◌≡◌, ◌⊎◌, inl, inr, ℕ, suc, ◌+◌,
 use Rattle.std.specs.Prelude.{slice_get, nat_le, IfSome, is_some, count_by}
 use Rattle.std.proofs.lemmas.Bool.{cases_eq, cases_lt, cases_Bool, false≢true, or_cases, or_left, or_right, le-leb, leb-true}
 use Rattle.std.proofs.lemmas.Bool.Decides.{nat_tests}
-use Rattle.std.proofs.lemmas.List.{get_or_past, get_or_read}
+use Rattle.std.proofs.lemmas.List.{get_or_past}
 use Rattle.std.proofs.lemmas.Option.{none-some}
 use Rattle.base_dues.specs.Pairs.{at, is_by, IsFirstBy, listed}
 use Rattle.base_dues.specs.Least.{sooner, IsLeast, AreLeast, IsKept, IsFirstWithin}
@@ -147,24 +147,24 @@ pub block_there : (ms ls : List (Option ℕ)) (n : ℕ) → AreLeast ms ls → n
 block_there ms ls n all lt = let covers = all.covers in omega arith
 
 -- a number gets a moment that is no later than the one before it
-pub AreLeast-sooner : (ms ls : List (Option ℕ)) (n : ℕ) (before block new o : Option ℕ) → AreLeast ms ls → n < length ms → before ≡ get_or ms n before
+pub AreLeast-sooner : (ms ls : List (Option ℕ)) (n : ℕ) (before block new o : Option ℕ) → AreLeast ms ls → n < length ms → before ≡ get_or ms n None
     → sooner before new ≡ new → block ≡ get_or ls (n / 32) None → o ≡ sooner block new → AreLeast (set ms n new) (set ls (n / 32) o)
 AreLeast-sooner ms ls n before block new o all lt was early read e =
     let covers = all.covers in
     let inside : n / 32 < length ls = omega arith in
-    let there : sooner (get_or ms n None) new ≡ new = ap (λ v. sooner v new) (sym (get_or_read ms n before lt was None)) ∙ early in
+    let there : sooner (get_or ms n None) new ≡ new = ap (λ v. sooner v new) (sym was) ∙ early in
     let left : IsLeast ms (32 * (n / 32)) (32 * (n / 32) + 32) block = subst (λ (l : Option ℕ). IsLeast ms (32 * (n / 32)) (32 * (n / 32) + 32) l) (sym read) (all.blocks (n / 32) inside) in
     AreLeast-put ms ls n new o all lt (rw e (IsLeast-sooner ms (32 * (n / 32)) (32 * (n / 32) + 32) n block new (omega arith) (omega arith) lt there left))
 
 -- a number gets another moment, and the one before it was later than the least one of its block
-pub AreLeast-later : (ms ls : List (Option ℕ)) (n : ℕ) (before block new o : Option ℕ) → AreLeast ms ls → n < length ms → before ≡ get_or ms n before
+pub AreLeast-later : (ms ls : List (Option ℕ)) (n : ℕ) (before block new o : Option ℕ) → AreLeast ms ls → n < length ms → before ≡ get_or ms n None
     → ((m : ℕ) → block ≡ Some m → is_by m before ≡ false) → block ≡ get_or ls (n / 32) None → o ≡ sooner block new → AreLeast (set ms n new) (set ls (n / 32) o)
 AreLeast-later ms ls n before block new o all lt was later read e =
     let covers = all.covers in
     let inside : n / 32 < length ls = omega arith in
     let left : IsLeast ms (32 * (n / 32)) (32 * (n / 32) + 32) block = subst (λ (l : Option ℕ). IsLeast ms (32 * (n / 32)) (32 * (n / 32) + 32) l) (sym read) (all.blocks (n / 32) inside) in
     AreLeast-put ms ls n new o all lt (rw e (IsLeast-later ms (32 * (n / 32)) (32 * (n / 32) + 32) n block new (omega arith) (omega arith) lt
-    (λ m is. ap (λ v. is_by m v) (sym (get_or_read ms n before lt was None)) ∙ later m is) left))
+    (λ m is. ap (λ v. is_by m v) (sym was) ∙ later m is) left))
 
 -- a number gets another moment, and its block is looked through
 pub AreLeast-again : (ms ls l : List (Option ℕ)) (n : ℕ) (new o : Option ℕ) → AreLeast ms ls → n < length ms → l ≡ set ms n new
@@ -210,18 +210,17 @@ AreLeast-number ms ls all room = record {
 }
 
 -- one number more, with room at each level
-pub kept_more : (ms low middle high new_low new_middle new_high new ms_seen low_seen middle_seen : List (Option ℕ)) (count : ℕ) → IsKept ms low middle high count
-    → middle_seen ≡ middle → low_seen ≡ low → ms_seen ≡ ms → AreLeast middle_seen new_high → length middle_seen < 32 * length new_high → length new_high ≤ 4294967296
-    → AreLeast low_seen new_middle → length low_seen < 32 * length new_middle → length new_middle ≤ 4294967296
+pub kept_more : (ms low middle high new_low new_middle new_high new : List (Option ℕ)) (count : ℕ) → IsKept ms low middle high count
+    → AreLeast middle new_high → length middle < 32 * length new_high → length new_high ≤ 4294967296
+    → AreLeast low new_middle → length low < 32 * length new_middle → length new_middle ≤ 4294967296
     → ((above : List (Option ℕ)) → AreLeast middle above → length middle < 32 * length above → AreLeast new_middle above)
-    → AreLeast ms_seen new_low → length ms_seen < 32 * length new_low → length new_low ≤ 4294967296
+    → AreLeast ms new_low → length ms < 32 * length new_low → length new_low ≤ 4294967296
     → ((above : List (Option ℕ)) → AreLeast low above → length low < 32 * length above → AreLeast new_low above)
     → new ≡ ms ++ None ∷ [] → length ms + 1 < 4294967296 → IsKept new new_low new_middle new_high count
-kept_more ms low middle high new_low new_middle new_high new ms_seen low_seen middle_seen count k e1 e2 e3 high_tells high_room high_few middle_tells middle_room middle_few middle_above low_tells low_room low_few low_above e lt = record {
-  low_of = subst (λ (l : List (Option ℕ)). AreLeast l new_low) (sym e)
-      (AreLeast-number ms new_low (subst (λ (l : List (Option ℕ)). AreLeast l new_low) e3 low_tells) (subst (λ (l : List (Option ℕ)). length l < 32 * length new_low) e3 low_room));
-  middle_of = low_above new_middle (subst (λ (l : List (Option ℕ)). AreLeast l new_middle) e2 middle_tells) (subst (λ (l : List (Option ℕ)). length l < 32 * length new_middle) e2 middle_room);
-  high_of = middle_above new_high (subst (λ (l : List (Option ℕ)). AreLeast l new_high) e1 high_tells) (subst (λ (l : List (Option ℕ)). length l < 32 * length new_high) e1 high_room);
+kept_more ms low middle high new_low new_middle new_high new count k high_tells high_room high_few middle_tells middle_room middle_few middle_above low_tells low_room low_few low_above e lt = record {
+  low_of = subst (λ (l : List (Option ℕ)). AreLeast l new_low) (sym e) (AreLeast-number ms new_low low_tells low_room);
+  middle_of = low_above new_middle middle_tells middle_room;
+  high_of = middle_above new_high high_tells high_room;
   counted = k.counted ∙ sym (ap (λ (l : List (Option ℕ)). count_by is_some l) e ∙ count_push ms);
   small = subst (λ (l : List (Option ℕ)). length l < 4294967296) (sym e) (omega (arith, length-append ms (None ∷ [])));
   few_low = low_few;
@@ -238,12 +237,11 @@ alone_counted ms count n r before due counted lt was sum one k other =
     sym (get_or-set_other ms n k None None other) ∙ none_counted (set ms n None) k empty
 
 -- a number gets a moment, or loses it, and no other one has any
-pub kept_alone : (ms low middle high : List (Option ℕ)) (count n r : ℕ) (before due : Option ℕ) → IsKept ms low middle high count → n < length ms → before ≡ get_or ms n before
+pub kept_alone : (ms low middle high : List (Option ℕ)) (count n r : ℕ) (before due : Option ℕ) → IsKept ms low middle high count → n < length ms → before ≡ get_or ms n None
     → r + cond (is_some before) 1 0 ≡ count + cond (is_some due) 1 0 → r ≡ cond (is_some due) 1 0
     → IsKept (set ms n due) (set low (n / 32) due) (set middle (n / 32 / 32) due) (set high (n / 32 / 32 / 32) due) r
 kept_alone ms low middle high count n r before due k lt was sum one =
-    let read : before ≡ get_or ms n None = get_or_read ms n before lt was None in
-    let alone : IsAlone ms n = alone_counted ms count n r before due k.counted lt read sum one in
+    let alone : IsAlone ms n = alone_counted ms count n r before due k.counted lt was sum one in
     let alone_low : IsAlone low (n / 32) = alone_above ms low n k.low_of alone in
     let alone_middle : IsAlone middle (n / 32 / 32) = alone_above low middle (n / 32) k.middle_of alone_low in
     let in_low : n / 32 < length low = block_there ms low n k.low_of lt in
@@ -251,7 +249,7 @@ kept_alone ms low middle high count n r before due k lt was sum one =
       low_of = AreLeast-alone ms low n due k.low_of lt alone;
       middle_of = AreLeast-alone low middle (n / 32) due k.middle_of in_low alone_low;
       high_of = AreLeast-alone middle high (n / 32 / 32) due k.high_of (block_there low middle (n / 32) k.middle_of in_low) alone_middle;
-      counted = let counted = k.counted in let put = count_put ms n before due lt read in omega (arith, counted, sum, put);
+      counted = let counted = k.counted in let put = count_put ms n before due lt was in omega (arith, counted, sum, put);
       small = let small = k.small in omega (arith, length-set ms n due);
       few_low = let few = k.few_low in omega (arith, length-set low (n / 32) due);
       few_middle = let few = k.few_middle in omega (arith, length-set middle (n / 32 / 32) due);

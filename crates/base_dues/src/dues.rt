@@ -3,8 +3,9 @@ ghost use Rattle.std.specs.Prelude.{◌≡◌, ℕ, ◌+◌, ◌<◌, ◌≤◌,
 ghost use Rattle.base_dues.specs.Pairs.{at, with_due, without, least_by, IsFirstBy, IsQueue};
 
 use crate::least::{
-    add_block, first_below, first_of_all, is_alone, least_of_all, moment_of, only_by, put, recount,
+    add_block, first_below, first_of_all, is_alone, least_of_all, only_by, put, recount,
 };
+use crate::moments::Moments;
 use std::alloc::{AllocError, Global};
 use std::marker::Model;
 
@@ -12,11 +13,11 @@ use std::marker::Model;
 /// a moment and a number in rising order, by moment and then by number, with each number at most once, and its room: numbers
 /// below it are put in without memory.
 pub struct Dues {
-    moments: Vec<Option<u64>>,
+    moments: Moments,
     // The least moment of each block of 32 numbers, of each 32 of these blocks, and of each 32 of those.
-    low: Vec<Option<u64>>,
-    middle: Vec<Option<u64>>,
-    high: Vec<Option<u64>>,
+    low: Moments,
+    middle: Moments,
+    high: Moments,
     count: usize,
     // The number that last was the only one to have a moment.
     only: u32,
@@ -43,9 +44,9 @@ impl Model for Dues {
 
     ghost Value = { Queue };
 
-    ghost view = { λ d. record { pairs = listed d.moments.items; room = length d.moments.items } };
+    ghost view = { λ d. record { pairs = listed d.moments; room = length d.moments } };
 
-    ghost invariant = { λ d. IsKept d.moments.items d.low.items d.middle.items d.high.items d.count };
+    ghost invariant = { λ d. IsKept d.moments d.low d.middle d.high d.count };
 }
 
 impl Dues {
@@ -55,10 +56,10 @@ impl Dues {
         ensures room { result.room ≡ 0 }
     {
         Dues {
-            moments: Vec::new(alloc),
-            low: Vec::new(alloc),
-            middle: Vec::new(alloc),
-            high: Vec::new(alloc),
+            moments: Moments::new(alloc),
+            low: Moments::new(alloc),
+            middle: Moments::new(alloc),
+            high: Moments::new(alloc),
             count: 0,
             only: 0,
         }
@@ -74,7 +75,7 @@ impl Dues {
         add_block(&self.middle, &mut self.high)?;
         add_block(&self.low, &mut self.middle)?;
         add_block(&self.moments, &mut self.low)?;
-        self.moments.push(None)?;
+        self.moments.push_none()?;
         Ok(())
     }
 
@@ -108,21 +109,21 @@ impl Dues {
         ensures room { self.new.room ≡ self.old.room }
     {
         let place = number as usize;
-        self.count = recount(self.count, self.moments[place], due);
+        self.count = recount(self.count, self.moments.get(place), due);
         let block = place / 32;
         let group = block / 32;
         if is_alone(self.count, due) {
-            self.moments[place] = due;
-            self.low[block] = due;
-            self.middle[group] = due;
-            self.high[group / 32] = due;
+            self.moments.set(place, due);
+            self.low.set(block, due);
+            self.middle.set(group, due);
+            self.high.set(group / 32, due);
             self.only = number;
             return;
         }
         let low = put(&mut self.moments, &self.low, place, due);
         let middle = put(&mut self.low, &self.middle, block, low);
         let high = put(&mut self.middle, &self.high, group, middle);
-        self.high[group / 32] = high;
+        self.high.set(group / 32, high);
     }
 
     /// Gives a number this moment, whatever it had. It takes no memory.
@@ -151,7 +152,7 @@ impl Dues {
     pub fn get(&self, number: u32) -> Option<u64>
         ensures { result ≡ at self.now.pairs number }
     {
-        moment_of(&self.moments, number as usize)
+        self.moments.get(number as usize)
     }
 
     /// The least pair: the least moment, and the least number with it.
@@ -169,7 +170,7 @@ impl Dues {
         ensures each { IsFirstBy moment (at self.now.pairs) result }
     {
         if self.count == 1 {
-            if let Some(due) = moment_of(&self.moments, self.only as usize) {
+            if let Some(due) = self.moments.get(self.only as usize) {
                 return only_by(self.only, due, moment);
             }
         }

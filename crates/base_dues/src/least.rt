@@ -4,18 +4,8 @@ ghost use Rattle.std.specs.Bool.{OnTrue};
 ghost use Rattle.base_dues.specs.Pairs.{is_by, IsFirstBy};
 ghost use Rattle.base_dues.specs.Least.{sooner, IsLeast, AreLeast, IsFirstWithin};
 
+use crate::moments::Moments;
 use std::alloc::AllocError;
-
-// The moment of a number; past the end of the list there is none.
-pub(crate) fn moment_of(moments: &[Option<u64>], number: usize) -> Option<u64>
-    ensures { result ≡ slice_index_or moments.now number None }
-{
-    if number < moments.len() {
-        moments[number]
-    } else {
-        None
-    }
-}
 
 // The lesser of two moments, where there are any.
 fn sooner(one: Option<u64>, other: Option<u64>) -> Option<u64>
@@ -39,24 +29,24 @@ fn is_by(due: Option<u64>, moment: u64) -> bool
 }
 
 // The least moment of the numbers from one on and below another.
-pub(crate) fn least_in(moments: &[Option<u64>], from: usize, to: usize) -> Option<u64>
+pub(crate) fn least_in(moments: &Moments, from: usize, to: usize) -> Option<u64>
     requires { from ≤ to }
     ensures { IsLeast moments.now from to result }
 {
     let mut least = None;
     for number in from..to {
-        least = sooner(least, moment_of(moments, number));
+        least = sooner(least, moments.get(number));
     }
     least
 }
 
 // The first number from one on and below another whose moment is at most this one.
-fn first_by(moments: &[Option<u64>], from: usize, to: usize, moment: u64) -> Option<usize>
+fn first_by(moments: &Moments, from: usize, to: usize, moment: u64) -> Option<usize>
     requires { from ≤ to }
     ensures { IsFirstWithin moments.now from to moment result }
 {
     for number in from..to {
-        if is_by(moment_of(moments, number), moment) {
+        if is_by(moments.get(number), moment) {
             return Some(number);
         }
     }
@@ -64,7 +54,7 @@ fn first_by(moments: &[Option<u64>], from: usize, to: usize, moment: u64) -> Opt
 }
 
 // The first of these moments that is at most this one.
-pub(crate) fn first_of_all(moments: &[Option<u64>], moment: u64) -> Option<usize>
+pub(crate) fn first_of_all(moments: &Moments, moment: u64) -> Option<usize>
     ensures number { IsFirstBy moment (λ n. slice_index_or moments.now n None) result }
     ensures within { IfSome result (λ n. n < length moments.now) }
 {
@@ -73,8 +63,8 @@ pub(crate) fn first_of_all(moments: &[Option<u64>], moment: u64) -> Option<usize
 
 // The first number whose moment is at most this one, by the first block whose least moment is.
 pub(crate) fn first_below(
-    moments: &[Option<u64>],
-    least: &[Option<u64>],
+    moments: &Moments,
+    least: &Moments,
     moment: u64,
     found: Option<usize>,
 ) -> Option<usize>
@@ -92,7 +82,7 @@ pub(crate) fn first_below(
 }
 
 // The least of these moments.
-pub(crate) fn least_of_all(least: &[Option<u64>]) -> Option<u64>
+pub(crate) fn least_of_all(least: &Moments) -> Option<u64>
     ensures { IsLeast least.now 0 (length least.now) result }
 {
     least_in(least, 0, least.len())
@@ -122,22 +112,22 @@ fn is_later(due: Option<u64>, least: Option<u64>) -> bool
 // Gives a number another moment, or none. The least moment of its block is told. The block is looked through only where the
 // moment before was the least one and the new one is later.
 pub(crate) fn put(
-    moments: &mut Vec<Option<u64>>,
-    least: &[Option<u64>],
+    moments: &mut Moments,
+    least: &Moments,
     number: usize,
     due: Option<u64>,
 ) -> Option<u64>
-    requires within { number < length moments.old.items }
-    requires tells { AreLeast moments.old.items least.now }
-    requires small { length moments.old.items ≤ 4294967296 }
-    ensures moments { moments.new.items ≡ slice_set moments.old.items number due }
+    requires within { number < length moments.old }
+    requires tells { AreLeast moments.old least.now }
+    requires small { length moments.old ≤ 4294967296 }
+    ensures moments { moments.new ≡ slice_set moments.old number due }
     ensures block { number / 32 < length least.now }
-    ensures tells { AreLeast moments.new.items (slice_set least.now (number / 32) result) }
+    ensures tells { AreLeast moments.new (slice_set least.now (number / 32) result) }
 {
     let block = number / 32;
-    let before = moments[number];
-    moments[number] = due;
-    let was = moment_of(least, block);
+    let before = moments.get(number);
+    moments.set(number, due);
+    let was = least.get(block);
     if is_no_later(due, before) {
         return sooner(was, due);
     }
@@ -148,23 +138,20 @@ pub(crate) fn put(
 }
 
 // Adds a block for one number more, where the last one is full.
-pub(crate) fn add_block(
-    moments: &[Option<u64>],
-    least: &mut Vec<Option<u64>>,
-) -> Result<(), AllocError>
-    requires tells { AreLeast moments.now least.old.items }
-    requires few { length least.old.items ≤ 4294967296 }
+pub(crate) fn add_block(moments: &Moments, least: &mut Moments) -> Result<(), AllocError>
+    requires tells { AreLeast moments.now least.old }
+    requires few { length least.old ≤ 4294967296 }
     requires small { length moments.now ≤ 4294967296 }
-    ensures tells { AreLeast moments.now least.new.items }
-    ensures few { length least.new.items ≤ 4294967296 }
-    ensures above { (above : List (Option ℕ)) → AreLeast least.old.items above → length least.old.items < 32 * length above
-        → AreLeast least.new.items above }
-    ensures ok { OnOk result (length moments.now < 32 * length least.new.items) }
+    ensures tells { AreLeast moments.now least.new }
+    ensures few { length least.new ≤ 4294967296 }
+    ensures above { (above : List (Option ℕ)) → AreLeast least.old above → length least.old < 32 * length above
+        → AreLeast least.new above }
+    ensures ok { OnOk result (length moments.now < 32 * length least.new) }
 {
     if moments.len() < 32 * least.len() {
         return Ok(());
     }
-    least.push(None)?;
+    least.push_none()?;
     Ok(())
 }
 

@@ -6,6 +6,7 @@
 mod dues;
 mod laws;
 mod least;
+mod moments;
 
 pub use dues::Dues;
 pub use laws::dues_are_one;

@@ -15,7 +15,8 @@ pub struct Task {
     pub scope: u32,
     /// The scope that its step opened; None before the step was entered, and at steps that open none.
     pub step_scope: Option<u32>,
-    pub phase: Phase,
+    // (Before the phase: behind its moment of eight bytes this would take eight.)
     /// Whether it has gone to the playbook's `workflow_exception`.
     pub excepted: bool,
+    pub phase: Phase,
 }

@@ -7,4 +7,4 @@ loop-number-init c = IsLeast-none c.args.moments.now c.args.from c.args.from (om
 
 pub loop-number-preserved : goal.loop-number-preserved
 loop-number-preserved c =
-    rw (c.sooner-least.ensures, c.moment_of.ensures) (IsLeast-more c.args.moments.now c.args.from c.loop-number.number c.loop-number.least c.loop-number.auto.number c.loop-number.invariant)
+    rw (c.sooner-least.ensures, c.get.ensures) (IsLeast-more c.args.moments.now c.args.from c.loop-number.number c.loop-number.least c.loop-number.auto.number c.loop-number.invariant)

@@ -1,4 +1,4 @@
-use Rattle.std.proofs.Common.{◌≡◌, ℕ, ◌<◌, List, Option, cond, length, set, refl, sym, subst, ap, ◌∙◌}
+use Rattle.std.proofs.Common.{◌≡◌, ℕ, ◌<◌, List, Option, cond, length, set, sym, subst, ap, ◌∙◌}
 use Rattle.std.specs.Prelude.{◌==◌}
 use Rattle.base_dues.specs.Pairs.{Queue, at, IsQueue, listed}
 use Rattle.base_dues.proofs.ListedLemmas.{IsQueue-listed, at_put}
@@ -18,24 +18,24 @@ inside_of ms q n v lt = subst (λ (q : Queue). n < q.room) (sym v) lt
 
 pub invariant_of-self : goal.invariant_of-self
 invariant_of-self c =
-    kept_alone c.self.inside.moments.items c.self.inside.low.items c.self.inside.middle.items c.self.inside.high.items c.self.inside.count c.args.number c.recount-self-inside.result c.index.result.now c.args.due
-    c.self.invariant (inside_of c.self.inside.moments.items c.args.self.now c.args.number c.self.view_is c.requires) c.index.ensures c.recount-self-inside.ensures c.if-is_alone.ensures
+    rw c.set.ensures (rw c.set-then-is_alone.ensures (rw c.set-then-is_alone-2.ensures (rw c.set-then-is_alone-3.ensures
+    (kept_alone c.self.inside.moments c.self.inside.low c.self.inside.middle c.self.inside.high c.self.inside.count c.args.number c.recount-self-inside.result c.get.result c.args.due
+    c.self.invariant (inside_of c.self.inside.moments c.args.self.now c.args.number c.self.view_is c.requires) c.get.ensures c.recount-self-inside.ensures c.if-is_alone.ensures))))
 
 pub returns-then-is_alone-clause-each : goal.returns-then-is_alone-clause-each
-returns-then-is_alone-clause-each c =
-    each_of c.self.inside.moments.items (set c.self.inside.moments.items c.args.number c.args.due) c.args.self.now c.args.number c.args.due refl c.self.view_is c.requires
+returns-then-is_alone-clause-each c = each_of c.self.inside.moments c.set.new.self c.args.self.now c.args.number c.args.due c.set.ensures c.self.view_is c.requires
 
 pub returns-then-is_alone-clause-queue : goal.returns-then-is_alone-clause-queue
-returns-then-is_alone-clause-queue c = IsQueue-listed (set c.self.inside.moments.items c.args.number c.args.due)
+returns-then-is_alone-clause-queue c = IsQueue-listed c.set.new.self
 
 pub returns-then-is_alone-clause-was : goal.returns-then-is_alone-clause-was
-returns-then-is_alone-clause-was c = subst (λ (q : Queue). IsQueue q.pairs) c.self.view_is (IsQueue-listed c.self.inside.moments.items)
+returns-then-is_alone-clause-was c = subst (λ (q : Queue). IsQueue q.pairs) c.self.view_is (IsQueue-listed c.self.inside.moments)
 
 pub returns-clause-each : goal.returns-clause-each
-returns-clause-each c = each_of c.self.inside.moments.items c.put-low.new.moments.items c.args.self.now c.args.number c.args.due c.put-low.ensures.moments c.self.view_is c.requires
+returns-clause-each c = each_of c.self.inside.moments c.put-low.new.moments c.args.self.now c.args.number c.args.due c.put-low.ensures.moments c.self.view_is c.requires
 
 pub returns-clause-queue : goal.returns-clause-queue
-returns-clause-queue c = IsQueue-listed c.put-low.new.moments.items
+returns-clause-queue c = IsQueue-listed c.put-low.new.moments
 
 pub returns-clause-was : goal.returns-clause-was
-returns-clause-was c = subst (λ (q : Queue). IsQueue q.pairs) c.self.view_is (IsQueue-listed c.self.inside.moments.items)
+returns-clause-was c = subst (λ (q : Queue). IsQueue q.pairs) c.self.view_is (IsQueue-listed c.self.inside.moments)
