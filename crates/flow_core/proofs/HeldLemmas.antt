@@ -28,7 +28,7 @@ inner : {A : Type 0} (a b : A) → Some a ≡ Some b → a ≡ b
 inner a b h = cc
 
 -- a run that has begun is well
-pub is_well : (f : Inside) → IsSound f → (f.count ≡ 0 → ⊥) → IsRunnable f.run.setup → length f.run.tables.scopes.items ≤ 200_000_001 → IsWell f.run
+pub is_well : (f : Inside) → IsSound f → (f.count ≡ 0 → ⊥) → IsRunnable f.run.setup → length f.run.tables.opened.scopes ≤ 200_000_001 → IsWell f.run
 is_well f s apart runnable scopes =
     let few = s.few in
     let issues = s.sizes.issues in

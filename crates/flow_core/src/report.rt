@@ -220,9 +220,9 @@ fn add_head(run: &Run, out: &mut Vec<u8>, count: u32) -> Result<(), AllocError>
 
 /// Adds the lines of the variables of the first playbook.
 fn add_first_variables(run: &Run, alloc: Global, out: &mut Vec<u8>) -> Result<(), AllocError>
-    ensures { OnOk result (out.new.items ≡ out.old.items ++ variable_lines (unwrap_or (slice_get run.now.tables.texts.items 0) [])) }
+    ensures { OnOk result (out.new.items ≡ out.old.items ++ variable_lines (unwrap_or (slice_get run.now.tables.opened.texts 0) [])) }
 {
-    match run.tables.texts.first() {
+    match run.tables.opened.texts(0) {
         Some(texts) => add_variables(alloc, out, texts.as_map()),
         None => Ok(()),
     }

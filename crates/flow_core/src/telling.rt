@@ -118,6 +118,9 @@ impl Flow {
         requires { scope < length self.now.seen.lists.scopes }
         ensures { slice_get self.now.seen.lists.texts scope ≡ Some result.now.entries }
     {
-        self.run.tables.texts[scope as usize].as_map()
+        match self.run.tables.opened.texts(scope) {
+            Some(texts) => texts.as_map(),
+            None => unreachable!(),
+        }
     }
 }

@@ -39,12 +39,12 @@ pub stands_here : (r : Run) (now t : ℕ) (stand : Stand) → Some (here_of (sho
 stands_here r now t stand e = from_task r now t stand (slice_get r.tables.tasks.items t) refl e
 
 -- the scopes of a task are open
-pub scope_there : (r : Run) (stand : Stand) → IsWell r → Stands r stand → stand.task.scope < length r.tables.scopes.items
+pub scope_there : (r : Run) (stand : Stand) → IsWell r → Stands r stand → stand.task.scope < length r.tables.opened.scopes
 scope_there r stand well st = (well.sane.tasks stand.number stand.task st.task_is).scope
 
-pub step_scope_there : (r : Run) (stand : Stand) (scope : ℕ) → IsWell r → Stands r stand → stand.task.step_scope ≡ Some scope → scope < length r.tables.scopes.items
+pub step_scope_there : (r : Run) (stand : Stand) (scope : ℕ) → IsWell r → Stands r stand → stand.task.step_scope ≡ Some scope → scope < length r.tables.opened.scopes
 step_scope_there r stand scope well st is =
-    subst (λ (o : Option ℕ). IfSome o (λ n. n < length r.tables.scopes.items)) is (well.sane.tasks stand.number stand.task st.task_is).step_scope
+    subst (λ (o : Option ℕ). IfSome o (λ n. n < length r.tables.opened.scopes)) is (well.sane.tasks stand.number stand.task st.task_is).step_scope
 
-pub root_scope_there : (r : Run) (t : ℕ) (task : Task) → IsWell r → Some task ≡ slice_get r.tables.tasks.items t → task.scope < length r.tables.scopes.items
+pub root_scope_there : (r : Run) (t : ℕ) (task : Task) → IsWell r → Some task ≡ slice_get r.tables.tasks.items t → task.scope < length r.tables.opened.scopes
 root_scope_there r t task well is = (well.sane.tasks t task (sym is)).scope

@@ -33,4 +33,4 @@ waiting_of s awaited = record {
 -- the task of the issue stands there, and so does the scope of its step
 pub record WaitsThere (r : Run) (awaited : Awaited) : Type 0 where
   pub stands : StandsThere r awaited.stand
-  pub scope_is : awaited.scope < length r.tables.scopes.items
+  pub scope_is : awaited.scope < length r.tables.opened.scopes

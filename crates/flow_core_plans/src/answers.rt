@@ -155,7 +155,7 @@ fn write_first<'n>(
     text: Option<Word>,
 ) -> Result<&'n [Name], AllocError>
     requires well { IsWell run.now }
-    requires there { scope < length run.now.tables.scopes.items }
+    requires there { scope < length run.now.tables.opened.scopes }
     ensures edits { OnOk result (Adds plan.old.items plan.new.items (flat_map (written (lists_of run.now.tables) scope) (paired names.now (text ∷ [])))) }
     ensures others { IfOk result (λ others. others.now ≡ drop 1 names.now) }
 {

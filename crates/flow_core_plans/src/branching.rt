@@ -32,10 +32,10 @@ pub(crate) fn opened(alloc: Global, parent: Option<u32>, vars: &Vars) -> Result<
 // The number of the next scope.
 pub(crate) fn next_scope(run: &Run) -> u32
     requires { IsWell run.now }
-    ensures number { result ≡ length run.now.tables.scopes.items }
+    ensures number { result ≡ length run.now.tables.opened.scopes }
     ensures within { result < 4_294_967_295 }
 {
-    run.tables.scopes.len() as u32
+    run.tables.opened.len() as u32
 }
 
 // The number of the next task.

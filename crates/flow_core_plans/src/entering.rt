@@ -52,7 +52,7 @@ fn bind_seen(
     name: &Name,
 ) -> Result<(), AllocError>
     requires well { IsWell run.now }
-    requires scope { sight.scope < length run.now.tables.scopes.items }
+    requires scope { sight.scope < length run.now.tables.opened.scopes }
     ensures { OnOk result (Adds edits.old.items edits.new.items (binding scope (name.now, value_shown (lists_seen run.now sight.entry) (scope_seen run.now sight.entry) name.now))) }
 {
     let text = copy_of(run.value(sight, name))?;
@@ -69,7 +69,7 @@ fn bind_all(
     names: &[Name],
 ) -> Result<(), AllocError>
     requires well { IsWell run.now }
-    requires scope { sight.scope < length run.now.tables.scopes.items }
+    requires scope { sight.scope < length run.now.tables.opened.scopes }
     ensures { OnOk result (Adds edits.old.items edits.new.items (flat_map (binding scope) (valued (lists_seen run.now sight.entry) (scope_seen run.now sight.entry) names.now))) }
 {
     for name in names {

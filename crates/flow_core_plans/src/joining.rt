@@ -41,8 +41,8 @@ fn write_seen(
     name: &Name,
 ) -> Result<(), AllocError>
     requires well { IsWell run.now }
-    requires from { from < length run.now.tables.scopes.items }
-    requires scope { scope < length run.now.tables.scopes.items }
+    requires from { from < length run.now.tables.opened.scopes }
+    requires scope { scope < length run.now.tables.opened.scopes }
     ensures { OnOk result (Adds edits.old.items edits.new.items (written (lists_of run.now.tables) scope (name.now, value_shown (lists_of run.now.tables) from name.now))) }
 {
     let sight = Sight {
@@ -63,8 +63,8 @@ fn write_all(
     names: &[Name],
 ) -> Result<(), AllocError>
     requires well { IsWell run.now }
-    requires from { from < length run.now.tables.scopes.items }
-    requires scope { scope < length run.now.tables.scopes.items }
+    requires from { from < length run.now.tables.opened.scopes }
+    requires scope { scope < length run.now.tables.opened.scopes }
     ensures { OnOk result (Adds edits.old.items edits.new.items (flat_map (written (lists_of run.now.tables) scope) (valued (lists_of run.now.tables) from names.now))) }
 {
     for name in names {
@@ -83,7 +83,7 @@ fn write_back(
     names: &[Name],
 ) -> Result<(), AllocError>
     requires well { IsWell run.now }
-    requires scope { scope < length run.now.tables.scopes.items }
+    requires scope { scope < length run.now.tables.opened.scopes }
     ensures { OnOk result (Adds edits.old.items edits.new.items (wanted (lists_of run.now.tables) from scope names.now)) }
 {
     let Some(root) = run.task(from) else {
@@ -103,7 +103,7 @@ fn rejoin_call(
     out_args: &[Name],
 ) -> Result<Vec<Planned>, AllocError>
     requires well { IsWell run.now }
-    requires scope { scope < length run.now.tables.scopes.items }
+    requires scope { scope < length run.now.tables.opened.scopes }
     ensures { IfOk result (λ plan. IsPlan plan.items (returning (here_of (shown_of run.now) stand.entry) from scope out_args.now)) }
 {
     let mut edits = Vec::new(alloc);
@@ -122,7 +122,7 @@ fn rejoin_while(
 ) -> Result<Vec<Planned>, AllocError>
     requires well { IsWell run.now }
     requires stands { Stands run.now stand }
-    requires scope { scope < length run.now.tables.scopes.items }
+    requires scope { scope < length run.now.tables.opened.scopes }
     ensures { IfOk result (λ plan. IsPlan plan.items (turning (here_of (shown_of run.now) stand.entry) scope (condition_in stand.entry.step.now.kind) on_true.now)) }
 {
     let sight = Sight {
@@ -147,7 +147,7 @@ fn rejoin(
 ) -> Result<Vec<Planned>, AllocError>
     requires well { IsWell run.now }
     requires stands { Stands run.now stand }
-    requires scope { scope < length run.now.tables.scopes.items }
+    requires scope { scope < length run.now.tables.opened.scopes }
     ensures { IfOk result (λ plan. IsPlan plan.items (rejoined (here_of (shown_of run.now) stand.entry) from scope stand.entry.step.now.kind)) }
 {
     match &stand.step.kind {
@@ -170,7 +170,7 @@ fn joined(
     requires well { IsWell run.now }
     requires stands { Stands run.now stand }
     requires joins { stand.task.phase ≡ phase.Joining from }
-    requires scope { scope < length run.now.tables.scopes.items }
+    requires scope { scope < length run.now.tables.opened.scopes }
     ensures edits { let h = here_of (shown_of run.now) stand.entry in
         IfOk result (λ o. option_map (λ plan. edits_of plan.items) o ≡ joined h from scope (children h.seen.lists h.number from)) }
     ensures declared { IfOk result (λ o. IfSome o (λ plan. AreDeclared plan.items)) }

@@ -47,7 +47,7 @@ pub(crate) fn write(
     text: Option<Word>,
 ) -> Result<(), AllocError>
     requires well { IsWell run.now }
-    requires scope { scope < length run.now.tables.scopes.items }
+    requires scope { scope < length run.now.tables.opened.scopes }
     ensures { OnOk result (Adds edits.old.items edits.new.items (written (lists_of run.now.tables) scope (name.now, text))) }
 {
     let Some(worth) = text else {

@@ -3,6 +3,7 @@ pub mod DeclaredLemmas
 pub mod EntryLemmas
 pub mod IssueEdits
 pub mod MoveEdits
+pub mod OpenedLemmas
 pub mod PlanLemmas
 pub mod PresentLemmas
 pub mod TableLemmas

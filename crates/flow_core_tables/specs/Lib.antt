@@ -1,4 +1,6 @@
 pub mod Fits
+pub mod Opened
+pub mod OpenedView
 pub mod Planned
 pub mod Present
 pub mod TableFacts

@@ -18,8 +18,8 @@ abbrev pub lists_of : Tables → Lists
 lists_of t = record {
   is_upgraded = t.is_upgraded;
   tasks = t.tasks.items;
-  scopes = t.scopes.items;
-  texts = t.texts.items;
+  scopes = t.opened.scopes;
+  texts = t.opened.texts;
   issues = t.issues.items;
 }
 
@@ -85,8 +85,7 @@ pub record HasTables (s : Shown) (t : Tables) : Type 0 where
 pub record HasRoom (more : ℕ) (t : Tables) : Type 0 where
   pub tasks : vec_len t.tasks + more ≤ vec_capacity t.tasks
   pub waits : vec_len t.waits + more ≤ vec_capacity t.waits
-  pub scopes : vec_len t.scopes + more ≤ vec_capacity t.scopes
-  pub texts : vec_len t.texts + more ≤ vec_capacity t.texts
+  pub scopes : length t.opened.scopes + more ≤ t.opened.room
   pub issues : vec_len t.issues + more ≤ vec_capacity t.issues
   pub ready : vec_len t.tasks + more ≤ t.ready.room
   pub delays : vec_len t.tasks + more ≤ t.delays.room

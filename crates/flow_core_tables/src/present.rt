@@ -1,5 +1,5 @@
 // The present texts of the names of a scope.
-ghost use Rattle.std.specs.Prelude.{◌≡◌, IfOk, OnOk};
+ghost use Rattle.std.specs.Prelude.{◌≡◌, [], IfOk, OnOk};
 ghost use Rattle.std.specs.BTreeMap.{insert_entry};
 ghost use Rattle.std.specs.Option.{option_copied};
 ghost use Rattle.std.specs.Cmp.Lexicographic.{slice_cmp};
@@ -52,6 +52,15 @@ fn add_declared(map: &mut BTreeMap<Name, Option<Word>>, var: &Var) -> Result<(),
 }
 
 impl Present {
+    /// The texts of a scope that declares no name. It takes no memory.
+    pub(crate) fn none(alloc: Global) -> Present
+        ensures { result ≡ [] }
+    {
+        Present {
+            map: BTreeMap::new(alloc),
+        }
+    }
+
     /// The declared texts.
     pub fn declared(alloc: Global, vars: &Vars) -> Result<Present, AllocError>
         ensures { IfOk result (λ p. p ≡ declared_texts vars.now) }

@@ -6,10 +6,9 @@ ghost use Rattle.flow_core_tables.specs.Planned.{edit_of, edits_of, IsDeclared, 
 ghost use Rattle.flow_core_tables.specs.Fits.{Fits, AllFit};
 ghost use Rattle.flow_core_tables.specs.TableFacts.{blank_lists, lists_of, seen_with, HasTables, HasRoom, IsSmall};
 
+use crate::opened::Opened;
 use crate::planned::Planned;
-use crate::present::Present;
 use base_dues::Dues;
-use cacao_vars::Scope;
 use flow_core_rules::{Issue, Task};
 use flow_core_setup::Setup;
 use std::alloc::{AllocError, Global};
@@ -27,9 +26,8 @@ pub struct Tables {
     pub tasks: Vec<Task>,
     /// One for each task.
     pub waits: Vec<Wait>,
-    pub scopes: Vec<Scope>,
-    /// The texts of each scope.
-    pub texts: Vec<Present>,
+    /// The scopes, and the texts of each.
+    pub opened: Opened,
     pub issues: Vec<Issue>,
     /// The tasks that can go on, each with the moment from which it can.
     pub ready: Dues,
@@ -48,8 +46,7 @@ impl Drop for Tables {
             is_upgraded: _,
             tasks: _,
             waits: _,
-            scopes: _,
-            texts: _,
+            opened: _,
             issues: _,
             ready: _,
             delays: _,
@@ -69,8 +66,7 @@ impl Tables {
             is_upgraded: false,
             tasks: Vec::new(alloc),
             waits: Vec::new(alloc),
-            scopes: Vec::new(alloc),
-            texts: Vec::new(alloc),
+            opened: Opened::new(alloc),
             issues: Vec::new(alloc),
             ready: Dues::new(alloc),
             delays: Dues::new(alloc),
@@ -92,8 +88,7 @@ impl Tables {
         let count = more as usize;
         self.tasks.reserve(count)?;
         self.waits.reserve(count)?;
-        self.scopes.reserve(count)?;
-        self.texts.reserve(count)?;
+        self.opened.reserve(more)?;
         self.issues.reserve(count)?;
         let tasks = self.tasks.len() as u32 + more;
         let issues = self.issues.len() as u32 + more;

@@ -23,19 +23,18 @@ impl Tables {
             → HasTables (seen_with given (lists_of self.new)) self.new }
         ensures room { (k : ℕ) → HasRoom (suc k) self.old → HasRoom k self.new }
     {
-        add(&mut self.scopes, scope);
-        add(&mut self.texts, texts);
+        self.opened.push(scope, texts);
     }
 
     // Writes a text to a name of a scope.
     pub(crate) fn write(&mut self, scope: u32, name: &Name, worth: Word)
-        requires within { scope < length self.old.texts.items }
+        requires within { scope < length self.old.opened.texts }
         ensures lists { lists_of self.new ≡ shown_edited (writes scope name.now worth) (lists_of self.old) }
         ensures tables { (given : Given) → HasTables (seen_with given (lists_of self.old)) self.old
             → HasTables (seen_with given (lists_of self.new)) self.new }
         ensures room { (k : ℕ) → HasRoom (suc k) self.old → HasRoom k self.new }
     {
-        self.texts[scope as usize].write(name, worth);
+        self.opened.write(scope, name, worth);
     }
 
     // Makes a task.

@@ -31,7 +31,7 @@ stands_there r now t (Some stand) sane e = by (slice_get r.tables.tasks.items t)
         let same_step : stand.step.now ≡ step = ap (λ (h : Here). h.step) same in
         record {
           step_is = ap (λ (one : Task). step_at r.setup one.book one.step) same_task ∙ f ∙ ap (λ (one : Step). Some one) (sym same_step);
-          scope_is = subst (λ (one : Task). IfSome one.step_scope (λ n. n < length r.tables.scopes.items)) (sym same_task) (sane.tasks t task is).step_scope;
+          scope_is = subst (λ (one : Task). IfSome one.step_scope (λ n. n < length r.tables.opened.scopes)) (sym same_task) (sane.tasks t task is).step_scope;
         }
 
     by : (o : Option Task) → slice_get r.tables.tasks.items t ≡ o

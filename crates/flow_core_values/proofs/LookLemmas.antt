@@ -16,10 +16,10 @@ use Rattle.flow_core_values.proofs.HomeLemmas.{parents_before, home_around}
 
 -- ---- homes, seen from a scope that is opened inside another one
 
-pub outer_home : (r : Run) (vars : List Var) (scope : ℕ) (name : List ℕ) → IsWell r → scope < length r.tables.scopes.items → is_some (declared vars name) ≡ false
-    → home (lists_in (lists_of r.tables) (Some vars) scope).scopes (length r.tables.scopes.items) name ≡ home r.tables.scopes.items scope name
+pub outer_home : (r : Run) (vars : List Var) (scope : ℕ) (name : List ℕ) → IsWell r → scope < length r.tables.opened.scopes → is_some (declared vars name) ≡ false
+    → home (lists_in (lists_of r.tables) (Some vars) scope).scopes (length r.tables.opened.scopes) name ≡ home r.tables.opened.scopes scope name
 outer_home r vars scope name well lt e =
-    home_around r.tables.scopes.items (record { parent = Some scope; vars = vars }) (parents_before (shown_of r) well.sane) lt name scope refl lt e
+    home_around r.tables.opened.scopes (record { parent = Some scope; vars = vars }) (parents_before (shown_of r) well.sane) lt name scope refl lt e
 
 -- ---- declarations
 

@@ -12,4 +12,4 @@ pub record Stands (r : Run) (stand : Stand) : Type 0 where
 -- the task stands at this step, and the scope of the step is there
 pub record StandsThere (r : Run) (stand : Stand) : Type 0 where
   pub step_is : step_at r.setup stand.task.book stand.task.step ≡ Some stand.step.now
-  pub scope_is : IfSome stand.task.step_scope (λ n. n < length r.tables.scopes.items)
+  pub scope_is : IfSome stand.task.step_scope (λ n. n < length r.tables.opened.scopes)

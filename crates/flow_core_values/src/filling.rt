@@ -29,7 +29,7 @@ impl Run {
     // Adds the text of a name; nothing where it has none.
     fn add_value(&self, made: &mut String, scope: u32, name: &Name) -> Result<(), AllocError>
         requires well { IsWell self.now }
-        requires there { scope < length self.now.tables.scopes.items }
+        requires there { scope < length self.now.tables.opened.scopes }
         ensures { OnOk result (string_bytes made.new ≡ string_bytes made.old ++ text_at (lists_of self.now.tables) scope name.now) }
     {
         let sight = Sight {
@@ -46,7 +46,7 @@ impl Run {
     /// The text in which each reference is replaced by the text of its name.
     pub fn replaced(&self, alloc: Global, scope: u32, phrase: &Phrase) -> Result<String, AllocError>
         requires well { IsWell self.now }
-        requires there { scope < length self.now.tables.scopes.items }
+        requires there { scope < length self.now.tables.opened.scopes }
         ensures { IfOk result (λ made. string_bytes made ≡ replaced (lists_of self.now.tables) scope phrase.now) }
     {
         let (references, rest) = phrase.parts();
@@ -62,7 +62,7 @@ impl Run {
     // The whole number that a name has.
     fn number_of(&self, scope: u32, name: &Name) -> Option<i64>
         requires well { IsWell self.now }
-        requires there { scope < length self.now.tables.scopes.items }
+        requires there { scope < length self.now.tables.opened.scopes }
         ensures { result ≡ number_of (lists_of self.now.tables) scope name.now }
     {
         let sight = Sight {
@@ -81,7 +81,7 @@ impl Run {
     // The whole number that a text stands for that is one whole reference.
     pub(crate) fn whole_number(&self, scope: u32, phrase: &Phrase) -> Option<i64>
         requires well { IsWell self.now }
-        requires there { scope < length self.now.tables.scopes.items }
+        requires there { scope < length self.now.tables.opened.scopes }
         ensures { result ≡ option_and_then (number_of (lists_of self.now.tables) scope) (whole_reference phrase.now) }
     {
         match phrase.whole() {
@@ -93,7 +93,7 @@ impl Run {
     // A string value, filled.
     fn filled_text(&self, alloc: Global, scope: u32, phrase: &Phrase) -> Result<Tree, AllocError>
         requires well { IsWell self.now }
-        requires there { scope < length self.now.tables.scopes.items }
+        requires there { scope < length self.now.tables.opened.scopes }
         ensures { IfOk result (λ tree. data_of tree ≡ filled_string (lists_of self.now.tables) scope phrase.now) }
     {
         match self.whole_number(scope, phrase) {
@@ -109,7 +109,7 @@ impl Run {
     #[cycle(filled)]
     fn filled(&self, alloc: Global, scope: u32, content: &Content) -> Result<Tree, AllocError>
         requires well { IsWell self.now }
-        requires there { scope < length self.now.tables.scopes.items }
+        requires there { scope < length self.now.tables.opened.scopes }
         ensures { IfOk result (λ new. data_of new ≡ filled (lists_of self.now.tables) scope (content_data content.now)) }
     {
         match content {
@@ -134,7 +134,7 @@ impl Run {
     #[cycle(filled)]
     fn filled_items(&self, alloc: Global, scope: u32, items: &Contents) -> Result<Items, AllocError>
         requires well { IsWell self.now }
-        requires there { scope < length self.now.tables.scopes.items }
+        requires there { scope < length self.now.tables.opened.scopes }
         ensures { IfOk result (λ new. new ≡ filled_items (lists_of self.now.tables) scope items.now) }
     {
         let contents = items.as_slice();
@@ -153,7 +153,7 @@ impl Run {
         entries: &Entries,
     ) -> Result<Pairs, AllocError>
         requires well { IsWell self.now }
-        requires there { scope < length self.now.tables.scopes.items }
+        requires there { scope < length self.now.tables.opened.scopes }
         ensures { IfOk result (λ new. new ≡ filled_members (lists_of self.now.tables) scope entries.now) }
     {
         let members = entries.as_slice();
@@ -169,7 +169,7 @@ impl Run {
     /// The bytes of the command with this content, for the next issue.
     pub fn fill(&self, alloc: Global, content: &Content, scope: u32) -> Result<Bytes, AllocError>
         requires well { IsWell self.now }
-        requires there { scope < length self.now.tables.scopes.items }
+        requires there { scope < length self.now.tables.opened.scopes }
         ensures { IfOk result (λ bytes. bytes ≡ canon (addressed self.now.number (length self.now.tables.issues.items)
             (filled (lists_of self.now.tables) scope (content_data content.now)))) }
     {

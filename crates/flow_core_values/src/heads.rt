@@ -61,7 +61,7 @@ impl Run {
     // The text of a switch's subject, which is a name and `:value`.
     fn subject_text<'a>(&'a self, sight: Sight<'a>, subject: &Text) -> Option<&'a str>
         requires well { IsWell self.now }
-        requires scope { sight.scope < length self.now.tables.scopes.items }
+        requires scope { sight.scope < length self.now.tables.opened.scopes }
         ensures { option_copied result ≡ value_shown (lists_seen self.now sight.entry) (scope_seen self.now sight.entry) (name_run subject.now) }
     {
         let name = run_of(subject.text().as_bytes());
@@ -75,7 +75,7 @@ impl Run {
     /// takes no memory.
     pub fn head<'a>(&'a self, stand: Stand<'a>, sight: Sight<'a>) -> Option<&'a Text>
         requires well { IsWell self.now }
-        requires scope { sight.scope < length self.now.tables.scopes.items }
+        requires scope { sight.scope < length self.now.tables.opened.scopes }
         requires stands { step_at self.now.setup stand.task.book stand.task.step ≡ Some stand.step.now }
         requires one { HasOneHead stand.step.now.kind }
         ensures { option_to_list (option_copied result) ≡ heads (lists_seen self.now sight.entry) (scope_seen self.now sight.entry) stand.entry.step.now.kind }

@@ -13,7 +13,7 @@ ghost use Rattle.flow_core_tables.specs.TableFacts.{lists_of};
 
 use crate::run::{Run, Sight};
 use cacao_cond::{Atom, value_of};
-use cacao_vars::{Name, Var, Vars, Word, home_of};
+use cacao_vars::{Name, Var, Vars, Word};
 
 // Whether a name is declared.
 fn is_declared(vars: &Vars, name: &[u8]) -> bool
@@ -36,31 +36,31 @@ impl Run {
     // The home of a name once a scope with these declarations is open inside this one.
     fn home_opened(&self, vars: &Vars, scope: u32, name: &[u8]) -> Option<u32>
         requires well { IsWell self.now }
-        requires scope { scope < length self.now.tables.scopes.items }
-        ensures { result ≡ home (lists_in (lists_of self.now.tables) (Some vars.now) scope).scopes (length self.now.tables.scopes.items) name.now }
+        requires scope { scope < length self.now.tables.opened.scopes }
+        ensures { result ≡ home (lists_in (lists_of self.now.tables) (Some vars.now) scope).scopes (length self.now.tables.opened.scopes) name.now }
     {
         if is_declared(vars, name) {
-            return Some(self.tables.scopes.len() as u32);
+            return Some(self.tables.opened.len() as u32);
         }
-        home_of(self.tables.scopes.as_slice(), scope, name)
+        self.tables.opened.home_of(scope, name)
     }
 
     // The home of a name with these bytes.
     fn home_of_bytes(&self, sight: Sight<'_>, name: &[u8]) -> Option<u32>
         requires well { IsWell self.now }
-        requires scope { sight.scope < length self.now.tables.scopes.items }
+        requires scope { sight.scope < length self.now.tables.opened.scopes }
         ensures { result ≡ home (lists_seen self.now sight.entry).scopes (scope_seen self.now sight.entry) name.now }
     {
         match sight.opening {
             Some(vars) => self.home_opened(vars, sight.scope, name),
-            None => home_of(self.tables.scopes.as_slice(), sight.scope, name),
+            None => self.tables.opened.home_of(sight.scope, name),
         }
     }
 
     /// The home of a name as it is seen: the first scope that declares it, along the parents. It takes no memory.
     pub fn home(&self, sight: Sight<'_>, name: &Name) -> Option<u32>
         requires well { IsWell self.now }
-        requires scope { sight.scope < length self.now.tables.scopes.items }
+        requires scope { sight.scope < length self.now.tables.opened.scopes }
         ensures { result ≡ home (lists_seen self.now sight.entry).scopes (scope_seen self.now sight.entry) name.now }
     {
         self.home_of_bytes(sight, name.text().as_bytes())
@@ -68,12 +68,9 @@ impl Run {
 
     // What the scope with this number declares of a name.
     fn declaration_in_scope(&self, at: u32, name: &[u8]) -> Option<&Var>
-        ensures { option_copied result ≡ declaration self.now.tables.scopes.items at name.now }
+        ensures { option_copied result ≡ declaration self.now.tables.opened.scopes at name.now }
     {
-        match self.tables.scopes.get(at as usize) {
-            Some(scope) => scope.vars.find_bytes(name),
-            None => None,
-        }
+        self.tables.opened.declaration(at, name)
     }
 
     // The same once a scope with these declarations is open inside another one.
@@ -86,7 +83,7 @@ impl Run {
     ) -> Option<&'a Var>
         ensures { option_copied result ≡ declaration (lists_in (lists_of self.now.tables) (Some vars.now) scope).scopes at name.now }
     {
-        if at as usize == self.tables.scopes.len() {
+        if at as usize == self.tables.opened.len() {
             return vars.find_bytes(name);
         }
         self.declaration_in_scope(at, name)
@@ -104,9 +101,9 @@ impl Run {
 
     // The present text of a name in the scope with this number.
     fn text_in_scope(&self, at: u32, name: &Name) -> Option<&Word>
-        ensures { option_copied result ≡ option_and_then (λ texts. text_in texts name.now) (slice_get self.now.tables.texts.items at) }
+        ensures { option_copied result ≡ option_and_then (λ texts. text_in texts name.now) (slice_get self.now.tables.opened.texts at) }
     {
-        match self.tables.texts.get(at as usize) {
+        match self.tables.opened.texts(at) {
             Some(texts) => texts.look(name),
             None => None,
         }
@@ -122,7 +119,7 @@ impl Run {
     ) -> Option<&'a Word>
         ensures { option_copied result ≡ option_and_then (λ texts. text_in texts name.now) (slice_get (lists_in (lists_of self.now.tables) (Some vars.now) scope).texts at) }
     {
-        if at as usize == self.tables.texts.len() {
+        if at as usize == self.tables.opened.len() {
             return declared_text(vars, name.text().as_bytes());
         }
         self.text_in_scope(at, name)
@@ -141,7 +138,7 @@ impl Run {
     /// The declaration of a name in its home; None where it has none. It takes no memory.
     pub(crate) fn declaration<'a>(&'a self, sight: Sight<'a>, name: &Name) -> Option<&'a Var>
         requires well { IsWell self.now }
-        requires scope { sight.scope < length self.now.tables.scopes.items }
+        requires scope { sight.scope < length self.now.tables.opened.scopes }
         ensures { option_copied result ≡ home_declaration (lists_seen self.now sight.entry).scopes (scope_seen self.now sight.entry) name.now }
     {
         let at = self.home(sight, name)?;
@@ -151,7 +148,7 @@ impl Run {
     /// The text of a name in its home; None where it is unset, and where it has no home. It takes no memory.
     pub fn value<'a>(&'a self, sight: Sight<'a>, name: &Name) -> Option<&'a Word>
         requires well { IsWell self.now }
-        requires scope { sight.scope < length self.now.tables.scopes.items }
+        requires scope { sight.scope < length self.now.tables.opened.scopes }
         ensures { option_copied result ≡ value_shown (lists_seen self.now sight.entry) (scope_seen self.now sight.entry) name.now }
     {
         let at = self.home(sight, name)?;
@@ -161,7 +158,7 @@ impl Run {
     /// The text of a name with these bytes, likewise. It takes no memory.
     pub(crate) fn value_of_bytes<'a>(&'a self, sight: Sight<'a>, name: &[u8]) -> Option<&'a Word>
         requires well { IsWell self.now }
-        requires scope { sight.scope < length self.now.tables.scopes.items }
+        requires scope { sight.scope < length self.now.tables.opened.scopes }
         ensures { option_copied result ≡ value_shown (lists_seen self.now sight.entry) (scope_seen self.now sight.entry) name.now }
     {
         let at = self.home_of_bytes(sight, name)?;
@@ -172,7 +169,7 @@ impl Run {
     /// The value of a name by the kind that its home declares, as conditions compare it. It takes no memory.
     pub(crate) fn worth<'a>(&'a self, sight: Sight<'a>, name: &Name) -> Atom<'a>
         requires well { IsWell self.now }
-        requires scope { sight.scope < length self.now.tables.scopes.items }
+        requires scope { sight.scope < length self.now.tables.opened.scopes }
         ensures { worth_of result ≡ worth_at (lists_seen self.now sight.entry) (scope_seen self.now sight.entry) name.now }
     {
         let Some(at) = self.home(sight, name) else {

@@ -56,9 +56,9 @@ const MOST_SCOPES: usize = 200_000_001;
 impl Run {
     /// Whether numbers of 32 bits are left for the scopes of one more record.
     pub fn has_numbers(&self) -> bool
-        ensures { OnTrue result (length self.now.tables.scopes.items ≤ 200_000_001) }
+        ensures { OnTrue result (length self.now.tables.opened.scopes ≤ 200_000_001) }
     {
-        self.tables.scopes.len() <= MOST_SCOPES
+        self.tables.opened.len() <= MOST_SCOPES
     }
 
     /// The task with this number. It takes no memory.

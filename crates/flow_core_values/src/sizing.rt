@@ -117,7 +117,7 @@ impl Setting {
 impl Run {
     fn take_value(&self, left: &mut usize, scope: u32, name: &Name, quoted: bool)
         requires well { IsWell self.now }
-        requires there { scope < length self.now.tables.scopes.items }
+        requires there { scope < length self.now.tables.opened.scopes }
         ensures { left.new ≡ left.old - text_bytes quoted (text_at (lists_of self.now.tables) scope name.now) }
     {
         let sight = Sight {
@@ -133,7 +133,7 @@ impl Run {
     /// A text whose references are replaced, inside a string or as it is.
     pub(crate) fn take_replaced(&self, left: &mut usize, scope: u32, phrase: &Phrase, quoted: bool)
         requires well { IsWell self.now }
-        requires there { scope < length self.now.tables.scopes.items }
+        requires there { scope < length self.now.tables.opened.scopes }
         ensures { left.new ≡ left.old - text_bytes quoted (replaced (lists_of self.now.tables) scope phrase.now) }
     {
         let (references, rest) = phrase.parts();
@@ -146,7 +146,7 @@ impl Run {
 
     fn take_filled_text(&self, left: &mut usize, scope: u32, phrase: &Phrase)
         requires well { IsWell self.now }
-        requires there { scope < length self.now.tables.scopes.items }
+        requires there { scope < length self.now.tables.opened.scopes }
         ensures { left.new ≡ left.old - length (canon (filled_string (lists_of self.now.tables) scope phrase.now)) }
     {
         match self.whole_number(scope, phrase) {
@@ -161,7 +161,7 @@ impl Run {
     #[cycle(sizing)]
     fn take_filled(&self, left: &mut usize, scope: u32, content: &Content)
         requires well { IsWell self.now }
-        requires there { scope < length self.now.tables.scopes.items }
+        requires there { scope < length self.now.tables.opened.scopes }
         ensures { left.new ≡ left.old - length (canon (filled (lists_of self.now.tables) scope (content_data content.now))) }
     {
         match content {
@@ -180,7 +180,7 @@ impl Run {
     #[cycle(sizing)]
     fn take_items(&self, left: &mut usize, scope: u32, items: &Contents)
         requires well { IsWell self.now }
-        requires there { scope < length self.now.tables.scopes.items }
+        requires there { scope < length self.now.tables.opened.scopes }
         ensures { left.new ≡ left.old - length (canon (array (filled_items (lists_of self.now.tables) scope items.now))) }
     {
         let contents = items.as_slice();
@@ -194,7 +194,7 @@ impl Run {
     #[cycle(sizing)]
     fn take_entry(&self, left: &mut usize, scope: u32, entry: &Entry, setting: Setting)
         requires well { IsWell self.now }
-        requires there { scope < length self.now.tables.scopes.items }
+        requires there { scope < length self.now.tables.opened.scopes }
         ensures { left.new ≡ left.old - member_bytes setting entry.now.name (filled (lists_of self.now.tables) scope (content_data entry.now.content)) }
     {
         if setting.has(entry.name.text()) {
@@ -208,7 +208,7 @@ impl Run {
     #[cycle(sizing)]
     fn take_entries(&self, left: &mut usize, scope: u32, entries: &Entries, setting: Setting)
         requires well { IsWell self.now }
-        requires there { scope < length self.now.tables.scopes.items }
+        requires there { scope < length self.now.tables.opened.scopes }
         ensures { left.new ≡ left.old - members_bytes setting (filled_members (lists_of self.now.tables) scope entries.now) }
     {
         let members = entries.as_slice();
@@ -220,7 +220,7 @@ impl Run {
     // The arguments of a command by those that it has, if it has any.
     fn take_args(&self, left: &mut usize, scope: u32, args: Option<&Content>)
         requires well { IsWell self.now }
-        requires there { scope < length self.now.tables.scopes.items }
+        requires there { scope < length self.now.tables.opened.scopes }
         ensures { left.new ≡ left.old
             - length (canon (completed_args (option_map (λ content. filled (lists_of self.now.tables) scope (content_data content.now)) args.entry))) }
     {
@@ -240,7 +240,7 @@ impl Run {
     /// The command with this content, for the next issue.
     pub(crate) fn take_command(&self, left: &mut usize, scope: u32, content: &Content)
         requires well { IsWell self.now }
-        requires there { scope < length self.now.tables.scopes.items }
+        requires there { scope < length self.now.tables.opened.scopes }
         ensures { left.new ≡ left.old - length (canon (addressed self.now.number (length self.now.tables.issues.items)
             (filled (lists_of self.now.tables) scope (content_data content.now)))) }
     {

@@ -21,7 +21,7 @@ impl<'a> Worths for Seen<'a> {
 
     ghost worth = { λ seen name. worth_at (lists_seen seen.run.now seen.sight) (scope_seen seen.run.now seen.sight) name };
 
-    ghost may_tell = { λ seen. IsWell seen.run.now × (seen.sight.scope < length seen.run.now.tables.scopes.items) };
+    ghost may_tell = { λ seen. IsWell seen.run.now × (seen.sight.scope < length seen.run.now.tables.opened.scopes) };
 
     fn worth(&self, name: &Name) -> Atom<'_> {
         self.run.worth(self.sight, name)
@@ -32,7 +32,7 @@ impl Run {
     /// Whether the condition of the step holds where it is seen from; false where the step has none. It takes no memory.
     pub fn is_true(&self, stand: Stand<'_>, sight: Sight<'_>) -> bool
         requires well { IsWell self.now }
-        requires scope { sight.scope < length self.now.tables.scopes.items }
+        requires scope { sight.scope < length self.now.tables.opened.scopes }
         requires stands { step_at self.now.setup stand.task.book stand.task.step ≡ Some stand.step.now }
         ensures { result ≡ holds_in (lists_seen self.now sight.entry) (scope_seen self.now sight.entry) (condition_in stand.entry.step.now.kind) }
     {
