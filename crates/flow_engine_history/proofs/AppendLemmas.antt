@@ -196,14 +196,14 @@ module _ (a : Inside) (next : Record) (edits : List Edit) (kept : IsKept a) (fit
       let is = taken_on edits (taken_same a.flow v next same.count same.seen ∙ takes) in
       (ap (λ (x : View). x.count) is ∙ ap suc same.count, ap (λ (x : View). x.seen) is ∙ ap (shown_after (moment_of next) edits) same.seen)
 
-  pub kept_after : (v : View) (j : JournalView) (b : Inside) (entry : List ℕ) (stands : List (Option (ℕ × ℕ))) (stand : Option (ℕ × ℕ)) → IsSameFlow a.flow v → IsSameJournal a.journal j → entry ≡ layout next
+  pub kept_after : (v : View) (j : JournalView) (b : Inside) (entry : List ℕ) (stands : List (ℕ × ℕ)) (stand : ℕ × ℕ) → IsSameFlow a.flow v → IsSameJournal a.journal j → entry ≡ layout next
       → b.journal ≡ record j { items = j.items ++ entry ∷ []; prepared = true; spare = 0 } → Takes v next b.flow → stands ≡ a.stands.items → stand ≡ stand_before a.flow.seen next
       → b.stands.items ≡ stands ++ stand ∷ [] → IsKept b
   kept_after v j b entry stands stand same_flow same_journal is now taken_on were stood pushed =
       let after = seen_after v b.flow same_flow taken_on in
       kept_more a b next edits kept fits takes (ap (λ (x : JournalView). x.file) now ∙ same_journal.file)
       (ap (λ (x : JournalView). x.items) now ∙ ap₂ (λ (l : List (List ℕ)) (e : List ℕ). l ++ e ∷ []) same_journal.items is)
-      after.0 after.1 (pushed ∙ ap₂ (λ (l : List (Option (ℕ × ℕ))) (s : Option (ℕ × ℕ)). l ++ s ∷ []) were stood)
+      after.0 after.1 (pushed ∙ ap₂ (λ (l : List (ℕ × ℕ)) (s : ℕ × ℕ). l ++ s ∷ []) were stood)
 
   -- ---- at Err
 

@@ -1,5 +1,5 @@
 -- What a `History` keeps with one record more.
-use Rattle.std.proofs.Common.{◌≡◌, ◌⊎◌, inl, inr, ℕ, zero, suc, ◌+◌, ◌<◌, ◌≤◌, List, [], ◌∷◌, ◌++◌, length, Option, Some, None, arith, refl, ap, sym, subst, ◌∙◌, length-append}
+use Rattle.std.proofs.Common.{◌≡◌, ◌⊎◌, inl, inr, ℕ, zero, suc, ◌<◌, ◌≤◌, List, [], ◌∷◌, ◌++◌, length, Option, Some, None, arith, refl, ap, sym, subst, ◌∙◌, length-append}
 use Rattle.std.specs.Prelude.{slice_get, take, unwrap_or}
 use Rattle.std.specs.List.{AllByRecursion}
 use Rattle.std.proofs.lemmas.List.{length-map, map-append}
@@ -99,7 +99,7 @@ shown_before given run [] seen g n h = tt
 shown_before given run (first ∷ others) seen g n h =
     subst (λ (x : Given). IsShownBefore x run (first ∷ others) seen) g (subst (λ (m : ℕ). IsShownBefore seen.given m (first ∷ others) seen) n h)
 
-pub stands_more : (rs : List Record) (seen : Shown) (r : Record) (stands : List (Option (ℕ × ℕ))) → AreStands seen.given seen.run rs stands → length stands ≡ length rs → IsSoFar rs seen
+pub stands_more : (rs : List Record) (seen : Shown) (r : Record) (stands : List (ℕ × ℕ)) → AreStands seen.given seen.run rs stands → length stands ≡ length rs → IsSoFar rs seen
     → AreStands seen.given seen.run (rs ++ r ∷ []) (stands ++ stand_before seen r ∷ [])
 stands_more rs seen r stands are many so_far = λ n q e.
     let lt : n < length (rs ++ r ∷ []) = get_within (rs ++ r ∷ []) n q e in

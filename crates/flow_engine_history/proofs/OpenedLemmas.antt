@@ -1,10 +1,11 @@
 -- A run whose entries were taken, and why one is not opened.
-use Rattle.std.proofs.Common.{◌≡◌, ◌≢◌, inl, inr, ℕ, List, length, refl, sym, subst, ap, ◌∙◌}
+use Rattle.std.proofs.Common.{◌≡◌, ◌≢◌, ◌↔◌, ◌<◌, inl, inr, ℕ, Bool, true, false, List, length, arith, refl, sym, subst, ap, ◌∙◌}
 use Rattle.std.specs.Prelude.{IsTrue}
 use Rattle.std.specs.List.{AllByRecursion}
 use Rattle.cacao_site.specs.Counts.{Rose}
-use Rattle.cacao_site.specs.DiskCalls.{IsDurable}
-use Rattle.cacao_site.specs.View.{SiteView}
+use Rattle.cacao_site.specs.DiskCalls.{IsDurable, IsLeft}
+use Rattle.cacao_site.specs.View.{DiskView, SiteView}
+use Rattle.run_journal.specs.Durable.{IsImage}
 use Rattle.run_journal.specs.Layout.{IsDamagedAt, Stands}
 use Rattle.run_journal.specs.declared.error.JournalError.{JournalError}
 use Rattle.run_journal.specs.declared.error.JournalError.TheVariants as journal
@@ -26,6 +27,9 @@ use Rattle.flow_engine_history.proofs.HistoryLemmas.{records_back}
 read_again : (items : List (List ℕ)) (rs : List Record) → items ≡ entries_of rs → AllByRecursion InRange rs → records_of items ≡ rs
 read_again items rs e ranges = ap records_of e ∙ records_back rs ranges
 
+false_true : false ≡ true → ⊥
+false_true e = cc
+
 pub kept : (h : Inside) → h.journal.file ≡ 0 → IsReplayed h.flow.seen.given h.flow.seen.run h.journal.items h.flow h.stands.items → IsKept h
 kept h file r =
     let back : records_of h.journal.items ≡ r.records = read_again h.journal.items r.records r.are r.ranges in
@@ -42,6 +46,20 @@ kept h file r =
 -- the entries of its records are those of the journal
 pub entries_back : (h : Inside) → IsReplayed h.flow.seen.given h.flow.seen.run h.journal.items h.flow h.stands.items → entries_of (records_of h.journal.items) ≡ h.journal.items
 entries_back h r = ap entries_of (read_again h.journal.items r.records r.are r.ranges) ∙ sym r.are
+
+-- each image of a file that was opened is what it reads, and stands for the entries
+pub opened_image : (items entries : List (List ℕ)) (was prepared : Bool) (disk : DiskView) → IsDurable 0 disk → Stands (disk.reads 0) items
+    → (IsTrue was ↔ (9 < length (disk.reads 0))) → entries ≡ items → prepared ≡ was → (image : List ℕ) → IsLeft disk 0 disk.beat image → IsImage prepared entries image
+opened_image items entries was prepared disk durable stands long same as_before image left =
+    subst (IsImage prepared entries) (sym (durable image left))
+    (subst (λ (l : List (List ℕ)). IsImage prepared l (disk.reads 0)) (sym same)
+    (subst (λ (p : Bool). IsImage p items (disk.reads 0)) (sym as_before) (by was long stands)))
+  where
+    by : (p : Bool) → (IsTrue p ↔ (9 < length (disk.reads 0))) → Stands (disk.reads 0) items → IsImage p items (disk.reads 0)
+    by true h (inl short) = absurd (omega (arith, h.0 refl, short.0))
+    by true h (inr there) = (inr there, there.1)
+    by false h (inl short) = (inl short, short.0)
+    by false h (inr there) = absurd (false_true (h.1 there.0))
 
 told : (given : Given) (run : ℕ) (items : List (List ℕ)) (error : EngineError) (old new : SiteView) → IsDurable 0 new.disk → (IsTrue old.disk.told → Stands (new.disk.reads 0) items)
     → RefusesEntries given run items error → IsToldBy given run error old new

@@ -1,5 +1,5 @@
 -- Scaffold: What a `History` keeps.
-use Rattle.std.specs.Prelude.{◌≡◌, ℕ, List, [], length, take, Option, Some, None, option_map, slice_get, unwrap_or}
+use Rattle.std.specs.Prelude.{◌≡◌, ◌&&◌, ℕ, nat_le, List, [], length, take, Option, Some, None, option_map, slice_get, unwrap_or, if◌then◌else◌}
 use Rattle.std.specs.List.{AllByRecursion}
 use Rattle.run_records.specs.Lists.{records}
 use Rattle.run_records.specs.Ranges.{InRange}
@@ -15,19 +15,24 @@ use Rattle.flow_engine_history.specs.Histories.{IsShownBefore, IsSoFar}
 abbrev pub records_of : List (List ℕ) → List Record
 records_of entries = unwrap_or (records entries) []
 
+-- The numbers of a playbook and of a step in 16 bits each; 65,535 and 0, which no run has, where there are none, or one is larger.
+abbrev pub narrow : Option (ℕ × ℕ) → ℕ × ℕ
+narrow None = (65535, 0)
+narrow (Some at) = if nat_le at.0 65535 && nat_le at.1 65535 then (at.0, at.1) else (65535, 0)
+
 -- Of a Walk: the numbers of the playbook and of the step at which its task stood, by what was shown before.
-abbrev pub stand_before : Shown → Record → Option (ℕ × ℕ)
-stand_before before (entry.Walk task moment) = option_map (λ one. (one.book, one.step)) (slice_get before.lists.tasks task)
-stand_before before other = None
+abbrev pub stand_before : Shown → Record → ℕ × ℕ
+stand_before before (entry.Walk task moment) = narrow (option_map (λ one. (one.book, one.step)) (slice_get before.lists.tasks task))
+stand_before before other = (65535, 0)
 
 -- that of the record with this number is kept
-pub record IsStand (given : Given) (run : ℕ) (records : List Record) (stands : List (Option (ℕ × ℕ))) (n : ℕ)
+pub record IsStand (given : Given) (run : ℕ) (records : List Record) (stands : List (ℕ × ℕ)) (n : ℕ)
     (r : Record) : Type 0 where
   pub before : Shown
   pub shows : IsShownBefore given run (take n records) before
   pub kept : slice_get stands n ≡ Some (stand_before before r)
 
-abbrev pub AreStands : Given → ℕ → List Record → List (Option (ℕ × ℕ)) → Type 0
+abbrev pub AreStands : Given → ℕ → List Record → List (ℕ × ℕ) → Type 0
 AreStands given run records stands = (n : ℕ) (r : Record) → slice_get records n ≡ Some r → IsStand given run records stands n r
 
 abbrev pub history_view : Inside → HistoryView

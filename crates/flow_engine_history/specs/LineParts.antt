@@ -1,5 +1,5 @@
 -- Scaffold: The parts of a record's line.
-use Rattle.std.specs.Prelude.{◌≡◌, ℕ, List, [], Option, option_and_then, option_map, take, unwrap_or, ⊤}
+use Rattle.std.specs.Prelude.{◌≡◌, ℕ, List, [], option_map, take, unwrap_or, ⊤}
 use Rattle.run_records.specs.declared.record.Record.{Record}
 use Rattle.run_records.specs.declared.record.Record.TheVariants as entry
 use Rattle.flow_core_rules.specs.Givens.{Given, step_at}
@@ -20,5 +20,5 @@ pub record IsKeyAt (h : HistoryView) (n : ℕ) (r : Record) (key : List ℕ) : T
   pub key_is : IsKeyFor before r key
 
 -- the key of the step with the numbers of a playbook and of a step in it; the empty text where there is none
-abbrev pub key_at : Given → Option (ℕ × ℕ) → List ℕ
-key_at given stand = unwrap_or (option_map (λ step. step.key) (option_and_then (λ at. step_at given at.0 at.1) stand)) []
+abbrev pub key_at : Given → ℕ × ℕ → List ℕ
+key_at given stand = unwrap_or (option_map (λ step. step.key) (step_at given stand.0 stand.1)) []

@@ -1,5 +1,5 @@
 -- Scaffold: How an opening takes the entries of a file one after another.
-use Rattle.std.specs.Prelude.{◌≡◌, ◌≢◌, ℕ, ◌<◌, List, [], ◌∷◌, ◌++◌, length, Option, Some, None, ⊤}
+use Rattle.std.specs.Prelude.{◌≡◌, ◌≢◌, ℕ, ◌<◌, List, [], ◌∷◌, ◌++◌, length, Some, None, ⊤}
 use Rattle.std.specs.List.{AllByRecursion}
 use Rattle.run_records.specs.Layout.{layout}
 use Rattle.run_records.specs.Ranges.{InRange, last_moment}
@@ -23,7 +23,7 @@ use Rattle.flow_engine_history.specs.declared.error.EngineError.TheVariants as r
 
 -- for each Walk the numbers of the playbook and of the step at which its task stood
 abbrev pub Stands : Type 0
-Stands = List (Option (ℕ × ℕ))
+Stands = List (ℕ × ℕ)
 
 -- the flow and the stands after the records of these entries
 pub record IsReplayed (given : Given) (run : ℕ) (items : List (List ℕ)) (flow : View) (stands : Stands) : Type 0 where

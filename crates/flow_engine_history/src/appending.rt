@@ -10,11 +10,11 @@ ghost use Rattle.flow_core.specs.Views.{AsksText, IsReadyFor, Refuses, Takes, Vi
 ghost use Rattle.flow_core.specs.declared.flow_errors.FlowError.TheVariants.{NotEnabled};
 ghost use Rattle.flow_engine_history.specs.Appending.{IsSameFlow, IsSameJournal, RefusesEntry, RefusesRoom, length_with_entry};
 ghost use Rattle.flow_engine_history.specs.HistoryCalls.{MayMove};
-ghost use Rattle.flow_engine_history.specs.KeptHistory.{stand_before};
+ghost use Rattle.flow_engine_history.specs.KeptHistory.{narrow, stand_before};
 ghost use Rattle.flow_engine_history.specs.declared.error.EngineError.TheVariants.{Memory};
 
 use crate::error::EngineError;
-use crate::history::Stand;
+use crate::history::{NOWHERE, Stand};
 use cacao_site::{Bytes, Disk};
 use flow_core::{Flow, FlowError, Move};
 use run_journal::Journal;
@@ -25,7 +25,7 @@ use std::alloc::{AllocError, Global};
 #[derive(Drop)]
 pub(crate) struct Made {
     pub(crate) entry: Bytes,
-    pub(crate) stand: Option<Stand>,
+    pub(crate) stand: Stand,
 }
 
 /// What a refusal of a flow means for the engine, of a record that may come next.
@@ -72,20 +72,34 @@ fn ready_move(flow: &mut Flow, step: Move, moment: u64) -> Result<Record, Engine
     }
 }
 
+/// These numbers in 16 bits each; `NOWHERE` where there are none, or one of them is larger.
+fn narrow(stand: Option<(u32, u32)>) -> Stand
+    ensures { result ≡ narrow stand }
+{
+    let Some((book, step)) = stand else {
+        return NOWHERE;
+    };
+    if book <= 65_535 && step <= 65_535 {
+        (book as u16, step as u16)
+    } else {
+        NOWHERE
+    }
+}
+
 /// The step at which the task of a Walk stands.
-pub(crate) fn stand_for(flow: &Flow, next: &Record) -> Option<Stand>
+pub(crate) fn stand_for(flow: &Flow, next: &Record) -> Stand
     ensures { result ≡ stand_before flow.now.seen next.now }
 {
     match next {
-        Record::Walk { task, .. } => flow.stand_of(*task),
-        _ => None,
+        Record::Walk { task, .. } => narrow(flow.stand_of(*task)),
+        _ => NOWHERE,
     }
 }
 
 /// Makes room for one entry more like this, and for one stand more.
 fn make_room(
     journal: &mut Journal,
-    stands: &mut Vec<Option<Stand>>,
+    stands: &mut Vec<Stand>,
     entry: &Bytes,
 ) -> Result<(), EngineError>
     requires { length entry.now ≤ 17_829_888 }
@@ -105,7 +119,7 @@ fn make_entry(
     alloc: Global,
     flow: &Flow,
     journal: &mut Journal,
-    stands: &mut Vec<Option<Stand>>,
+    stands: &mut Vec<Stand>,
     next: &Record,
 ) -> Result<Made, EngineError>
     requires { InRange next.now }
@@ -134,7 +148,7 @@ pub(crate) fn prepare(
     alloc: Global,
     flow: &mut Flow,
     journal: &mut Journal,
-    stands: &mut Vec<Option<Stand>>,
+    stands: &mut Vec<Stand>,
     next: &Record,
 ) -> Result<Made, EngineError>
     requires in_range { InRange next.now }
@@ -174,7 +188,7 @@ pub(crate) fn prepare_move(
     alloc: Global,
     flow: &mut Flow,
     journal: &mut Journal,
-    stands: &mut Vec<Option<Stand>>,
+    stands: &mut Vec<Stand>,
     step: Move,
     moment: u64,
 ) -> Result<Moved, EngineError>
@@ -205,7 +219,7 @@ pub(crate) fn prepare_move(
 }
 
 /// Adds a stand, for which there is room.
-fn push_in_room(stands: &mut Vec<Option<Stand>>, stand: Option<Stand>)
+fn push_in_room(stands: &mut Vec<Stand>, stand: Stand)
     requires { vec_len stands.old < vec_capacity stands.old }
     ensures { stands.new.items ≡ stands.old.items ++ stand ∷ [] }
 {
@@ -219,7 +233,7 @@ fn push_in_room(stands: &mut Vec<Option<Stand>>, stand: Option<Stand>)
 pub(crate) fn keep<D: Disk>(
     flow: &mut Flow,
     journal: &mut Journal,
-    stands: &mut Vec<Option<Stand>>,
+    stands: &mut Vec<Stand>,
     disk: &mut D,
     next: &Record,
     made: Made,

@@ -15,17 +15,21 @@ use run_records::Record;
 use std::alloc::{AllocError, Global};
 use std::marker::Model;
 
-/// The numbers of a playbook and of one of its steps.
-pub(crate) type Stand = (u32, u32);
+/// The numbers of a playbook and of one of its steps: a run has at most 16 playbooks of at most 4,096 steps each.
+pub(crate) type Stand = (u16, u16);
 
-/// The records of a run in file 0, how the run stands after them, and for each Walk the step at which its task stood.
+/// Where a record has no such step.
+pub(crate) const NOWHERE: Stand = (65_535, 0);
+
+/// The records of a run in file 0, how the run stands after them, and for each Walk the step at which its task stood (four bytes a
+/// record).
 ///
 /// After `Disk` it answers `Broken` until the file is opened again.
 pub struct History {
     pub(crate) alloc: Global,
     pub(crate) journal: Journal,
     pub(crate) flow: Flow,
-    pub(crate) stands: Vec<Option<Stand>>,
+    pub(crate) stands: Vec<Stand>,
 }
 
 // (by hand, and not by derive: so a drop is one call in the proofs of all who own one)

@@ -124,14 +124,12 @@ fn line_by_key(alloc: Global, n: u32, item: &Record, key: &str) -> Result<Bytes,
 }
 
 /// The key of a step, by the numbers of its playbook and of the step in it; the empty text where there is none.
-fn key_at(setup: &Setup, stand: Option<Stand>) -> &str
+fn key_at(setup: &Setup, stand: Stand) -> &str
     ensures { result.now ≡ key_at setup.now stand }
 {
-    match stand {
-        Some((book, step)) => match setup.step(book, step) {
-            Some(found) => found.key.text(),
-            None => "",
-        },
+    let (book, step) = stand;
+    match setup.step(book as u32, step as u32) {
+        Some(found) => found.key.text(),
         None => "",
     }
 }
@@ -154,6 +152,7 @@ impl History {
         requires { slice_get self.now.records n ≡ Some item.now }
         ensures { IsKeyAt self.now n item.now result.now }
     {
+        self.flow.law();
         key_at(self.flow.setup(), self.stands[n as usize])
     }
 

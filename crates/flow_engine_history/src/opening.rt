@@ -73,7 +73,7 @@ impl History {
 }
 
 /// The run of these entries.
-fn opened(alloc: Global, journal: Journal, flow: Flow, stands: Vec<Option<Stand>>) -> History
+fn opened(alloc: Global, journal: Journal, flow: Flow, stands: Vec<Stand>) -> History
     requires file { journal.file ≡ 0 }
     requires replayed { IsReplayed flow.seen.given flow.seen.run journal.items flow stands.items }
     ensures entries { entries_of result.records ≡ journal.items }
@@ -95,7 +95,7 @@ fn replay(
     journal: &Journal,
     run: u64,
     flow: &mut Flow,
-    stands: &mut Vec<Option<Stand>>,
+    stands: &mut Vec<Stand>,
 ) -> Result<(), EngineError>
     requires count { flow.old.count ≡ 0 }
     requires blank { flow.old.seen ≡ blank_shown flow.old.seen.given run }
@@ -117,7 +117,7 @@ fn replay_others(
     alloc: Global,
     journal: &Journal,
     flow: &mut Flow,
-    stands: &mut Vec<Option<Stand>>,
+    stands: &mut Vec<Stand>,
 ) -> Result<(), EngineError>
     requires some { 1 ≤ length journal.now.items }
     requires begun { IsReplayed flow.old.seen.given flow.old.seen.run (take 1 journal.now.items) flow.old stands.old.items }
@@ -143,7 +143,7 @@ fn replay_others(
 fn begin(
     alloc: Global,
     flow: &mut Flow,
-    stands: &mut Vec<Option<Stand>>,
+    stands: &mut Vec<Stand>,
     run: u64,
     entry: &[u8],
 ) -> Result<(), EngineError>
@@ -164,7 +164,7 @@ fn begin(
 /// Takes the Begin of the run.
 fn take_first(
     flow: &mut Flow,
-    stands: &mut Vec<Option<Stand>>,
+    stands: &mut Vec<Stand>,
     run: u64,
     item: &Record,
 ) -> Result<(), EngineError>
@@ -187,7 +187,7 @@ fn take_first(
 fn take_next(
     alloc: Global,
     flow: &mut Flow,
-    stands: &mut Vec<Option<Stand>>,
+    stands: &mut Vec<Stand>,
     entry: &[u8],
 ) -> Result<bool, EngineError>
     requires few { flow.old.count < 100_000_000 }
@@ -202,11 +202,7 @@ fn take_next(
 }
 
 /// Takes a record; false where it may not come next.
-fn take_record(
-    flow: &mut Flow,
-    stands: &mut Vec<Option<Stand>>,
-    item: &Record,
-) -> Result<bool, EngineError>
+fn take_record(flow: &mut Flow, stands: &mut Vec<Stand>, item: &Record) -> Result<bool, EngineError>
     requires few { flow.old.count < 100_000_000 }
     requires in_range { InRange item.now }
     ensures taken { result ≡ Ok true → TakesRecord flow.old stands.old.items item.now flow.new stands.new.items }

@@ -21,4 +21,4 @@ returns c =
     let there : slice_get h.stands.items n ≡ Some stand = slice_get_read h.stands.items (length h.stands.items) n stand refl lt c.index.ensures in
     let key : c.key_at.result.now ≡ key_at h.flow.seen.given stand = c.key_at.ensures ∙ ap (λ (g : Given). key_at g stand) c.setup.ensures in
     subst (λ (v : HistoryView). IsKeyAt v n item c.key_at.result.now) c.self.view_is
-    (subst (IsKeyAt (history_view h) n item) (sym key) (key_there h n item stand c.self.invariant e there))
+    (subst (IsKeyAt (history_view h) n item) (sym key) (key_there h n item stand c.law.ensures.setup c.self.invariant e there))
