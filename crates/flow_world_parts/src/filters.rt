@@ -37,6 +37,9 @@ impl Model for Filters {
     ghost view = { λ filters. filters.list.items };
 }
 
+/// The most filters of a session.
+const MOST_FILTERS: usize = 16;
+
 /// The refusal of a session one of whose filters refused a command.
 fn of_act(error: ActError) -> WorldError
     requires { MayRefuseAct error }
@@ -95,6 +98,8 @@ impl Filters {
         ensures refused { IfErr result (λ error. RefusesFilters error (D.view disk.old) (D.view disk.new)) }
     {
         let mut list = Vec::new(alloc);
+        // (room for all at once, so that none is moved; where it is wanting, each push asks again)
+        let _ = list.reserve(MOST_FILTERS);
         for agent in 1..17u8 {
             match open_next(alloc, disk, &mut list, agent) {
                 Ok(()) => {}

@@ -14,3 +14,12 @@ returns-in-Err-open_on-clause-refused g c =
     (record { only = c.open_on.ensures.only; calls = c.open_on.ensures.calls; written = c.open_on.ensures.bytes }) (c.in-Ok.ensures.steady (λ e. cc)) (c.in-Ok.ensures.reads (λ e. cc)) c.in-Ok.ensures.ready c.law.ensures.history c.law.ensures.put
     c.in-Ok.ensures.whole c.in-Ok.ensures.given c.in-Ok.ensures.run c.in-Ok.ensures.no_puts c.in-Ok.ensures.durable c.in-Ok.ensures.stands c.in-Ok.ensures.prepared)
     c.in-Err-open_on.ensures.refused
+
+pub returns-in-Ok-open_on-clause-opens : goal.returns-in-Ok-open_on-clause-opens
+returns-in-Ok-open_on-clause-opens g c = record {
+  middle = g.S.Disk.view c.open_on.new.disk;
+  journal = journal_open c.args.setup c.args.run (g.S.Disk.view c.args.site.now) (g.S.Disk.view c.open_on.new.disk) c.in-Ok.engine
+      (record { only = c.open_on.ensures.only; calls = c.open_on.ensures.calls; written = c.open_on.ensures.bytes }) (c.in-Ok.ensures.steady (λ e. cc)) (c.in-Ok.ensures.reads (λ e. cc)) c.in-Ok.ensures.ready c.law.ensures.history c.law.ensures.put
+      c.in-Ok.ensures.whole c.in-Ok.ensures.given c.in-Ok.ensures.run c.in-Ok.ensures.no_puts c.in-Ok.ensures.durable c.in-Ok.ensures.stands c.in-Ok.ensures.prepared;
+  others = c.in-Ok-open_on.ensures.opens;
+}

@@ -1,4 +1,4 @@
-use Rattle.std.proofs.Common.{List, arith, sym, subst}
+use Rattle.std.proofs.Common.{◌∙◌, List, arith, sym, subst}
 use Rattle.slpf_actuator.specs.ActuatorView.{ActuatorView}
 use Rattle.flow_world_parts.specs.Openings.{OpensFilters}
 use Rattle.flow_world_parts.proofs.OpenSteps.{agent_opens, agent_refused, all_open, as_many, opens_none}
@@ -6,7 +6,7 @@ use Rattle.flow_world_parts.proofs.filters.Filters.open_on.Goals as goal
 
 pub loop-agent-init : goal.loop-agent-init
 loop-agent-init g c = record {
-  opens = subst (λ (l : List ActuatorView). OpensFilters 0 (g.D.Disk.view c.args.disk.now) (g.D.Disk.view c.args.disk.now) l) (sym c.new-list.ensures.items)
+  opens = subst (λ (l : List ActuatorView). OpensFilters 0 (g.D.Disk.view c.args.disk.now) (g.D.Disk.view c.args.disk.now) l) (sym (c.reserve.ensures.items ∙ c.new-list.ensures.items))
       (opens_none (g.D.Disk.view c.args.disk.now));
   low = omega arith;
 }
