@@ -47,7 +47,11 @@ def tried(room, crate):
 
 
 def main(words):
-    names = [word for word in words if not word.startswith("--")]
+    names = [word for word in words if word != "--stand"]
+    unknown = [name for name in names if not (ROOT / "crates" / name).is_dir()]
+    if unknown:
+        print(f"no crate: {' '.join(unknown)}\n\n{__doc__}", file=sys.stderr)
+        return False
     crates = [it for it in sorted((ROOT / "crates").iterdir()) if it.is_dir() and (not names or it.name in names)]
     if "--stand" in words:
         return stand(crates)
