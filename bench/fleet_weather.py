@@ -1,12 +1,12 @@
 #!/usr/bin/env python3
-"""Plays many fleets on racks in memory under weather, by the program `test_fleet_weather`, and prints what was played and what was found.
+"""Plays many fleets on racks in memory under weather, by the program `test_sessions`, and prints what was played and what was found.
 
 usage: fleet_weather.py PROGRAM [--fleets N] [--seed N] [--jobs N] [--refused N]
   --fleets N    how many fleets, 50 a folder, each folder with twelve random playbooks beside those of the program's own rows
   --refused N   how many more, each in a process of its own, in which one request for memory, by chance, is refused
 
-PROGRAM is `crates/test_fleet_weather/out/test_fleet_weather`, which `rt run` leaves there, or what
-`bench/launcher_parts/unproved_build.py FILE test_fleet_weather` builds. It ends with status 1 where anything was found.
+PROGRAM is `crates/test_sessions/out/test_sessions`, which `rt run` leaves there, or what
+`bench/launcher_parts/unproved_build.py FILE test_sessions` builds. It ends with status 1 where anything was found.
 """
 import argparse
 import collections
@@ -24,7 +24,8 @@ from hostile_parts.play import Folder, Program
 from hostile_parts.random_books import random_book
 
 TOP = os.path.dirname(os.path.dirname(os.path.realpath(__file__)))
-ROWS = f"{TOP}/crates/test_fleet_weather/data/books.rows"
+BOOKS = "weather_books.rows"
+ROWS = f"{TOP}/crates/test_sessions/data/{BOOKS}"
 FOLDER = 50
 FRONT = identifier("", 0)[:-2]
 
@@ -79,14 +80,14 @@ class Sums:
 
 def play(program, where, seed, count, refused):
     draw = random.Random(where)
-    with Folder({"books.rows": rows(draw)}) as folder:
+    with Folder({BOOKS: rows(draw)}) as folder:
         asked = {"REFUSE": draw.randrange(1, refused)} if refused else None
         return where, program.play(folder, [str(count), str(seed)], shim=asked)
 
 
 def requests(program):
     """How many requests for memory one fleet makes, by the greatest of five."""
-    with Folder({"books.rows": rows(random.Random(0))}) as folder:
+    with Folder({BOOKS: rows(random.Random(0))}) as folder:
         told = [program.counts(folder, ["1", str(seed)]) for seed in range(5)]
     return max(one["requests"] for one in told if one) if any(told) else 0
 

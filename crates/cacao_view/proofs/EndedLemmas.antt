@@ -8,7 +8,7 @@ use Rattle.cacao_cli_ends.specs.Files.{ShelfCall}
 use Rattle.cacao_cli_ends.proofs.EndLemmas.{end-failed}
 use Rattle.cacao_cli_ends.proofs.LineLemmas.{IsCutOff}
 use Rattle.cacao_cli_ends.proofs.StatusLists.{are_among, not-among, widen}
-use Rattle.cacao_view_graph_run.specs.RunPictures.{DrawsEntries}
+use Rattle.cacao_view_graph.specs.RunPictures.{DrawsEntries}
 use Rattle.cacao_view_log.specs.Logs.{Logs}
 use Rattle.cacao_view_words.specs.Requests.{Request, helps, helps_with, tells_version, logs, graphs, graphs_run, explains, explains_books, preflights, lacks}
 use Rattle.cacao_view_words.specs.Rules.{rule_lines}

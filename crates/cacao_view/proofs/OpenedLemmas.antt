@@ -19,7 +19,7 @@ use Rattle.cacao_cli_ends.proofs.StatusLists.{not-among}
 use Rattle.cacao_cli_looks.specs.Command.{journal_end, report_end}
 use Rattle.cacao_cli_looks.specs.Openings.{HoldsRun, IsDamagedRun, IsTooLargeRun, Opens}
 use Rattle.cacao_cli_looks.proofs.RunLemmas.{ShownStatus, damaged-run, done-run, large-run, run-damaged, run-done, run-large}
-use Rattle.cacao_view_graph_run.specs.RunPictures.{DrawsEntries}
+use Rattle.cacao_view_graph.specs.RunPictures.{DrawsEntries}
 use Rattle.cacao_view_log.specs.Logs.{Logs}
 use Rattle.cacao_view_log.specs.declared.form.Form.{Form}
 use Rattle.cacao_view_words.specs.Texts.{Text}

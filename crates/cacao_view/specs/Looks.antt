@@ -4,7 +4,7 @@ use Rattle.cacao_site.specs.DiskCalls.{EachBeat, IsLeft}
 use Rattle.cacao_site.specs.SayCalls.{KeepsTime}
 use Rattle.cacao_site.specs.View.{SiteView}
 use Rattle.cacao_cli_ends.specs.Files.{ShelfCall}
-use Rattle.cacao_view_graph_run.specs.RunPictures.{DrawsEntries}
+use Rattle.cacao_view_graph.specs.RunPictures.{DrawsEntries}
 use Rattle.cacao_view_log.specs.Logs.{Logs}
 use Rattle.cacao_view_words.specs.Requests.{Request}
 use Rattle.cacao_view.specs.Drawing.{Draws}

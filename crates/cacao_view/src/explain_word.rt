@@ -10,7 +10,7 @@ use cacao_cli_ends::{End, Limit};
 use cacao_cli_looks::read_files;
 use cacao_site::Shelf;
 use cacao_view_explain::explain;
-use cacao_view_report::Report;
+use cacao_view_words::Report;
 use std::alloc::Global;
 
 /// What `explain` tells of the playbook in the file of this name, and of those that it may call.

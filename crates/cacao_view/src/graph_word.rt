@@ -16,7 +16,7 @@ use cacao_cli_looks::{FileText, read_files, trees_of};
 use cacao_json::Tree;
 use cacao_site::Shelf;
 use cacao_view_graph::picture;
-use cacao_view_report::{Lines, Report};
+use cacao_view_words::{Lines, Report};
 use std::alloc::{AllocError, Global};
 
 /// What `graph` tells of the playbook in the file of this name, and of those that it may call: their picture, a line a statement, where they

@@ -12,7 +12,7 @@ use cacao_cli_ends::{End, Limit};
 use cacao_cli_looks::read_bytes;
 use cacao_site::{Disk, Shelf};
 use cacao_view_log::{Form, Source, log};
-use cacao_view_report::{Lines, Report};
+use cacao_view_words::{Lines, Report};
 use flow_engine_reports::ReportError;
 use run_journal::{ImageError, Journal, JournalError, read_image};
 use std::alloc::Global;

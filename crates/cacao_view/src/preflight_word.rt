@@ -12,8 +12,7 @@ use cacao_cli_ends::{End, Limit};
 use cacao_cli_looks::read_files;
 use cacao_site::Shelf;
 use cacao_view_preflight::preflight;
-use cacao_view_report::Report;
-use cacao_view_words::BookWords;
+use cacao_view_words::{BookWords, Report};
 use std::alloc::{AllocError, Global};
 
 /// What `preflight` tells of the playbooks in the files of these names, with the bindings in the file of this name, if it is given.

@@ -3,7 +3,7 @@ ghost use Rattle.std.specs.Prelude.{◌≡◌, ◌≢◌, ◌∷◌, [], map, st
 ghost use Rattle.cacao_site.specs.Counts.{next_count};
 ghost use Rattle.cacao_cli_ends.specs.Comes.{ComesExactly, IsOneOf};
 ghost use Rattle.cacao_cli_ends.specs.Files.{shelf_call};
-ghost use Rattle.cacao_view_graph_run.specs.RunPictures.{DrawsEntries};
+ghost use Rattle.cacao_view_graph.specs.RunPictures.{DrawsEntries};
 ghost use Rattle.cacao_view_log.specs.Logs.{Logs};
 ghost use Rattle.cacao_view_words.specs.Asked.{book_names, maybe_text, request_by};
 ghost use Rattle.cacao_view_words.specs.Requests.{explains_books, graphs, logs, preflights, request};

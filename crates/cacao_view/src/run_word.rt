@@ -1,14 +1,14 @@
 // The word `graph` alone: the run in the engine's file as a picture.
 ghost use Rattle.cacao_cli_ends.specs.Told.{end_of};
-ghost use Rattle.cacao_view_graph_run.specs.RunPictures.{DrawsEntries};
+ghost use Rattle.cacao_view_graph.specs.RunPictures.{DrawsEntries};
 ghost use Rattle.cacao_view.specs.OpeningRuns.{OpensTo};
 
 use crate::log_word::{journal_end, report_end};
 use cacao_cli_ends::End;
 use cacao_site::Disk;
-use cacao_view_graph_run::run_picture;
+use cacao_view_graph::run_picture;
 use cacao_view_log::Source;
-use cacao_view_report::{Lines, Report};
+use cacao_view_words::{Lines, Report};
 use run_journal::Journal;
 use std::alloc::Global;
 

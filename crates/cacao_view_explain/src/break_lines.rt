@@ -16,8 +16,7 @@ use cacao_check::Break;
 use cacao_cli_looks::FileText;
 use cacao_json::Tree;
 use cacao_view_faults::path_of;
-use cacao_view_report::Lines;
-use cacao_view_words::Rule;
+use cacao_view_words::{Lines, Rule};
 use std::alloc::{AllocError, Global};
 
 /// The pointer to what is at fault: to the step with this key, to a part of it, or to the playbook.

@@ -5,7 +5,7 @@ ghost use Rattle.cacao_check_regions.specs.Memories.{Remembers};
 ghost use Rattle.cacao_check_regions.specs.Surveys.{IsSurveyOf};
 
 use crate::name_faults::{Misfit, sees};
-use crate::name_places::argument_place;
+use crate::name_places::argument_finding;
 use crate::spot::{Finding, Spot};
 use cacao_book::{Book, Step};
 use cacao_check_regions::{Chart, Flaw, Memory, Survey};
@@ -103,20 +103,34 @@ pub(crate) fn call_finding(
     place: u32,
     step: &Step,
     called: &Book,
-    spot: &Spot,
+    object: usize,
 ) -> Result<Finding, AllocError>
     requires { IsSurveyOf books.now book.now survey.now }
 {
     let _ = books;
     let ins = in_args_of(&step.kind);
     if let Some(misfit) = first_misfit(alloc, book, survey, place, step, called, ins, true)? {
-        let found = argument_place(alloc, bytes, spot, "in_args", misfit.number)?;
-        return found.finding(alloc, misfit.name.text(), misfit.says);
+        return argument_finding(
+            alloc,
+            bytes,
+            object,
+            "in_args",
+            misfit.number,
+            misfit.name.text(),
+            misfit.says,
+        );
     }
     let outs = out_args_of(&step.kind);
     if let Some(misfit) = first_misfit(alloc, book, survey, place, step, called, outs, false)? {
-        let found = argument_place(alloc, bytes, spot, "out_args", misfit.number)?;
-        return found.finding(alloc, misfit.name.text(), misfit.says);
+        return argument_finding(
+            alloc,
+            bytes,
+            object,
+            "out_args",
+            misfit.number,
+            misfit.name.text(),
+            misfit.says,
+        );
     }
-    Finding::of(alloc, spot.again(alloc)?, UNLIKE)
+    Finding::of(alloc, Spot::object(object), UNLIKE)
 }

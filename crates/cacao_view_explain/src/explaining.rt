@@ -16,7 +16,7 @@ use cacao_cli_ends::End;
 use cacao_cli_looks::judge::judge;
 use cacao_cli_looks::{FileText, trees_of};
 use cacao_json::Tree;
-use cacao_view_report::Report;
+use cacao_view_words::Report;
 use std::alloc::Global;
 
 /// What is told of playbooks that were judged so.

@@ -1,15 +1,15 @@
 // Where the first break of playbooks is.
-ghost use Rattle.std.specs.Prelude.{◌≡◌, IfOk, IsTrue, option_map, string_bytes};
+ghost use Rattle.std.specs.Prelude.{◌≡◌, IfOk, option_map, string_bytes};
 ghost use Rattle.cacao_json.specs.Tree.{data_of};
-ghost use Rattle.cacao_view_explain.specs.Naming.{IsOfNames, SaysOfNames};
+ghost use Rattle.cacao_view_explain.specs.Naming.{SaysOfNames};
 
+use crate::at_fault::AtFault;
 use crate::books::books_of;
-use crate::name_findings::names_finding;
 use crate::sense_faults::Suspect;
 use crate::shape_faults::shape_fault;
-use crate::spot::{Finding, Spot};
+use crate::spot::Finding;
 use crate::survey_findings::survey_finding;
-use cacao_book::find_place;
+use cacao_book::{Book, find_place};
 use cacao_check::Break;
 use cacao_json::{Tree, member};
 use cacao_view_faults::scan::{member_at, skip_space};
@@ -36,66 +36,56 @@ fn place_of_step(alloc: Global, bytes: &[u8], key: &str) -> Result<usize, AllocE
     Ok(found.unwrap_or(top))
 }
 
-/// The object at fault, the playbook or one of its steps, and where it stands.
+/// The object at fault, the playbook or one of its steps, and where it begins.
 fn object_of<'a>(
     alloc: Global,
     bytes: &[u8],
     tree: &'a Tree,
     broken: &Break,
-) -> Result<(&'a Tree, Spot), AllocError> {
+) -> Result<(&'a Tree, usize), AllocError> {
     match &broken.step {
         Some(key) => {
             let key = key.text();
-            let spot = Spot::object(place_of_step(alloc, bytes, key)?);
-            Ok((step_of(tree, key), spot))
+            let at = place_of_step(alloc, bytes, key)?;
+            Ok((step_of(tree, key), at))
         }
-        None => Ok((tree, Spot::object(skip_space(bytes, 0)))),
+        None => Ok((tree, skip_space(bytes, 0))),
     }
 }
 
-/// What breaks a rule of sense.
-fn sense_finding(
-    alloc: Global,
-    bytes: &[u8],
-    trees: &[Tree],
-    broken: &Break,
-    object: &Tree,
-    spot: Spot,
-) -> Result<Finding, AllocError> {
-    let books = books_of(alloc, trees)?;
-    let books = books.as_slice();
+/// What breaks a rule of sense, of these playbooks.
+fn sense_fault<'a>(books: &'a [Book], object: &'a Tree, broken: &Break) -> AtFault<'a> {
     let Some(book) = books.get(broken.book as usize) else {
-        return Finding::of(alloc, spot, "a rule is broken here");
+        return AtFault::whole("a rule is broken here");
     };
-    let suspect = Suspect { books, book, bytes };
+    let suspect = Suspect { books, book };
     let Some(key) = &broken.step else {
-        return suspect.book_fault(alloc, &spot, broken.rule);
+        return suspect.book_fault(broken.rule);
     };
     let steps = book.steps.as_slice();
     match find_place(steps, key.text()) {
-        Some(place) => suspect.step_fault(alloc, object, &spot, &steps[place], broken.rule),
-        None => Finding::of(alloc, spot, "a rule is broken here"),
+        Some(place) => suspect.step_fault(object, &steps[place], broken.rule),
+        None => AtFault::whole("a rule is broken here"),
     }
 }
 
-/// What breaks another rule than one on names.
-fn other_finding(
+/// What breaks a rule on a playbook or a step alone, or on its links, in the object that begins at a place.
+fn plain_finding(
     alloc: Global,
     bytes: &[u8],
     trees: &[Tree],
-    tree: &Tree,
     object: &Tree,
-    spot: Spot,
+    at: usize,
     broken: &Break,
 ) -> Result<Finding, AllocError> {
     let rule = broken.rule;
     if rule <= 12 {
-        return shape_fault(alloc, bytes, object, spot, rule);
+        let fault = shape_fault(alloc, object, rule)?;
+        return fault.finding(alloc, bytes, at);
     }
-    if rule >= 24 {
-        return survey_finding(alloc, bytes, trees, tree, key_of(broken), spot, rule);
-    }
-    sense_finding(alloc, bytes, trees, broken, object, spot)
+    let books = books_of(alloc, trees)?;
+    let fault = sense_fault(books.as_slice(), object, broken);
+    fault.finding(alloc, bytes, at)
 }
 
 /// The key of the step whose rule is broken, if it is one's.
@@ -108,14 +98,6 @@ pub(crate) fn key_of(broken: &Break) -> Option<&str>
     }
 }
 
-/// Whether the rule is on the names of a step.
-fn is_of_names(rule: u8) -> bool
-    ensures yes { IsTrue result → IsOfNames rule }
-    ensures no { IsOfNames rule → IsTrue result }
-{
-    rule == 22 || rule == 23
-}
-
 /// What is at fault, and where: the pointer goes from the step that is broken, or else from the playbook.
 pub(crate) fn finding_of(
     alloc: Global,
@@ -126,9 +108,9 @@ pub(crate) fn finding_of(
 ) -> Result<Finding, AllocError>
     ensures { IfOk result (λ finding. SaysOfNames (data_of tree.now) broken.now (string_bytes finding.what)) }
 {
-    let (object, spot) = object_of(alloc, bytes, tree, broken)?;
-    if is_of_names(broken.rule) {
-        return names_finding(alloc, bytes, tree, key_of(broken), spot, broken.rule);
+    let (object, at) = object_of(alloc, bytes, tree, broken)?;
+    if broken.rule >= 22 {
+        return survey_finding(alloc, bytes, trees, tree, key_of(broken), at, broken.rule);
     }
-    other_finding(alloc, bytes, trees, tree, object, spot, broken)
+    plain_finding(alloc, bytes, trees, object, at, broken)
 }

@@ -1,6 +1,7 @@
 //! The first break of playbooks as a person wants it: what is at fault, where it stands, and the rule.
 #![tactic(auto)]
 
+mod at_fault;
 mod books;
 mod break_lines;
 mod call_faults;
@@ -10,6 +11,7 @@ mod lines;
 mod name_faults;
 mod name_findings;
 mod name_places;
+mod part;
 mod part_line;
 mod sense_faults;
 mod shape_faults;

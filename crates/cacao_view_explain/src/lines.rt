@@ -10,7 +10,7 @@ use cacao_cli_looks::FileText;
 use cacao_json::{Text, Tree, member, text_of};
 use cacao_text::canonical_string;
 use cacao_view_faults::{Place, place_behind};
-use cacao_view_report::Lines;
+use cacao_view_words::Lines;
 use std::alloc::{AllocError, Global};
 
 // ---- words

@@ -2,57 +2,40 @@
 ghost use Rattle.std.specs.Prelude.{◌≡◌, IfOk, string_bytes};
 ghost use Rattle.cacao_view_explain.specs.Lines.{named_words};
 
-use crate::spot::{Finding, Spot};
+use crate::part::{Part, member_place};
+use crate::spot::Finding;
 use cacao_book::{Step, StepCommand, StepKind};
 use cacao_check_steps::{commands_of, in_args_of, is_manual, out_args_of};
 use cacao_vars::{Name, find_reference};
-use cacao_view_faults::scan::{byte_at, member_at, skip_space, stands_at, value_end};
+use cacao_view_faults::scan::{byte_at, item_at, member_at, skip_space, stands_at, value_end};
 use cacao_view_faults::word_stands;
 use std::alloc::{AllocError, Global};
 
-/// A name that a step uses, in the text of its playbook. `spot` is that of the step.
+/// A name that a step uses, in the text of its playbook, in which the step begins at this place.
 #[derive(Clone, Copy)]
 pub(crate) struct Sought<'a> {
     pub(crate) bytes: &'a [u8],
-    pub(crate) spot: &'a Spot,
+    pub(crate) object: usize,
     pub(crate) step: &'a Step,
     pub(crate) name: &'a Name,
 }
 
-/// A value that a name stands in, and the place of the name within it; the place of the value where the name is not written there as it is.
-#[derive(Drop)]
-pub(crate) struct NamePlace {
-    spot: Spot,
-    at: usize,
-}
-
-impl NamePlace {
-    /// What is said of the name at this place.
-    pub(crate) fn finding(
-        self,
-        alloc: Global,
-        name: &str,
-        says: &str,
-    ) -> Result<Finding, AllocError>
-        ensures { IfOk result (λ finding. string_bytes finding.what ≡ named_words name.now says.now) }
-    {
-        let NamePlace { spot, at } = self;
-        Finding::of_name(alloc, spot, at, name, says)
-    }
-}
-
-/// Where the name of the argument or the result of this number stands, in the list that is the member of this name of the step at a spot.
-pub(crate) fn argument_place(
+/// What is said of the name of the argument or the result of this number, in the list that is the member of this name of the step that begins
+/// at a place.
+pub(crate) fn argument_finding(
     alloc: Global,
     bytes: &[u8],
-    spot: &Spot,
-    member: &str,
+    object: usize,
+    member: &'static str,
     number: usize,
-) -> Result<NamePlace, AllocError> {
-    let list = spot.member(alloc, bytes, member)?;
-    let spot = list.item(alloc, bytes, number)?;
+    name: &str,
+    says: &str,
+) -> Result<Finding, AllocError>
+    ensures { IfOk result (λ finding. string_bytes finding.what ≡ named_words name.now says.now) }
+{
+    let spot = Part::item(member, number, None).spot(alloc, bytes, object)?;
     let at = spot.at.saturating_add(1);
-    Ok(NamePlace { spot, at })
+    Finding::of_name(alloc, spot, at, name, says)
 }
 
 /// The number of the name in this list.
@@ -109,7 +92,7 @@ fn refers_to(text: &str, name: &Name) -> bool {
 
 impl<'a> Sought<'a> {
     /// The first reference to the name from a place on, in the value that begins at another and ends before a third.
-    fn reference_from(&self, from: usize, value: usize, end: usize) -> Option<usize> {
+    fn reference_from(self, from: usize, value: usize, end: usize) -> Option<usize> {
         let name = self.name.text().as_bytes();
         for at in from..end {
             if word_stands(self.bytes, value, end, at, name) {
@@ -122,12 +105,12 @@ impl<'a> Sought<'a> {
     }
 
     /// The first reference to the name in a text.
-    fn reference_in(&self, value: usize) -> Option<usize> {
+    fn reference_in(self, value: usize) -> Option<usize> {
         self.reference_from(value, value, value_end(self.bytes, value))
     }
 
     /// The first reference to the name in the strings of a content, but for the names of its members.
-    fn reference_in_content(&self, value: usize) -> Option<usize> {
+    fn reference_in_content(self, value: usize) -> Option<usize> {
         let end = value_end(self.bytes, value);
         let mut from = value;
         for _ in value..end {
@@ -140,87 +123,81 @@ impl<'a> Sought<'a> {
         None
     }
 
-    /// What a command sends, or what it asks an operator, as it stands in the text.
-    fn sent(&self, alloc: Global, command: &StepCommand, spot: &Spot) -> Result<Spot, AllocError> {
+    /// The member that says what a command sends, or what it asks an operator, of the command that begins at a place.
+    fn sent(
+        self,
+        alloc: Global,
+        command: &StepCommand,
+        at: usize,
+    ) -> Result<&'static str, AllocError> {
         if is_manual(command) {
-            return spot.member(alloc, self.bytes, "command");
+            return Ok("command");
         }
-        match member_at(alloc, self.bytes, spot.at, "content")? {
-            Some(_) => spot.member(alloc, self.bytes, "content"),
-            None => spot.member(alloc, self.bytes, "content_b64"),
+        match member_at(alloc, self.bytes, at, "content")? {
+            Some(_) => Ok("content"),
+            None => Ok("content_b64"),
         }
     }
 
-    /// Where the name stands in what a command sends, which begins at a place, as it is written.
-    fn written_in(&self, command: &StepCommand, value: usize) -> Option<usize> {
-        if is_manual(command) {
-            self.reference_in(value)
-        } else {
-            self.reference_in_content(value)
+    /// Where the name stands in what a command sends, which begins at a place: as it is written, or else the place itself, if the name is there
+    /// once escapes and base64 are read.
+    fn found_in(self, command: &StepCommand, value: usize, as_written: bool) -> Option<usize> {
+        if as_written {
+            if is_manual(command) {
+                return self.reference_in(value);
+            }
+            return self.reference_in_content(value);
         }
-    }
-
-    /// The place of what a command sends, if it has the name once escapes and base64 are read.
-    fn read_in(&self, command: &StepCommand, value: usize) -> Option<usize> {
         match &command.content {
             Some(text) if refers_to(text.text(), self.name) => Some(value),
             _ => None,
         }
     }
 
-    /// Where the name stands in the commands: as it is written, or else as it is read.
+    /// The command in which the name stands, and where: as it is written, or else as it is read.
     fn in_commands(
-        &self,
+        self,
         alloc: Global,
         as_written: bool,
-    ) -> Result<Option<NamePlace>, AllocError> {
-        let list = self.spot.member(alloc, self.bytes, "commands")?;
+    ) -> Result<Option<(Part<'a>, usize)>, AllocError> {
+        let list = member_place(alloc, self.bytes, self.object, "commands")?;
         for (number, command) in commands_of(&self.step.kind).iter().enumerate() {
-            let spot = list.item(alloc, self.bytes, number)?;
-            let spot = self.sent(alloc, command, &spot)?;
-            let found = if as_written {
-                self.written_in(command, spot.at)
-            } else {
-                self.read_in(command, spot.at)
-            };
-            if let Some(at) = found {
-                return Ok(Some(NamePlace { spot, at }));
+            let at = item_at(self.bytes, list, number).unwrap_or(list);
+            let sent = self.sent(alloc, command, at)?;
+            let value = member_place(alloc, self.bytes, at, sent)?;
+            if let Some(found) = self.found_in(command, value, as_written) {
+                return Ok(Some((Part::item("commands", number, Some(sent)), found)));
             }
         }
         Ok(None)
     }
 
-    /// Where the name stands among the arguments or the results.
-    fn in_arguments(&self, alloc: Global) -> Result<Option<NamePlace>, AllocError> {
+    /// The argument or the result that is the name.
+    fn in_arguments(self) -> Option<Part<'a>> {
         if let Some(number) = number_of(in_args_of(&self.step.kind), self.name) {
-            let place = argument_place(alloc, self.bytes, self.spot, "in_args", number)?;
-            return Ok(Some(place));
+            return Some(Part::item("in_args", number, None));
         }
-        if let Some(number) = number_of(out_args_of(&self.step.kind), self.name) {
-            let place = argument_place(alloc, self.bytes, self.spot, "out_args", number)?;
-            return Ok(Some(place));
-        }
-        Ok(None)
+        let number = number_of(out_args_of(&self.step.kind), self.name)?;
+        Some(Part::item("out_args", number, None))
     }
 
-    /// Where the name stands in the step: in its condition or its switch, among its arguments and results, or in its commands.
-    pub(crate) fn place(&self, alloc: Global) -> Result<NamePlace, AllocError> {
+    /// The part of the step in which the name stands, and where: its condition or its switch, one of its arguments and results, or a command. The
+    /// place is that of the part where the name is not written there as it is.
+    pub(crate) fn place(self, alloc: Global) -> Result<(Part<'a>, usize), AllocError> {
         if let Some(member) = text_of_control(&self.step.kind) {
-            let spot = self.spot.member(alloc, self.bytes, member)?;
-            let at = self.reference_in(spot.at).unwrap_or(spot.at);
-            return Ok(NamePlace { spot, at });
+            let value = member_place(alloc, self.bytes, self.object, member)?;
+            return Ok((Part::of(member), self.reference_in(value).unwrap_or(value)));
         }
-        if let Some(place) = self.in_arguments(alloc)? {
-            return Ok(place);
+        if let Some(part) = self.in_arguments() {
+            let value = part.place(alloc, self.bytes, self.object)?;
+            return Ok((part, value.saturating_add(1)));
         }
-        if let Some(place) = self.in_commands(alloc, true)? {
-            return Ok(place);
+        if let Some(found) = self.in_commands(alloc, true)? {
+            return Ok(found);
         }
-        if let Some(place) = self.in_commands(alloc, false)? {
-            return Ok(place);
+        if let Some(found) = self.in_commands(alloc, false)? {
+            return Ok(found);
         }
-        let spot = self.spot.again(alloc)?;
-        let at = spot.at;
-        Ok(NamePlace { spot, at })
+        Ok((Part::whole(), self.object))
     }
 }

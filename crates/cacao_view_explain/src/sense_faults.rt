@@ -1,23 +1,29 @@
 // What breaks a rule of sense, K14 to K21. K13 and K18 ask nothing of playbooks that are read.
+use crate::at_fault::{AtFault, Said};
 use crate::call_faults::called_by;
-use crate::spot::{Finding, Spot};
+use crate::part::Part;
+use crate::wants::{items_of, members_of};
 use cacao_book::{Book, Step, StepKind, find_place};
 use cacao_check::value_fits;
 use cacao_check_steps::{subject_of, version_of};
-use cacao_json::{Text, Tree, member};
+use cacao_json::{Tree, member, text_of};
 use cacao_vars::{Var, Vars};
-use std::alloc::{AllocError, Global};
 
-/// A playbook among others, in the text of its file.
+/// A playbook among others.
 #[derive(Clone, Copy)]
 pub(crate) struct Suspect<'a> {
     pub(crate) books: &'a [Book],
     pub(crate) book: &'a Book,
-    pub(crate) bytes: &'a [u8],
 }
 
 /// What is said of a link that leads to no step.
 const NO_STEP: &str = "no step of the workflow has this key";
+
+/// What is said of links where none is found that leads to no step.
+const NO_LINK: &str = "a link leads to no step";
+
+/// What is said of an agent or a target that is not defined.
+const UNDEFINED: &str = "neither agent_definitions nor target_definitions defines it";
 
 /// The members of a step of any type that are links.
 const NEXT_LINKS: &[&str] = &["on_completion", "on_success", "on_failure"];
@@ -50,256 +56,170 @@ fn has_fitting_value(var: &Var) -> bool {
 }
 
 impl<'a> Suspect<'a> {
-    fn names_step(&self, key: &str) -> bool {
+    fn names_step(self, key: &str) -> bool {
         find_place(self.book.steps.as_slice(), key).is_some()
     }
 
-    /// The finding at a member of an object.
-    fn at_member(
-        &self,
-        alloc: Global,
-        spot: &Spot,
-        name: &str,
-        what: &str,
-    ) -> Result<Finding, AllocError> {
-        let spot = spot.member(alloc, self.bytes, name)?;
-        Finding::of(alloc, spot, what)
-    }
-
     /// What breaks a rule of a whole playbook.
-    pub(crate) fn book_fault(
-        &self,
-        alloc: Global,
-        spot: &Spot,
-        rule: u8,
-    ) -> Result<Finding, AllocError> {
+    pub(crate) fn book_fault(self, rule: u8) -> AtFault<'a> {
         if rule == 14 {
-            return self.at_member(
-                alloc,
-                spot,
+            return AtFault::of(
                 "id",
                 "a playbook that is given before has this identifier too",
             );
         }
         if rule == 20 {
-            return self.value_fault(alloc, spot, "playbook_variables", &self.book.variables);
+            return value_fault("playbook_variables", &self.book.variables);
         }
-        let starts = match find_place(self.book.steps.as_slice(), self.book.start.text()) {
-            Some(_) => true,
-            None => false,
-        };
-        if !starts {
-            return self.at_member(alloc, spot, "workflow_start", NO_STEP);
+        if !self.names_step(self.book.start.text()) {
+            return AtFault::of("workflow_start", NO_STEP);
         }
         if let Some(key) = &self.book.exception {
             if !self.names_step(key.text()) {
-                return self.at_member(alloc, spot, "workflow_exception", NO_STEP);
+                return AtFault::of("workflow_exception", NO_STEP);
             }
         }
-        self.at_member(
-            alloc,
-            spot,
-            "workflow_start",
-            "the step of this key is no start step",
-        )
+        AtFault::of("workflow_start", "the step of this key is no start step")
     }
 
-    /// What breaks a rule of a step.
-    pub(crate) fn step_fault(
-        &self,
-        alloc: Global,
-        object: &Tree,
-        spot: &Spot,
-        step: &Step,
-        rule: u8,
-    ) -> Result<Finding, AllocError> {
+    /// What breaks a rule of a step, which this object is.
+    pub(crate) fn step_fault(self, object: &'a Tree, step: &'a Step, rule: u8) -> AtFault<'a> {
         match rule {
-            16 => self.link_fault(alloc, object, spot, step),
-            17 => self.agent_fault(alloc, object, spot),
-            19 => self.version_fault(alloc, spot, step),
-            20 => self.value_fault(alloc, spot, "step_variables", &step.variables),
-            21 => self.condition_fault(alloc, spot, step),
-            _ => Finding::of(alloc, spot.again(alloc)?, "a rule is broken here"),
+            16 => self.link_fault(object, step),
+            17 => self.agent_fault(object),
+            19 => self.version_fault(step),
+            20 => value_fault("step_variables", &step.variables),
+            21 => condition_fault(step),
+            _ => AtFault::whole("a rule is broken here"),
         }
-    }
-
-    /// A variable whose value is not of its kind.
-    fn value_fault(
-        &self,
-        alloc: Global,
-        spot: &Spot,
-        dictionary: &str,
-        vars: &Vars,
-    ) -> Result<Finding, AllocError> {
-        let spot = spot.member(alloc, self.bytes, dictionary)?;
-        for var in vars.as_slice() {
-            if !has_fitting_value(var) {
-                let spot = spot.member(alloc, self.bytes, var.name.text())?;
-                return self.at_member(
-                    alloc,
-                    &spot,
-                    "value",
-                    "the value is not a text of the variable's type",
-                );
-            }
-        }
-        Finding::of(alloc, spot, "a value is not a text of its variable's type")
     }
 
     /// A link that leads to no step. Members that are no links of a step of this type are not looked at.
-    fn link_fault(
-        &self,
-        alloc: Global,
-        object: &Tree,
-        spot: &Spot,
-        step: &Step,
-    ) -> Result<Finding, AllocError> {
+    fn link_fault(self, object: &'a Tree, step: &Step) -> AtFault<'a> {
         for link in links_of(&step.kind) {
-            if let Some(Tree::Text(key)) = member(object, *link) {
-                if !self.names_step(key.text()) {
-                    return self.at_member(alloc, spot, *link, NO_STEP);
+            if let Some(key) = member(object, *link) {
+                if text_of(key).is_some() && !self.item_names_step(key) {
+                    return AtFault::of(*link, NO_STEP);
                 }
             }
         }
         match &step.kind {
-            StepKind::Parallel { .. } => self.branch_fault(alloc, object, spot),
-            StepKind::Switch { .. } => self.case_fault(alloc, object, spot),
-            _ => Finding::of(alloc, spot.again(alloc)?, "a link leads to no step"),
+            StepKind::Parallel { .. } => self.branch_fault(object),
+            StepKind::Switch { .. } => self.case_fault(object),
+            _ => AtFault::whole(NO_LINK),
         }
     }
 
     /// A branch of a parallel that leads to no step.
-    fn branch_fault(
-        &self,
-        alloc: Global,
-        object: &Tree,
-        spot: &Spot,
-    ) -> Result<Finding, AllocError> {
-        let spot = spot.member(alloc, self.bytes, "next_steps")?;
-        if let Some(Tree::List(items)) = member(object, "next_steps") {
-            for (number, item) in items.as_slice().iter().enumerate() {
+    fn branch_fault(self, object: &Tree) -> AtFault<'a> {
+        if let Some(list) = member(object, "next_steps") {
+            for (number, item) in items_of(list).iter().enumerate() {
                 if !self.item_names_step(item) {
-                    let spot = spot.item(alloc, self.bytes, number)?;
-                    return Finding::of(alloc, spot, NO_STEP);
+                    return AtFault {
+                        part: Part::item("next_steps", number, None),
+                        said: Said::Plain(NO_STEP),
+                    };
                 }
             }
         }
-        Finding::of(alloc, spot, "a link leads to no step")
+        AtFault::of("next_steps", NO_LINK)
     }
 
-    fn item_names_step(&self, item: &Tree) -> bool {
-        match item {
-            Tree::Text(key) => self.names_step(key.text()),
-            _ => false,
+    fn item_names_step(self, item: &Tree) -> bool {
+        match text_of(item) {
+            Some(key) => self.names_step(key.text()),
+            None => false,
         }
     }
 
     /// A case of a switch that leads to no step.
-    fn case_fault(&self, alloc: Global, object: &Tree, spot: &Spot) -> Result<Finding, AllocError> {
-        let spot = spot.member(alloc, self.bytes, "cases")?;
-        if let Some(Tree::Members(pairs)) = member(object, "cases") {
-            for pair in pairs.as_slice() {
+    fn case_fault(self, object: &'a Tree) -> AtFault<'a> {
+        if let Some(cases) = member(object, "cases") {
+            for pair in members_of(cases) {
                 if !self.item_names_step(&pair.tree) {
-                    return self.at_member(alloc, &spot, pair.name.text(), NO_STEP);
+                    return AtFault {
+                        part: Part::below("cases", pair.name.text(), None),
+                        said: Said::Plain(NO_STEP),
+                    };
                 }
             }
         }
-        Finding::of(alloc, spot, "a link leads to no step")
+        AtFault::of("cases", NO_LINK)
     }
 
-    fn defines(&self, name: &Text) -> bool {
+    /// Whether the value is a text that names no agent and no target of the playbook.
+    fn is_undefined(self, tree: &Tree) -> bool {
+        let Some(name) = text_of(tree) else {
+            return false;
+        };
         for agent in self.book.agents.as_slice() {
             if agent.text() == name.text() {
-                return true;
+                return false;
             }
         }
-        false
+        true
     }
 
     /// An agent or a target that is not defined.
-    fn agent_fault(
-        &self,
-        alloc: Global,
-        object: &Tree,
-        spot: &Spot,
-    ) -> Result<Finding, AllocError> {
-        if let Some(Tree::Text(agent)) = member(object, "agent") {
-            if !self.defines(agent) {
-                return self.at_member(
-                    alloc,
-                    spot,
-                    "agent",
-                    "neither agent_definitions nor target_definitions defines it",
-                );
+    fn agent_fault(self, object: &Tree) -> AtFault<'a> {
+        if let Some(agent) = member(object, "agent") {
+            if self.is_undefined(agent) {
+                return AtFault::of("agent", UNDEFINED);
             }
         }
-        let spot = spot.member(alloc, self.bytes, "targets")?;
-        if let Some(Tree::List(items)) = member(object, "targets") {
-            for (number, item) in items.as_slice().iter().enumerate() {
-                if let Tree::Text(target) = item {
-                    if !self.defines(target) {
-                        let spot = spot.item(alloc, self.bytes, number)?;
-                        return Finding::of(
-                            alloc,
-                            spot,
-                            "neither agent_definitions nor target_definitions defines it",
-                        );
-                    }
+        if let Some(targets) = member(object, "targets") {
+            for (number, target) in items_of(targets).iter().enumerate() {
+                if self.is_undefined(target) {
+                    return AtFault {
+                        part: Part::item("targets", number, None),
+                        said: Said::Plain(UNDEFINED),
+                    };
                 }
             }
         }
-        Finding::of(alloc, spot, "an agent or a target is not defined")
+        AtFault::of("targets", "an agent or a target is not defined")
     }
 
-    fn version_fault(
-        &self,
-        alloc: Global,
-        spot: &Spot,
-        step: &Step,
-    ) -> Result<Finding, AllocError> {
+    fn version_fault(self, step: &Step) -> AtFault<'a> {
         if let Some(version) = version_of(&step.kind) {
             if let Some(book) = called_by(self.books, step) {
                 if book.modified.text() != version.text() {
-                    let modified = book.modified.text();
-                    let spot = spot.member(alloc, self.bytes, "playbook_version")?;
-                    let what = format!(in alloc;
-                        "the playbook that is given is of another version: its modified is {modified}"
-                    )?;
-                    return Ok(Finding {
-                        spot,
-                        named: None,
-                        what,
-                    });
+                    return AtFault {
+                        part: Part::of("playbook_version"),
+                        said: Said::Version(book.modified.text()),
+                    };
                 }
             }
         }
-        self.at_member(
-            alloc,
-            spot,
+        AtFault::of(
             "playbook_id",
             "the calls of this playbook lead back to the one that calls it",
         )
     }
+}
 
-    fn condition_fault(
-        &self,
-        alloc: Global,
-        spot: &Spot,
-        step: &Step,
-    ) -> Result<Finding, AllocError> {
-        match subject_of(&step.kind) {
-            None => self.at_member(
-                alloc,
-                spot,
-                "condition",
-                "this is no condition: it compares references with values, as in `__name__:value >= 7`, with AND, OR, IN and parentheses",
-            ),
-            Some(_) => self.at_member(
-                alloc,
-                spot,
-                "switch",
-                "this is not exactly one reference to a variable, as `__name__:value`",
-            ),
+/// A variable of this dictionary whose value is not of its kind.
+fn value_fault<'a>(dictionary: &'static str, vars: &'a Vars) -> AtFault<'a> {
+    for var in vars.as_slice() {
+        if !has_fitting_value(var) {
+            return AtFault {
+                part: Part::below(dictionary, var.name.text(), Some("value")),
+                said: Said::Plain("the value is not a text of the variable's type"),
+            };
         }
+    }
+    AtFault::of(dictionary, "a value is not a text of its variable's type")
+}
+
+fn condition_fault<'a>(step: &Step) -> AtFault<'a> {
+    match subject_of(&step.kind) {
+        None => AtFault::of(
+            "condition",
+            "this is no condition: it compares references with values, as in `__name__:value >= 7`, with AND, OR, IN and parentheses",
+        ),
+        Some(_) => AtFault::of(
+            "switch",
+            "this is not exactly one reference to a variable, as `__name__:value`",
+        ),
     }
 }

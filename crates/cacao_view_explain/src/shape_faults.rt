@@ -1,6 +1,6 @@
 // What breaks a rule of shape, K1 to K12.
+use crate::at_fault::AtFault;
 use crate::shape_parts::part_fault;
-use crate::spot::{Finding, Spot};
 use crate::wants::Wants;
 use cacao_book_shape::some_text;
 use cacao_json::{Tree, member};
@@ -100,47 +100,28 @@ fn wanted_of_control(kind: &str) -> &'static [(&'static str, Wants)] {
     SWITCH
 }
 
-/// What is said of a member that is not there.
-fn missing(alloc: Global, spot: &Spot, name: &str, says: &str) -> Result<Finding, AllocError> {
-    let what = format!(in alloc; "there is no member {name}: {says}")?;
-    Ok(Finding {
-        spot: spot.again(alloc)?,
-        named: None,
-        what,
-    })
-}
-
-/// The finding at a member, if it is not as it is wanted.
-fn misfit(
+/// What is at fault in the member of this name, if it is not as it is wanted.
+fn misfit<'a>(
     alloc: Global,
-    bytes: &[u8],
-    object: &Tree,
-    spot: &Spot,
-    name: &str,
+    object: &'a Tree,
+    name: &'static str,
     wants: Wants,
-) -> Result<Option<Finding>, AllocError> {
+) -> Result<Option<AtFault<'a>>, AllocError> {
     let Some(value) = member(object, name) else {
         if wants.may_be_absent() {
             return Ok(None);
         }
-        let finding = missing(alloc, spot, name, wants.says())?;
-        return Ok(Some(finding));
+        return Ok(Some(AtFault::missing(name, wants.says())));
     };
     if wants.fits(alloc, value)? {
         return Ok(None);
     }
-    let spot = spot.member(alloc, bytes, name)?;
-    let finding = part_fault(alloc, bytes, spot, value, wants)?;
-    Ok(Some(finding))
+    let fault = part_fault(alloc, name, value, wants)?;
+    Ok(Some(fault))
 }
 
 /// What breaks the rule on links that go together.
-fn link_fault(
-    alloc: Global,
-    bytes: &[u8],
-    step: &Tree,
-    spot: &Spot,
-) -> Result<Finding, AllocError> {
+fn link_fault<'a>(step: &Tree) -> AtFault<'a> {
     let name = if member(step, "on_success").is_some() {
         "on_success"
     } else {
@@ -149,41 +130,34 @@ fn link_fault(
     let splits = member(step, name).is_some();
     if some_text(step, "type") == "end" {
         let name = if splits { name } else { "on_completion" };
-        let spot = spot.member(alloc, bytes, name)?;
-        return Finding::of(alloc, spot, "an end step goes on to no other step");
+        return AtFault::of(name, "an end step goes on to no other step");
     }
     if splits && member(step, "on_completion").is_some() {
-        let spot = spot.member(alloc, bytes, name)?;
-        return Finding::of(
-            alloc,
-            spot,
+        return AtFault::of(
+            name,
             "on_success and on_failure do not stand beside on_completion",
         );
     }
-    missing(
-        alloc,
-        spot,
+    AtFault::missing(
         "on_completion",
         "the step goes on to another, by on_completion or on_success",
     )
 }
 
-/// What breaks this rule of shape in the playbook, or in the step, that stands at this spot.
-pub(crate) fn shape_fault(
+/// What breaks this rule of shape in the playbook, or in the step.
+pub(crate) fn shape_fault<'a>(
     alloc: Global,
-    bytes: &[u8],
-    object: &Tree,
-    spot: Spot,
+    object: &'a Tree,
     rule: u8,
-) -> Result<Finding, AllocError> {
+) -> Result<AtFault<'a>, AllocError> {
     let kind = some_text(object, "type");
     for (name, wants) in wanted(rule, kind) {
-        if let Some(finding) = misfit(alloc, bytes, object, &spot, *name, *wants)? {
-            return Ok(finding);
+        if let Some(fault) = misfit(alloc, object, *name, *wants)? {
+            return Ok(fault);
         }
     }
     if rule == 8 {
-        return link_fault(alloc, bytes, object, &spot);
+        return Ok(link_fault(object));
     }
-    Finding::of(alloc, spot, "an object is wanted")
+    Ok(AtFault::whole("an object is wanted"))
 }

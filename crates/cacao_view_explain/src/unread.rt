@@ -15,7 +15,7 @@ use cacao_view_faults::scan::string_end;
 use cacao_view_faults::{
     Told, Twice, broken_number, is_twice, name_twice, plain_words, told_fault,
 };
-use cacao_view_report::Lines;
+use cacao_view_words::Lines;
 use std::alloc::{AllocError, Global};
 
 /// What is said of a text in which two names are one, where they are not found.

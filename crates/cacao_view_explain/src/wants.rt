@@ -1,7 +1,7 @@
 // What the rules of shape want of a member.
 use cacao_book_shape::decoded;
 use cacao_ids::{Id, Stamp};
-use cacao_json::{Tree, member, text_of, whole_of};
+use cacao_json::{Pair, Tree, member, text_of, whole_of};
 use cacao_vars::{Name, whole_reference};
 use std::alloc::{AllocError, Global};
 
@@ -86,19 +86,89 @@ impl Wants {
             Wants::Id => is_id(alloc, tree),
             Wants::Stamp => is_stamp(alloc, tree),
             Wants::Whole => Ok(is_short_whole(tree)),
-            Wants::Variables => Ok(are_variables(tree)),
-            Wants::Definitions => are_under_ids(alloc, tree, false),
-            Wants::Steps => are_under_ids(alloc, tree, true),
+            Wants::Variables => self.fits_members(alloc, tree, 0, 1024),
+            Wants::Definitions => self.fits_members(alloc, tree, 0, usize::MAX),
+            Wants::Steps => self.fits_members(alloc, tree, 1, 4096),
             Wants::Type => Ok(is_type(tree)),
-            Wants::Commands => Ok(are_commands(tree)),
-            Wants::Targets => Ok(are_texts(tree, 0, 64)),
-            Wants::InArgs => Ok(are_names(tree, 64)),
-            Wants::OutArgs => Ok(are_names(tree, 3)),
+            Wants::Commands => self.fits_list(alloc, tree, 1, 64),
+            Wants::Targets => self.fits_list(alloc, tree, 0, 64),
+            Wants::InArgs => self.fits_list(alloc, tree, 0, 64),
+            Wants::OutArgs => self.fits_list(alloc, tree, 0, 3),
             Wants::Condition => Ok(is_short(tree, 2048)),
-            Wants::NextSteps => Ok(are_texts(tree, 1, 64)),
-            Wants::Cases => Ok(are_cases(tree)),
-            Wants::Contents => have_contents(alloc, tree),
+            Wants::NextSteps => self.fits_list(alloc, tree, 1, 64),
+            Wants::Cases => self.fits_members(alloc, tree, 1, 64),
+            Wants::Contents => self.fits_list(alloc, tree, 0, usize::MAX),
         }
+    }
+
+    /// Whether the name of a member is as it is wanted.
+    pub(crate) fn fits_name(self, alloc: Global, name: &str) -> Result<bool, AllocError> {
+        match self {
+            Wants::Variables => Ok(Name::fits(name)),
+            Wants::Definitions | Wants::Steps => is_id_text(alloc, name),
+            _ => Ok(true),
+        }
+    }
+
+    /// Whether the value of a member is.
+    pub(crate) fn fits_value(self, tree: &Tree) -> bool {
+        match self {
+            Wants::Variables => is_declaration(tree),
+            Wants::Steps => matches!(tree, Tree::Members(_)),
+            Wants::Cases => text_of(tree).is_some(),
+            _ => true,
+        }
+    }
+
+    /// Whether the value is an object with so many members, each as it is wanted.
+    fn fits_members(
+        self,
+        alloc: Global,
+        tree: &Tree,
+        least: usize,
+        most: usize,
+    ) -> Result<bool, AllocError> {
+        let pairs = members_of(tree);
+        if !matches!(tree, Tree::Members(_)) || pairs.len() < least || pairs.len() > most {
+            return Ok(false);
+        }
+        for pair in pairs {
+            if !self.fits_name(alloc, pair.name.text())? || !self.fits_value(&pair.tree) {
+                return Ok(false);
+            }
+        }
+        Ok(true)
+    }
+
+    /// Whether an item of a list is as it is wanted.
+    pub(crate) fn fits_item(self, alloc: Global, item: &Tree) -> Result<bool, AllocError> {
+        match self {
+            Wants::Commands => Ok(is_command(item)),
+            Wants::Contents => has_content(alloc, item),
+            Wants::InArgs | Wants::OutArgs => Ok(is_argument(item)),
+            Wants::Targets | Wants::NextSteps => Ok(text_of(item).is_some()),
+            _ => Ok(true),
+        }
+    }
+
+    /// Whether the value is a list with so many items, each as it is wanted.
+    fn fits_list(
+        self,
+        alloc: Global,
+        tree: &Tree,
+        least: usize,
+        most: usize,
+    ) -> Result<bool, AllocError> {
+        let items = items_of(tree);
+        if !matches!(tree, Tree::List(_)) || items.len() < least || items.len() > most {
+            return Ok(false);
+        }
+        for item in items {
+            if !self.fits_item(alloc, item)? {
+                return Ok(false);
+            }
+        }
+        Ok(true)
     }
 }
 
@@ -117,7 +187,7 @@ fn is_short(tree: &Tree, most: usize) -> bool {
 }
 
 /// Whether the text is an identifier.
-pub(crate) fn is_id_text(alloc: Global, text: &str) -> Result<bool, AllocError> {
+fn is_id_text(alloc: Global, text: &str) -> Result<bool, AllocError> {
     let id = Id::read(alloc, text)?;
     Ok(id.is_some())
 }
@@ -165,7 +235,7 @@ fn is_flag_or_absent(tree: &Tree, name: &str) -> bool {
 }
 
 /// Whether the value is the declaration of a variable.
-pub(crate) fn is_declaration(tree: &Tree) -> bool {
+fn is_declaration(tree: &Tree) -> bool {
     let has_type = match member(tree, "type") {
         Some(kind) => is_short(kind, 64) && !is_this(kind, ""),
         None => false,
@@ -180,41 +250,6 @@ pub(crate) fn is_declaration(tree: &Tree) -> bool {
         && is_flag_or_absent(tree, "external")
 }
 
-fn are_variables(tree: &Tree) -> bool {
-    let Tree::Members(pairs) = tree else {
-        return false;
-    };
-    let pairs = pairs.as_slice();
-    if pairs.len() > 1024 {
-        return false;
-    }
-    for pair in pairs {
-        if !Name::fits(pair.name.text()) || !is_declaration(&pair.tree) {
-            return false;
-        }
-    }
-    true
-}
-
-fn are_under_ids(alloc: Global, tree: &Tree, steps: bool) -> Result<bool, AllocError> {
-    let Tree::Members(pairs) = tree else {
-        return Ok(false);
-    };
-    let pairs = pairs.as_slice();
-    if steps && (pairs.len() < 1 || pairs.len() > 4096) {
-        return Ok(false);
-    }
-    for pair in pairs {
-        if !is_id_text(alloc, pair.name.text())? {
-            return Ok(false);
-        }
-        if steps && !matches!(pair.tree, Tree::Members(_)) {
-            return Ok(false);
-        }
-    }
-    Ok(true)
-}
-
 fn is_type(tree: &Tree) -> bool {
     is_this(tree, "start")
         || is_this(tree, "end")
@@ -226,6 +261,14 @@ fn is_type(tree: &Tree) -> bool {
         || is_this(tree, "switch-condition")
 }
 
+/// The members of an object; none where the value is none.
+pub(crate) fn members_of(tree: &Tree) -> &[Pair] {
+    match tree {
+        Tree::Members(pairs) => pairs.as_slice(),
+        _ => &[],
+    }
+}
+
 /// The items of a list; none where the value is none.
 pub(crate) fn items_of(tree: &Tree) -> &[Tree] {
     match tree {
@@ -234,81 +277,24 @@ pub(crate) fn items_of(tree: &Tree) -> &[Tree] {
     }
 }
 
-fn is_list(tree: &Tree, least: usize, most: usize) -> bool {
-    let count = items_of(tree).len();
-    matches!(tree, Tree::List(_)) && least <= count && count <= most
-}
-
-fn are_texts(tree: &Tree, least: usize, most: usize) -> bool {
-    if !is_list(tree, least, most) {
-        return false;
-    }
-    for item in items_of(tree) {
-        if text_of(item).is_none() {
-            return false;
-        }
-    }
-    true
-}
-
 /// Whether the value is the name of a variable, or a reference to it.
-pub(crate) fn is_argument(tree: &Tree) -> bool {
+fn is_argument(tree: &Tree) -> bool {
     match text_of(tree) {
         Some(text) => Name::fits(text.text()) || whole_reference(text.text()).is_some(),
         None => false,
     }
 }
 
-fn are_names(tree: &Tree, most: usize) -> bool {
-    if !is_list(tree, 0, most) {
-        return false;
-    }
-    for item in items_of(tree) {
-        if !is_argument(item) {
-            return false;
-        }
-    }
-    true
-}
-
 /// Whether the value is an object with a type.
-pub(crate) fn is_command(tree: &Tree) -> bool {
+fn is_command(tree: &Tree) -> bool {
     match member(tree, "type") {
         Some(kind) => text_of(kind).is_some(),
         None => false,
     }
 }
 
-fn are_commands(tree: &Tree) -> bool {
-    if !is_list(tree, 1, 64) {
-        return false;
-    }
-    for item in items_of(tree) {
-        if !is_command(item) {
-            return false;
-        }
-    }
-    true
-}
-
-fn are_cases(tree: &Tree) -> bool {
-    let Tree::Members(pairs) = tree else {
-        return false;
-    };
-    let pairs = pairs.as_slice();
-    if pairs.is_empty() || pairs.len() > 64 {
-        return false;
-    }
-    for pair in pairs {
-        if text_of(&pair.tree).is_none() {
-            return false;
-        }
-    }
-    true
-}
-
 /// Whether the command has a content as an openc2-http command has it.
-pub(crate) fn has_content(alloc: Global, command: &Tree) -> Result<bool, AllocError> {
+fn has_content(alloc: Global, command: &Tree) -> Result<bool, AllocError> {
     let is_openc2 = match member(command, "type") {
         Some(kind) => is_this(kind, "openc2-http"),
         None => false,
@@ -330,13 +316,4 @@ pub(crate) fn has_content(alloc: Global, command: &Tree) -> Result<bool, AllocEr
             None => Ok(false),
         },
     }
-}
-
-fn have_contents(alloc: Global, commands: &Tree) -> Result<bool, AllocError> {
-    for command in items_of(commands) {
-        if !has_content(alloc, command)? {
-            return Ok(false);
-        }
-    }
-    Ok(true)
 }

@@ -8,3 +8,10 @@ pub mod LineLemmas
 pub mod PlacingLemmas
 pub mod QuoteLemmas
 pub mod TallyLemmas
+mod CourseLemmas
+mod CutLemmas
+mod NoteLemmas
+mod RunLemmas
+mod RunLineLemmas
+mod SentLemmas
+mod TreeLemmas

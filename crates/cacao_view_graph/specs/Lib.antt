@@ -10,3 +10,9 @@ pub mod Places
 pub mod Placing
 pub mod Tallies
 pub mod Laws
+pub mod Courses
+pub mod Notes
+pub mod RunPictures
+pub mod RunLaws
+pub mod Following
+pub mod Cutting

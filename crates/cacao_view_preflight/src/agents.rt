@@ -8,7 +8,7 @@ ghost use Rattle.cacao_view_preflight.specs.Warnings.{Text as AText, agent_line,
 use crate::name_set::NameSet;
 use cacao_book::Book;
 use cacao_json::{Pair, Text};
-use cacao_view_report::Lines;
+use cacao_view_words::Lines;
 use std::alloc::{AllocError, Global};
 
 // ---- agents that are not bound

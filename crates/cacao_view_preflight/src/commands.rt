@@ -10,7 +10,7 @@ use crate::sure::Sure;
 use cacao_book::{Book, Step, StepCommand};
 use cacao_check_steps::commands_of;
 use cacao_vars::Vars;
-use cacao_view_report::Lines;
+use cacao_view_words::Lines;
 use std::alloc::{AllocError, Global};
 
 /// What is sure of the answer: the status and its text, where they are.

@@ -14,7 +14,7 @@ use cacao_cli_ends::End;
 use cacao_cli_looks::{FileText, trees_of};
 use cacao_json::{Pairs, Tree};
 use cacao_site::Bytes;
-use cacao_view_report::{Lines, Report};
+use cacao_view_words::{Lines, Report};
 use flow_core_setup::{Setup, SetupError, setup_law};
 use std::alloc::{AllocError, Global};
 

@@ -7,7 +7,7 @@ use crate::members::step_front;
 use crate::variables::is_unset;
 use cacao_book::{Book, Step};
 use cacao_vars::Var;
-use cacao_view_report::Lines;
+use cacao_view_words::Lines;
 use std::alloc::{AllocError, Global};
 
 fn step_variable_words(alloc: Global, name: &str) -> Result<String, AllocError>

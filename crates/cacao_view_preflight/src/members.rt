@@ -10,7 +10,7 @@ use crate::step_members::is_step_member;
 use cacao_book_shape::{members_at, some_text};
 use cacao_json::{Pair, Pairs, Tree};
 use cacao_text::canonical_string;
-use cacao_view_report::Lines;
+use cacao_view_words::Lines;
 use std::alloc::{AllocError, Global};
 
 /// The members as they stand in the tree.

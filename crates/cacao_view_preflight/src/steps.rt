@@ -5,7 +5,7 @@ ghost use Rattle.cacao_view_preflight.specs.Warnings.{each, of_reach, of_steps, 
 use base_graphs::Bits;
 use cacao_book::{Book, Step};
 use cacao_check_regions::Survey;
-use cacao_view_report::Lines;
+use cacao_view_words::Lines;
 use std::alloc::{AllocError, Global};
 
 fn step_line(alloc: Global, n: usize, key: &str) -> Result<String, AllocError>

@@ -7,7 +7,7 @@ ghost use Rattle.cacao_view_preflight.specs.Warnings.{Text as AText, called_line
 use crate::name_set::NameSet;
 use cacao_book::{Book, Step, StepKind};
 use cacao_vars::{Name, Var};
-use cacao_view_report::Lines;
+use cacao_view_words::Lines;
 use std::alloc::{AllocError, Global};
 
 /// Whether the variable is external and its declaration gives no value.

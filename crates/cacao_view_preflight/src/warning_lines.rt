@@ -14,7 +14,7 @@ use cacao_book::Book;
 use cacao_book_shape::members_at;
 use cacao_check_regions::survey_all;
 use cacao_json::Tree;
-use cacao_view_report::Lines;
+use cacao_view_words::Lines;
 use std::alloc::{AllocError, Global};
 
 /// A line for each warning of these playbooks, whose trees these are, with these bindings: agents and targets that are not bound;

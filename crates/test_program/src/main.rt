@@ -1,4 +1,4 @@
-//! The program on shelves and sites in memory, played by files of rows: each row says what is done, and the rows that ask say in their
+//! The two programs on shelves and sites in memory, played by files of rows: each row says what is done, and the rows that ask say in their
 //! last field what is to come. For each file the number of rows that were compared is printed, and each row that differs.
 #![tactic(auto)]
 
@@ -9,6 +9,8 @@ mod pieces;
 mod plans;
 mod player;
 mod texts;
+mod view_calls;
+mod views;
 
 use kinds::{Came, play};
 use player::Player;
@@ -16,6 +18,7 @@ use std::io;
 use std::process::ExitCode;
 use std::rt::Files;
 use test_rows::{Row, Tally, read_file};
+use views::play_views;
 
 /// The files of rows. The texts that the first one names stand for all.
 const FILES: [&str; 13] = [
@@ -75,7 +78,8 @@ fn play_all(rt: &(impl Print + Files + AllocGlobal)) -> io::Result<bool> {
 }
 
 fn main(rt: HostRuntime) -> io::Result<ExitCode> {
-    if play_all(&rt)? {
+    let agreed = play_all(&rt)?;
+    if play_views(&rt)? && agreed {
         Ok(ExitCode::SUCCESS)
     } else {
         Ok(ExitCode::FAILURE)

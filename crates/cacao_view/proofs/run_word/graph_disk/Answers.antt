@@ -3,7 +3,7 @@ use Rattle.std.proofs.Common.{◌∙◌, inl, refl, sym, ap, subst, Err}
 use Rattle.cacao_site.specs.View.{SiteView}
 use Rattle.cacao_cli_ends.specs.Ends.{End}
 use Rattle.cacao_cli_looks.specs.Openings.{Opens}
-use Rattle.cacao_view_graph_run.specs.RunPictures.{DrawsEntries}
+use Rattle.cacao_view_graph.specs.RunPictures.{DrawsEntries}
 use Rattle.cacao_view.specs.OpeningRuns.{OpensTo}
 use Rattle.cacao_view.proofs.OpenedLemmas.{not-opened, not-told}
 use Rattle.cacao_view.proofs.run_word.graph_disk.Goals as goal

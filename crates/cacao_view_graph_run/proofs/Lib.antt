@@ -1,7 +1,0 @@
-mod CourseLemmas
-mod CutLemmas
-mod LineLemmas
-mod NoteLemmas
-mod RunLemmas
-mod SentLemmas
-mod TreeLemmas

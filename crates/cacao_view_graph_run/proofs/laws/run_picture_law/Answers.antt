@@ -1,5 +1,0 @@
-use Rattle.cacao_view_graph_run.proofs.SentLemmas.{issues_have_steps}
-use Rattle.cacao_view_graph_run.proofs.laws.run_picture_law.Goals as goal
-
-pub returns : goal.returns
-returns c = record { issues = issues_have_steps }
