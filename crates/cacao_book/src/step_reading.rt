@@ -16,7 +16,7 @@ use crate::step_kinds::StepKind;
 use crate::step_lists::Steps;
 use crate::steps::Step;
 use crate::text_reading::{read_some_text, read_text, read_texts};
-use cacao_book_shape::{has_type, members_at, text_or_empty};
+use cacao_book_shape::{is_type, members_at, text_at, text_or_empty};
 use cacao_ids::Id;
 use cacao_json::{Pair, Text, Tree, member, whole_of};
 use std::alloc::{AllocError, Global};
@@ -153,29 +153,30 @@ fn read_kind(alloc: Global, step: &Tree) -> Result<StepKind, AllocError>
     requires k11 { K11 (data_of step.now) }
     ensures { IfOk result (λ kind. kind ≡ kind_at (data_of step.now)) }
 {
-    if has_type(step, "start") {
+    let found = text_at(step, "type");
+    if is_type(step, found, "start") {
         return Ok(StepKind::Start);
     }
-    if has_type(step, "end") {
+    if is_type(step, found, "end") {
         return Ok(StepKind::End);
     }
-    if has_type(step, "action") {
+    if is_type(step, found, "action") {
         let kind = read_action(alloc, step)?;
         return Ok(kind);
     }
-    if has_type(step, "playbook-action") {
+    if is_type(step, found, "playbook-action") {
         let kind = read_playbook_action(alloc, step)?;
         return Ok(kind);
     }
-    if has_type(step, "parallel") {
+    if is_type(step, found, "parallel") {
         let kind = read_parallel(alloc, step)?;
         return Ok(kind);
     }
-    if has_type(step, "if-condition") {
+    if is_type(step, found, "if-condition") {
         let kind = read_if(alloc, step)?;
         return Ok(kind);
     }
-    if has_type(step, "while-condition") {
+    if is_type(step, found, "while-condition") {
         let kind = read_while(alloc, step)?;
         return Ok(kind);
     }

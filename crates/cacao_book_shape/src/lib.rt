@@ -14,6 +14,6 @@ mod step_rules;
 
 pub use contents::decoded;
 pub use lists::{items_at, members_at, text_or_empty};
-pub use members::{flag_at, has_type, some_text, text_at};
+pub use members::{flag_at, has_type, is_type, some_text, text_at};
 pub use refusals::BookError;
 pub use shape::test_shape;

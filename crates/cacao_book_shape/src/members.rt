@@ -1,5 +1,5 @@
 // Looking into an object. No call here takes memory.
-ghost use Rattle.std.specs.Prelude.{◌≡◌, ◌↔◌, IsTrue, option_map, unwrap_or};
+ghost use Rattle.std.specs.Prelude.{◌≡◌, ◌↔◌, IsTrue, codes, option_map, unwrap_or};
 ghost use Rattle.serde_json.specs.Find.{as_bool, as_array, as_object};
 ghost use Rattle.cacao_json.specs.Tree.{data_of};
 ghost use Rattle.cacao_book_shape.specs.Members.{Has, MayHave, has, has_text, IsText, IsFlag, IsShort, IsUpTo, TextFits, IsObject, maybe_text, some_text, flag_at};
@@ -48,6 +48,18 @@ pub fn has_type(tree: &Tree, name: &str) -> bool
     ensures { result ≡ is_of_type name.now (data_of tree.now) }
 {
     has_text(tree, "type", name)
+}
+
+/// The same of a tree whose type, if it has one, is this text.
+pub fn is_type(tree: &Tree, found: Option<&str>, name: &str) -> bool
+    requires { option_map (λ text. text.now) found ≡ maybe_text (codes "type") (data_of tree.now) }
+    ensures { result ≡ is_of_type name.now (data_of tree.now) }
+{
+    let _ = tree;
+    match found {
+        Some(found) => found == name,
+        None => false,
+    }
 }
 
 /// Whether a member is there and is a text.

@@ -11,8 +11,8 @@ use crate::dictionaries::may_have_dictionary;
 use crate::grammars::has_id;
 use crate::lists::{is_text, is_text_list, list, pairs};
 use crate::members::{
-    has_member, has_some_text, has_type, is_short_text, items_of, may_have_text, may_have_up_to,
-    members_of,
+    has_member, has_some_text, has_type, is_short_text, is_type, items_of, may_have_text,
+    may_have_up_to, members_of, text_at,
 };
 use cacao_json::{Pair, Tree, member};
 use std::alloc::{AllocError, Global};
@@ -29,14 +29,15 @@ const MOST_OUT: usize = 3;
 fn keeps_k5(step: &Tree) -> bool
     ensures { IsTrue result ↔ K5 (data_of step.now) }
 {
-    has_type(step, "start")
-        || has_type(step, "end")
-        || has_type(step, "action")
-        || has_type(step, "playbook-action")
-        || has_type(step, "parallel")
-        || has_type(step, "if-condition")
-        || has_type(step, "while-condition")
-        || has_type(step, "switch-condition")
+    let found = text_at(step, "type");
+    is_type(step, found, "start")
+        || is_type(step, found, "end")
+        || is_type(step, found, "action")
+        || is_type(step, found, "playbook-action")
+        || is_type(step, found, "parallel")
+        || is_type(step, found, "if-condition")
+        || is_type(step, found, "while-condition")
+        || is_type(step, found, "switch-condition")
 }
 
 fn keeps_k6(step: &Tree) -> bool
@@ -63,7 +64,10 @@ fn links_are_texts(step: &Tree) -> bool
 fn must_go_on(step: &Tree) -> bool
     ensures { result ≡ must_go_on (data_of step.now) }
 {
-    has_type(step, "start") || has_type(step, "action") || has_type(step, "playbook-action")
+    let found = text_at(step, "type");
+    is_type(step, found, "start")
+        || is_type(step, found, "action")
+        || is_type(step, found, "playbook-action")
 }
 
 fn links_agree(step: &Tree) -> bool
@@ -210,11 +214,12 @@ fn has_cases(step: &Tree) -> bool
 fn keeps_k12(step: &Tree) -> bool
     ensures { IsTrue result ↔ K12 (data_of step.now) }
 {
-    (!has_type(step, "parallel") || has_next_steps(step))
-        && (!has_type(step, "if-condition")
+    let found = text_at(step, "type");
+    (!is_type(step, found, "parallel") || has_next_steps(step))
+        && (!is_type(step, found, "if-condition")
             || (has_condition(step) && may_have_text(step, "on_false")))
-        && (!has_type(step, "while-condition") || has_condition(step))
-        && (!has_type(step, "switch-condition")
+        && (!is_type(step, found, "while-condition") || has_condition(step))
+        && (!is_type(step, found, "switch-condition")
             || (has_some_text(step, "switch") && has_cases(step)))
 }
 

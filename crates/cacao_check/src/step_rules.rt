@@ -1,11 +1,11 @@
 // The rules of a step that look at no other step's variables, one function each. No call here takes memory.
-ghost use Rattle.std.specs.Prelude.{◌≡◌, ◌↔◌, ◌<◌, IsTrue, IsSomeAnd, IfSome, map, Some, option_map, option_to_list, is_some};
+ghost use Rattle.std.specs.Prelude.{◌≡◌, ◌↔◌, ◌≤◌, IsTrue, IsSomeAnd, IfSome, map, Some, length, option_map, option_and_then, option_to_list, is_some};
 ghost use Rattle.std.specs.List.{list_all, list_any};
 ghost use Rattle.std.specs.Str.{bytes_eq};
 ghost use Rattle.cacao_json.specs.Tree.{data_of};
 ghost use Rattle.cacao_book_shape.specs.Members.{IsObject};
-ghost use Rattle.cacao_book.specs.Steps.{IsInKeyOrder, KeepsLimits, place_of};
-ghost use Rattle.cacao_check_steps.specs.Links.{next_keys, head_keys};
+ghost use Rattle.cacao_book.specs.Steps.{KeepsLimits, place_of};
+ghost use Rattle.cacao_check_steps.specs.Links.{next_keys, head_keys, places_of};
 ghost use Rattle.cacao_check_steps.specs.Uses.{content_tree, commands_of as commands_in, version_of as version_in};
 ghost use Rattle.cacao_check.specs.Rules.{CanBeSent, K13, K16, K17, K18, K19, ConditionIsRead, SubjectIsRead, K21};
 ghost use Rattle.cacao_check_steps.specs.Parts.{ReadsStep};
@@ -13,7 +13,7 @@ ghost use Rattle.cacao_check_regions.specs.Surveys.{AreLeads};
 
 use crate::breaks::Mode;
 use base_graphs::Bits;
-use cacao_book::{Book, Case, Step, StepCommand, StepKind, find_place};
+use cacao_book::{Book, Step, StepCommand, StepKind};
 use cacao_check_steps::{
     Parts, call_of, commands_of, condition_of, is_manual, subject_of, version_of,
 };
@@ -59,73 +59,72 @@ pub(crate) fn keeps_k13(mode: Mode, step: &Step, parts: &Parts) -> bool
     true
 }
 
-fn names_a_step(steps: &[Step], key: &Text) -> bool
-    requires { IsInKeyOrder steps.now }
-    ensures { result ≡ is_some (place_of steps.now key.now) }
+// Whether a link, which leads to this place, names a step, if there is a link.
+fn names_a_step(book: &Book, link: &Option<Text>, place: Option<u32>) -> bool
+    requires { place ≡ option_and_then (place_of book.now.steps) link.now }
+    ensures { result ≡ list_all (λ key. is_some (place_of book.now.steps key)) (option_to_list link.now) }
 {
-    find_place(steps, key.text()).is_some()
-}
-
-fn names_a_step_if_any(steps: &[Step], link: &Option<Text>) -> bool
-    requires { IsInKeyOrder steps.now }
-    ensures { result ≡ list_all (λ key. is_some (place_of steps.now key)) (option_to_list link.now) }
-{
+    let _ = book;
     match link {
-        Some(key) => names_a_step(steps, key),
+        Some(_) => place.is_some(),
         None => true,
     }
 }
 
-fn name_steps(steps: &[Step], keys: &[Text]) -> bool
-    requires { IsInKeyOrder steps.now }
-    ensures { result ≡ list_all (λ key. is_some (place_of steps.now key)) keys.now }
+fn next_name_steps(book: &Book, step: &Step, parts: &Parts) -> bool
+    requires completion { parts.now.completion ≡ option_and_then (place_of book.now.steps) step.now.completion }
+    requires success { parts.now.success ≡ option_and_then (place_of book.now.steps) step.now.success }
+    requires failure { parts.now.failure ≡ option_and_then (place_of book.now.steps) step.now.failure }
+    ensures { result ≡ list_all (λ key. is_some (place_of book.now.steps key)) (next_keys step.now) }
 {
-    keys.iter().all(|key| names_a_step(steps, key))
+    if !names_a_step(book, &step.completion, parts.completion) {
+        return false;
+    }
+    if !names_a_step(book, &step.success, parts.success) {
+        return false;
+    }
+    names_a_step(book, &step.failure, parts.failure)
 }
 
-fn cases_name_steps(steps: &[Step], cases: &[Case]) -> bool
-    requires { IsInKeyOrder steps.now }
-    ensures { result ≡ list_all (λ one. is_some (place_of steps.now one.step)) cases.now }
+fn link_count(link: &Option<Text>) -> usize
+    ensures count { result ≡ length (option_to_list link.now) }
+    ensures few { result ≤ 1 }
 {
-    cases.iter().all(|one| names_a_step(steps, &one.step))
+    match link {
+        Some(_) => 1,
+        None => 0,
+    }
 }
 
-fn heads_name_steps(steps: &[Step], kind: &StepKind) -> bool
-    requires { IsInKeyOrder steps.now }
-    ensures { result ≡ list_all (λ key. is_some (place_of steps.now key)) (head_keys kind.now) }
+// How many links begin the branches of a step.
+fn head_count(kind: &StepKind) -> usize
+    ensures { result ≡ length (head_keys kind.now) }
 {
     match kind {
-        StepKind::Parallel { next } => name_steps(steps, next.as_slice()),
-        StepKind::If {
-            on_true,
-            on_false,
-            ..
-        } => names_a_step(steps, on_true) && names_a_step_if_any(steps, on_false),
-        StepKind::While { on_true, .. } => names_a_step(steps, on_true),
-        StepKind::Switch { cases, .. } => cases_name_steps(steps, cases.as_slice()),
-        _ => true,
+        StepKind::Parallel { next } => next.as_slice().len(),
+        StepKind::If { on_false, .. } => 1 + link_count(on_false),
+        StepKind::While { .. } => 1,
+        StepKind::Switch { cases, .. } => cases.as_slice().len(),
+        _ => 0,
     }
 }
 
-fn next_name_steps(steps: &[Step], step: &Step) -> bool
-    requires { IsInKeyOrder steps.now }
-    ensures { result ≡ list_all (λ key. is_some (place_of steps.now key)) (next_keys step.now) }
+// (a link that names no step has no place)
+fn heads_name_steps(book: &Book, step: &Step, parts: &Parts) -> bool
+    requires { parts.now.heads ≡ places_of book.now (head_keys step.now.kind) }
+    ensures { result ≡ list_all (λ key. is_some (place_of book.now.steps key)) (head_keys step.now.kind) }
 {
-    if !names_a_step_if_any(steps, &step.completion) {
-        return false;
-    }
-    if !names_a_step_if_any(steps, &step.success) {
-        return false;
-    }
-    names_a_step_if_any(steps, &step.failure)
+    let _ = book;
+    parts.heads.as_slice().len() == head_count(&step.kind)
 }
 
 /// Whether each link names a step.
-pub(crate) fn keeps_k16(book: &Book, step: &Step) -> bool
+pub(crate) fn keeps_k16(books: &[Book], book: &Book, step: &Step, parts: &Parts) -> bool
+    requires { ReadsStep books.now book.now step.now parts.now }
     ensures { IsTrue result ↔ K16 book.now step.now }
 {
-    let steps = book.steps.as_slice();
-    next_name_steps(steps, step) && heads_name_steps(steps, &step.kind)
+    let _ = books;
+    next_name_steps(book, step, parts) && heads_name_steps(book, step, parts)
 }
 
 fn is_listed(agents: &[Text], name: &Text) -> bool

@@ -67,7 +67,7 @@ fn keeps_of_step(
         SenseRule::K13 => Ok(keeps_k13(mode, step, parts)),
         SenseRule::K14 => Ok(true),
         SenseRule::K15 => Ok(true),
-        SenseRule::K16 => Ok(keeps_k16(book, step)),
+        SenseRule::K16 => Ok(keeps_k16(books, book, step, parts)),
         SenseRule::K17 => Ok(keeps_k17(book, step)),
         SenseRule::K18 => Ok(keeps_k18(books, book, mode, step, parts)),
         SenseRule::K19 => Ok(keeps_k19(books, book, number, step, parts, leads)),

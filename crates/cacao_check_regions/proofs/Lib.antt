@@ -1,5 +1,6 @@
 pub mod TableLemmas
 pub mod SeenLemmas
+pub mod PartLemmas
 pub mod ChartLemmas
 pub mod EndLemmas
 pub mod SightLists

@@ -1,12 +1,13 @@
 -- Promise: Tables of a book's links, and what is found in them.
-use Rattle.std.specs.Prelude.{◌≡◌, ◌≢◌, ◌⊎◌, ◌↔◌, ℕ, ◌<◌, List, [], length, map, Contains, All, slice_index_or}
-use Rattle.std.specs.Prelude.{Bool, IsTrue, Option}
+use Rattle.std.specs.Prelude.{◌≡◌, ◌≢◌, ◌⊎◌, ◌↔◌, ℕ, ◌<◌, List, [], ◌++◌, length, map, Contains, All, slice_index_or}
+use Rattle.std.specs.Prelude.{Bool, IsTrue, Option, option_to_list}
 use Rattle.cacao_book.specs.declared.books.Book.{Book}
 use Rattle.base_graphs.specs.Closure.{Closure}
 use Rattle.base_graphs.specs.Tables.{IsMarked, IsOpen, IsWithin, IsReverse}
 use Rattle.base_graphs.specs.Nests.{IsInside}
 use Rattle.cacao_check_regions.specs.declared.charts.Chart.{Chart}
 use Rattle.cacao_check_regions.specs.declared.regions.Regions.{Regions}
+use Rattle.cacao_check_steps.specs.declared.parts.Parts.{Parts}
 use Rattle.cacao_check_steps.specs.Links.{next_keys, head_keys, places_of, start_places, GoesTo, Begins}
 use Rattle.cacao_check_regions.specs.Regions.{InMain, InRegion}
 use Rattle.cacao_check_regions.specs.Declarers.{AreDeclarersOf}
@@ -30,6 +31,10 @@ LeadsThrough book control place = ¬ Closure (Contains (start_places book)) (Lin
 -- the place is one of these, or it is told that it is inside one
 abbrev pub IsBehind : List (Option ℕ) → List ℕ → ℕ → Type 0
 IsBehind nests controls place = (control : ℕ) × Contains controls control × ((control ≡ place) ⊎ IsInside nests place control)
+
+-- the places to which a step goes on, by what was read of it
+abbrev pub next_row : Parts → List ℕ
+next_row parts = option_to_list parts.completion ++ option_to_list parts.success ++ option_to_list parts.failure
 
 -- the chart has the links of the book
 pub record IsChartOf (book : Book) (chart : Chart) : Type 0 where

@@ -1,11 +1,13 @@
 // The links of a book by the places of its steps, both ways.
-ghost use Rattle.std.specs.Prelude.{IfOk};
-ghost use Rattle.cacao_check_regions.specs.Charts.{IsChartOf};
+ghost use Rattle.std.specs.Prelude.{◌≡◌, map, IfOk};
+ghost use Rattle.cacao_check_steps.specs.Links.{next_keys, head_keys, places_of};
+ghost use Rattle.cacao_check_regions.specs.Charts.{IsChartOf, next_row};
 
 use crate::declarers::{Declarers, declarers_of};
+use crate::tables::{head_table, next_table};
 use base_graphs::{Bits, Nests, Places, nests_of, reached_past_guards, reversed};
 use cacao_book::Book;
-use cacao_check_steps::{head_table, next_table, start_row};
+use cacao_check_steps::{Parts, start_row};
 use std::alloc::{AllocError, Global};
 
 /// The links of a book. A row of a table has the places to which the step at its place goes on (`next`), at which its branches begin
@@ -38,13 +40,15 @@ impl Drop for Chart {
     }
 }
 
-/// The chart of a book.
-pub(crate) fn chart_of(alloc: Global, book: &Book) -> Result<Chart, AllocError>
+/// The chart of a book, of whose steps these parts were read.
+pub(crate) fn chart_of(alloc: Global, book: &Book, parts: &[Parts]) -> Result<Chart, AllocError>
+    requires next { map next_row parts.now ≡ map (λ step. places_of book.now (next_keys step)) book.now.steps }
+    requires heads { map (λ one. one.heads) parts.now ≡ map (λ step. places_of book.now (head_keys step.kind)) book.now.steps }
     ensures { IfOk result (IsChartOf book.now) }
 {
     let steps = book.steps.as_slice();
-    let next = next_table(alloc, steps)?;
-    let heads = head_table(alloc, steps)?;
+    let next = next_table(alloc, parts)?;
+    let heads = head_table(alloc, parts)?;
     let back_next = reversed(alloc, &next)?;
     let back_heads = reversed(alloc, &heads)?;
     let starts = start_row(alloc, book)?;

@@ -16,6 +16,7 @@ mod seeing;
 mod seen;
 mod sights;
 mod surveys;
+mod tables;
 
 pub use charts::Chart;
 pub use declarers::Declarers;

@@ -38,7 +38,7 @@ fn survey_book(alloc: Global, books: &[Book], book: &Book) -> Result<Survey, All
     ensures { IfOk result (IsSurveyOf books.now book.now) }
 {
     let parts = read_steps(alloc, books, book)?;
-    let chart = chart_of(alloc, book)?;
+    let chart = chart_of(alloc, book, parts.as_slice())?;
     let placed = placed(alloc, book, &chart)?;
     let ending = ending(alloc, book, &chart)?;
     let enclosing = enclosing(alloc, book, &chart)?;

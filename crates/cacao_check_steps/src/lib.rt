@@ -8,7 +8,7 @@ mod reading;
 mod step_parts;
 mod uses;
 
-pub use links::{head_table, next_table, start_row};
+pub use links::start_row;
 pub use parts::Parts;
 pub use reading::read_steps;
 pub use step_parts::{

@@ -1,7 +1,7 @@
 // The links of steps as places.
 ghost use Rattle.std.specs.Prelude.{◌≡◌, ◌<◌, ◌≤◌, ◌++◌, length, map, filter_map, option_to_list, IfOk, OnOk, Option};
 ghost use Rattle.cacao_book.specs.Steps.{IsInKeyOrder, place_of};
-ghost use Rattle.cacao_check_steps.specs.Links.{next_keys, head_keys, start_places};
+ghost use Rattle.cacao_check_steps.specs.Links.{head_keys, start_places};
 
 use base_graphs::Places;
 use cacao_book::{Book, Case, Step, StepKind, find_place};
@@ -30,32 +30,6 @@ fn add_link(steps: &[Step], link: &Option<Text>, places: &mut Places) -> Result<
         add_key(steps, key, places)?;
     }
     Ok(())
-}
-
-// The places to which a step goes on.
-fn next_row(alloc: Global, steps: &[Step], step: &Step) -> Result<Places, AllocError>
-    requires order { IsInKeyOrder steps.now }
-    requires few { length steps.now ≤ 4096 }
-    ensures { IfOk result (λ places. places ≡ filter_map (place_of steps.now) (next_keys step.now)) }
-{
-    let mut places = Places::new(alloc);
-    add_link(steps, &step.completion, &mut places)?;
-    add_link(steps, &step.success, &mut places)?;
-    add_link(steps, &step.failure, &mut places)?;
-    Ok(places)
-}
-
-/// For each step, the places to which it goes on.
-pub fn next_table(alloc: Global, steps: &[Step]) -> Result<Vec<Places>, AllocError>
-    requires order { IsInKeyOrder steps.now }
-    requires few { length steps.now ≤ 4096 }
-    ensures { IfOk result (λ rows. rows.items ≡ map (λ step. filter_map (place_of steps.now) (next_keys step)) steps.now) }
-{
-    let mut rows = Vec::new(alloc);
-    for step in steps {
-        rows.push(next_row(alloc, steps, step)?)?;
-    }
-    Ok(rows)
 }
 
 // Adds the places of the steps with these keys.
@@ -104,19 +78,6 @@ pub(crate) fn head_row(alloc: Global, steps: &[Step], kind: &StepKind) -> Result
         _ => {}
     }
     Ok(places)
-}
-
-/// For each step, the places at which its branches begin.
-pub fn head_table(alloc: Global, steps: &[Step]) -> Result<Vec<Places>, AllocError>
-    requires order { IsInKeyOrder steps.now }
-    requires few { length steps.now ≤ 4096 }
-    ensures { IfOk result (λ rows. rows.items ≡ map (λ step. filter_map (place_of steps.now) (head_keys step.kind)) steps.now) }
-{
-    let mut rows = Vec::new(alloc);
-    for step in steps {
-        rows.push(head_row(alloc, steps, &step.kind)?)?;
-    }
-    Ok(rows)
 }
 
 /// The places at which a run of the book begins.

@@ -15,8 +15,9 @@ use crate::parts::Parts;
 use crate::step_parts::{call_of, commands_of, condition_of, is_manual, subject_of};
 use cacao_book::{Book, Step, StepCommand, StepKind, find_place};
 use cacao_cond::{Cond, CondError, read_cond};
-use cacao_json::{Text, Tree, find_tree};
+use cacao_json::{Text, Tree, find_tree_with};
 use cacao_vars::{Name, whole_reference};
+use json::Scratch;
 use std::alloc::{AllocError, Global};
 
 // The condition of a step; None where it has none, or a text that is none.
@@ -51,7 +52,11 @@ fn read_subject(alloc: Global, kind: &StepKind) -> Result<Option<Name>, AllocErr
 }
 
 // The tree of a command's content.
-fn read_content(alloc: Global, command: &StepCommand) -> Result<Option<Tree>, AllocError>
+fn read_content(
+    alloc: Global,
+    scratch: &mut Scratch,
+    command: &StepCommand,
+) -> Result<Option<Tree>, AllocError>
     ensures { IfOk result (λ o. option_map data_of o ≡ content_tree command.now) }
 {
     if is_manual(command) {
@@ -60,18 +65,22 @@ fn read_content(alloc: Global, command: &StepCommand) -> Result<Option<Tree>, Al
     match &command.content {
         None => Ok(None),
         Some(text) => {
-            let found = find_tree(alloc, text.text().as_bytes())?;
+            let found = find_tree_with(alloc, text.text().as_bytes(), scratch)?;
             Ok(found)
         }
     }
 }
 
-fn read_contents(alloc: Global, commands: &[StepCommand]) -> Result<Vec<Option<Tree>>, AllocError>
+fn read_contents(
+    alloc: Global,
+    scratch: &mut Scratch,
+    commands: &[StepCommand],
+) -> Result<Vec<Option<Tree>>, AllocError>
     ensures { IfOk result (λ trees. map (option_map data_of) trees.items ≡ map content_tree commands.now) }
 {
     let mut trees = Vec::new(alloc);
     for command in commands {
-        trees.push(read_content(alloc, command)?)?;
+        trees.push(read_content(alloc, scratch, command)?)?;
     }
     Ok(trees)
 }
@@ -121,16 +130,23 @@ fn called_book(books: &[Book], step: &Step) -> Option<u32>
 }
 
 // What is read of a step.
-fn read_step(alloc: Global, books: &[Book], book: &Book, step: &Step) -> Result<Parts, AllocError>
+fn read_step(
+    alloc: Global,
+    scratch: &mut Scratch,
+    books: &[Book],
+    book: &Book,
+    step: &Step,
+) -> Result<Parts, AllocError>
     requires few { length books.now ≤ 16 }
     requires limits { KeepsLimits step.now }
     ensures { IfOk result (ReadsStep books.now book.now step.now) }
 {
     let steps = book.steps.as_slice();
-    let condition = read_condition(alloc, &step.kind)?;
-    let subject = read_subject(alloc, &step.kind)?;
-    let contents = read_contents(alloc, commands_of(&step.kind))?;
     let heads = head_row(alloc, steps, &step.kind)?;
+    let subject = read_subject(alloc, &step.kind)?;
+    let contents = read_contents(alloc, scratch, commands_of(&step.kind))?;
+    // (last, and so dropped at no exit: its drop is the longest to prove)
+    let condition = read_condition(alloc, &step.kind)?;
     Ok(Parts {
         condition,
         subject,
@@ -148,9 +164,10 @@ pub fn read_steps(alloc: Global, books: &[Book], book: &Book) -> Result<Vec<Part
     requires { length books.now ≤ 16 }
     ensures { IfOk result (λ all. ReadsSteps books.now book.now all.items) }
 {
+    let mut scratch = Scratch::new(alloc);
     let mut all = Vec::new(alloc);
     for step in book.steps.as_slice() {
-        let parts = read_step(alloc, books, book, step)?;
+        let parts = read_step(alloc, &mut scratch, books, book, step)?;
         all.push(parts)?;
     }
     Ok(all)

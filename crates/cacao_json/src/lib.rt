@@ -20,6 +20,6 @@ pub use copy::copy_tree;
 pub use error::JsonError;
 pub use find::{member, text_of, whole_of};
 pub use laws::profile_law;
-pub use read::{TEXT_LIMIT, find_tree, read_tree};
+pub use read::{TEXT_LIMIT, find_tree, find_tree_with, read_tree};
 pub use text::Text;
 pub use tree::{Items, Pair, Pairs, Tree, tree_law};

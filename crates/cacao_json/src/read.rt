@@ -9,9 +9,10 @@ ghost use Rattle.cacao_json.specs.Profile.{IsTree};
 use crate::convert::tree_of;
 use crate::count::{count_colons, left_after_members};
 use crate::error::JsonError;
-use crate::straight::straight_tree;
+use crate::straight::{straight_tree, straight_tree_with};
 use crate::tree::Tree;
 use crate::whole::left_after_numbers;
+use json::Scratch;
 use serde_json::{Category, Value};
 use std::alloc::{AllocError, Global};
 use std::str;
@@ -77,7 +78,20 @@ pub fn find_tree(alloc: Global, bytes: &[u8]) -> Result<Option<Tree>, AllocError
     ensures value { IfOk result (λ found. option_map data_of found ≡ tree bytes.now) }
     ensures profile { IfOk result (λ found. IfSome found (λ t. IsTree (data_of t))) }
 {
-    match straight_tree(alloc, bytes)? {
+    let mut scratch = Scratch::new(alloc);
+    find_tree_with(alloc, bytes, &mut scratch)
+}
+
+/// The same of one of many texts, which are read with the same memory for escapes: that of the longest text so far.
+pub fn find_tree_with(
+    alloc: Global,
+    bytes: &[u8],
+    scratch: &mut Scratch,
+) -> Result<Option<Tree>, AllocError>
+    ensures value { IfOk result (λ found. option_map data_of found ≡ tree bytes.now) }
+    ensures profile { IfOk result (λ found. IfSome found (λ t. IsTree (data_of t))) }
+{
+    match straight_tree_with(alloc, bytes, scratch)? {
         Some(tree) => Ok(Some(tree)),
         None => find_again(alloc, bytes),
     }

@@ -58,11 +58,22 @@ impl From<Invalid> for Halt {
 pub(crate) fn straight_tree(alloc: Global, bytes: &[u8]) -> Result<Option<Tree>, AllocError>
     ensures { IfOk result (λ found. IfSome found (λ t. tree bytes.now ≡ Some (data_of t))) }
 {
+    let mut scratch = Scratch::new(alloc);
+    straight_tree_with(alloc, bytes, &mut scratch)
+}
+
+/// The same with the memory of the reader of an earlier text.
+pub(crate) fn straight_tree_with(
+    alloc: Global,
+    bytes: &[u8],
+    scratch: &mut Scratch,
+) -> Result<Option<Tree>, AllocError>
+    ensures { IfOk result (λ found. IfSome found (λ t. tree bytes.now ≡ Some (data_of t))) }
+{
     let Ok(text) = str::from_utf8(bytes) else {
         return Ok(None);
     };
-    let mut scratch = Scratch::new(alloc);
-    match read_text(alloc, text, &mut scratch) {
+    match read_text(alloc, text, scratch) {
         Ok(tree) => Ok(Some(tree)),
         Err(Halt::NoTree) => Ok(None),
         Err(Halt::NoMemory) => Err(AllocError),

@@ -1,4 +1,4 @@
-use Rattle.std.proofs.Common.{◌≡◌, ◌∙◌, ap, sym, length, map, filter_map, List, [], refl, ℕ, ◌<◌, All, subst}
+use Rattle.std.proofs.Common.{◌≡◌, ◌∙◌, ◌^◌, ap, sym, length, map, filter_map, List, [], refl, ℕ, ◌<◌, ◌≤◌, All, subst, arith}
 use Rattle.std.proofs.lemmas.List.{length-map}
 use Rattle.cacao_book.specs.declared.steps.Step.{Step}
 use Rattle.cacao_book.specs.Steps.{place_of}
@@ -15,21 +15,42 @@ table_within steps f rows e =
     let all : IsWithin (length steps) rows = subst (IsWithin (length steps)) (sym e) (rows_within steps f steps) in
     subst (λ k. IsWithin k rows) (sym n) all
 
+-- at most as many rows as a book may have steps
+few_links : (steps : List Step) (f : Step → List (List ℕ)) (rows : List (List ℕ)) → rows ≡ map (λ step. filter_map (place_of steps) (f step)) steps → length steps ≤ 4096 → length rows < 2 ^ 32
+few_links steps f rows e few = let n : length rows ≡ length steps = ap length e ∙ length-map steps (λ step. filter_map (place_of steps) (f step)) in omega (arith, n, few)
+
+pub reversed-requires-clause-few : goal.reversed-requires-clause-few
+reversed-requires-clause-few c = few_links c.args.book.now.steps next_keys c.deref.result.now (c.deref.ensures.value ∙ c.in_ok-next.ensures ∙ c.requires.next) c.as_slice-steps.ensures.few
+
+pub reversed-requires-2-clause-few : goal.reversed-requires-2-clause-few
+reversed-requires-2-clause-few c =
+    few_links c.args.book.now.steps (λ (step : Step). head_keys step.kind) c.deref-2.result.now (c.deref-2.ensures.value ∙ c.in_ok-heads.ensures ∙ c.requires.heads) c.as_slice-steps.ensures.few
+
+pub nests_of-requires-clause-few_free : goal.nests_of-requires-clause-few_free
+nests_of-requires-clause-few_free c = few_links c.args.book.now.steps next_keys c.deref-5.result.now (c.deref-5.ensures.value ∙ c.in_ok-next.ensures ∙ c.requires.next) c.as_slice-steps.ensures.few
+
+pub nests_of-requires-clause-few_guarded : goal.nests_of-requires-clause-few_guarded
+nests_of-requires-clause-few_guarded c =
+    few_links c.args.book.now.steps (λ (step : Step). head_keys step.kind) c.deref-6.result.now (c.deref-6.ensures.value ∙ c.in_ok-heads.ensures ∙ c.requires.heads) c.as_slice-steps.ensures.few
+
 pub reversed-requires-clause-within : goal.reversed-requires-clause-within
-reversed-requires-clause-within c = table_within c.as_slice-steps.result.now next_keys c.deref.result.now (c.deref.ensures.value ∙ c.in_ok-next.ensures)
+reversed-requires-clause-within c = table_within c.args.book.now.steps next_keys c.deref.result.now (c.deref.ensures.value ∙ c.in_ok-next.ensures ∙ c.requires.next)
 
 pub reversed-requires-2-clause-within : goal.reversed-requires-2-clause-within
-reversed-requires-2-clause-within c = table_within c.as_slice-steps.result.now (λ (step : Step). head_keys step.kind) c.deref-2.result.now (c.deref-2.ensures.value ∙ c.in_ok-heads.ensures)
+reversed-requires-2-clause-within c =
+    table_within c.args.book.now.steps (λ (step : Step). head_keys step.kind) c.deref-2.result.now (c.deref-2.ensures.value ∙ c.in_ok-heads.ensures ∙ c.requires.heads)
+
+-- the rows of a table of links stand within the steps, which stand in the book
+links_within : (steps all : List Step) (f : Step → List (List ℕ)) (rows : List (List ℕ)) → steps ≡ all → rows ≡ map (λ step. filter_map (place_of all) (f step)) all → IsWithin (length steps) rows
+links_within steps all f rows s e = subst (λ (v : List Step). IsWithin (length v) rows) (sym s) (subst (IsWithin (length all)) (sym e) (rows_within all f all))
 
 pub reached_past_guards-requires-clause-free_within : goal.reached_past_guards-requires-clause-free_within
 reached_past_guards-requires-clause-free_within c =
-    let steps = c.as_slice-steps.result.now in
-    subst (IsWithin (length steps)) (sym (c.deref-3.ensures.value ∙ c.in_ok-next.ensures)) (rows_within steps next_keys steps)
+    links_within c.as_slice-steps.result.now c.args.book.now.steps next_keys c.deref-3.result.now c.as_slice-steps.ensures.steps (c.deref-3.ensures.value ∙ c.in_ok-next.ensures ∙ c.requires.next)
 
 pub reached_past_guards-requires-clause-guarded_within : goal.reached_past_guards-requires-clause-guarded_within
 reached_past_guards-requires-clause-guarded_within c =
-    let steps = c.as_slice-steps.result.now in
-    subst (IsWithin (length steps)) (sym (c.deref-4.ensures.value ∙ c.in_ok-heads.ensures)) (rows_within steps (λ (step : Step). head_keys step.kind) steps)
+    links_within c.as_slice-steps.result.now c.args.book.now.steps (λ (step : Step). head_keys step.kind) c.deref-4.result.now c.as_slice-steps.ensures.steps (c.deref-4.ensures.value ∙ c.in_ok-heads.ensures ∙ c.requires.heads)
 
 pub reached_past_guards-requires-clause-first_within : goal.reached_past_guards-requires-clause-first_within
 reached_past_guards-requires-clause-first_within c =
@@ -45,11 +66,8 @@ width steps f rows e = ap length e ∙ length-map steps f
 pub returns : goal.returns
 returns c =
     let steps = c.args.book.now.steps in
-    let s : c.as_slice-steps.result.now ≡ steps = c.as_slice-steps.ensures.steps in
-    let next : c.in_ok-next.next.items ≡ map (λ step. filter_map (place_of steps) (next_keys step)) steps =
-    subst (λ (v : List Step). c.in_ok-next.next.items ≡ map (λ step. filter_map (place_of v) (next_keys step)) v) s c.in_ok-next.ensures in
-    let heads : c.in_ok-heads.heads.items ≡ map (λ step. filter_map (place_of steps) (head_keys step.kind)) steps =
-    subst (λ (v : List Step). c.in_ok-heads.heads.items ≡ map (λ step. filter_map (place_of v) (head_keys step.kind)) v) s c.in_ok-heads.ensures in
+    let next : c.in_ok-next.next.items ≡ map (λ step. filter_map (place_of steps) (next_keys step)) steps = c.in_ok-next.ensures ∙ c.requires.next in
+    let heads : c.in_ok-heads.heads.items ≡ map (λ step. filter_map (place_of steps) (head_keys step.kind)) steps = c.in_ok-heads.ensures ∙ c.requires.heads in
     let next_width : length c.deref.result.now ≡ length steps = width steps (λ step. filter_map (place_of steps) (next_keys step)) c.deref.result.now (c.deref.ensures.value ∙ next) in
     let heads_width : length c.deref-2.result.now ≡ length steps = width steps (λ step. filter_map (place_of steps) (head_keys step.kind)) c.deref-2.result.now (c.deref-2.ensures.value ∙ heads) in
     record {
