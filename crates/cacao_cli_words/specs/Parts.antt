@@ -5,16 +5,20 @@ use Rattle.cacao_cli_words.specs.Words.{Text}
 use Rattle.cacao_cli_words.specs.Found.{Parts}
 use Rattle.cacao_cli_words.specs.Requests.{FleetRequest, Request, RunRequest, fleet_from, lists_rules, rehearses, shadows, agent_number, positions_number, canon_asks, check_asks, show_asks, decide_asks, number_asks, audit_asks, run_from}
 
--- what the commands without options, but for `audit`, ask for with these names
-abbrev pub plain_asks : Text → List Text → Option Request
-plain_asks first names =
-    if bytes_eq first (codes "canon") then canon_asks names
-    else (if bytes_eq first (codes "check") then check_asks names
-    else (if bytes_eq first (codes "show") then show_asks names
+-- what the commands without options, but for `audit`, `canon` and `check`, ask for with these names
+abbrev pub other_asks : Text → List Text → Option Request
+other_asks first names =
+    if bytes_eq first (codes "show") then show_asks names
     else (if bytes_eq first (codes "rules") then number_asks agent_number lists_rules names
     else (if bytes_eq first (codes "decide") then decide_asks names
     else (if bytes_eq first (codes "rehearse") then number_asks positions_number rehearses names
-    else (if bytes_eq first (codes "shadow") then number_asks agent_number shadows names else None))))))
+    else (if bytes_eq first (codes "shadow") then number_asks agent_number shadows names else None))))
+
+-- and with `canon` and `check`
+abbrev pub plain_asks : Text → List Text → Option Request
+plain_asks first names =
+    if bytes_eq first (codes "canon") then canon_asks names
+    else (if bytes_eq first (codes "check") then check_asks names else other_asks first names)
 
 -- and with `audit`
 abbrev pub names_asks : Text → List Text → Option Request

@@ -3,7 +3,7 @@ ghost use Rattle.std.specs.Prelude.{◌≡◌, ◌<◌, ◌≤◌, [], IfOk, IfS
 ghost use Rattle.base_decimals.specs.Numbers.{number};
 ghost use Rattle.cacao_cli_words.specs.Commands.{request_by};
 ghost use Rattle.cacao_cli_words.specs.Requests.{agent_number, canon_asks, check_asks, decide_asks, number_from, positions_number, request, lists_rules, number_asks, rehearses, shadows, show_asks};
-ghost use Rattle.cacao_cli_words.specs.Parts.{names_asks, plain_asks};
+ghost use Rattle.cacao_cli_words.specs.Parts.{names_asks, other_asks, plain_asks};
 ghost use Rattle.cacao_cli_words.specs.Words.{read};
 
 use crate::audit_words::audit_asked;
@@ -119,20 +119,27 @@ fn plain_asked<'w>(first: &str, names: Vec<&'w str>) -> Option<Command<'w>>
     if first == "check" {
         return check_asked(names);
     }
+    other_asked(first, names.as_slice())
+}
+
+/// The same of the commands other than `audit`, `canon` and `check`.
+fn other_asked<'w>(first: &str, names: &[&'w str]) -> Option<Command<'w>>
+    ensures { option_map request_by result ≡ other_asks first.entry.now (map (λ name. name.now) names.entry.now) }
+{
     if first == "show" {
-        return show_asked(names.as_slice());
+        return show_asked(names);
     }
     if first == "rules" {
-        return rules_asked(names.as_slice());
+        return rules_asked(names);
     }
     if first == "decide" {
-        return decide_asked(names.as_slice());
+        return decide_asked(names);
     }
     if first == "rehearse" {
-        return rehearse_asked(names.as_slice());
+        return rehearse_asked(names);
     }
     if first == "shadow" {
-        return shadow_asked(names.as_slice());
+        return shadow_asked(names);
     }
     None
 }

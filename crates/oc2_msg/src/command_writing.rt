@@ -79,11 +79,11 @@ fn filter_part(
 ) -> Result<Option<Tree>, AllocError>
     ensures { IfOk result (λ part. option_map data_of part ≡ filter_part direction drop insert) }
 {
-    let direction = direction_part(alloc, direction)?;
-    let drop = drop_part(alloc, drop)?;
     let mut pairs = Pairs::new(alloc);
     put(alloc, &mut pairs, "insert_rule", number_part(insert))?;
+    let drop = drop_part(alloc, drop)?;
     put(alloc, &mut pairs, "drop_process", drop)?;
+    let direction = direction_part(alloc, direction)?;
     put(alloc, &mut pairs, "direction", direction)?;
     Ok(unless_empty(pairs))
 }
@@ -116,10 +116,10 @@ fn message(
 ) -> Result<Tree, AllocError>
     ensures { IfOk result (λ t. data_of t ≡ message action (option_map data_of args) (data_of target)) }
 {
-    let action = text_tree(alloc, action.word())?;
     let mut pairs = Pairs::new(alloc);
     put(alloc, &mut pairs, "target", Some(target))?;
     put(alloc, &mut pairs, "args", args)?;
+    let action = text_tree(alloc, action.word())?;
     put(alloc, &mut pairs, "action", Some(action))?;
     Ok(Tree::Members(pairs))
 }

@@ -1,6 +1,10 @@
 // From responses to texts.
-ghost use Rattle.std.specs.Prelude.{◌≡◌, ◌<◌, ◌^◌, IfOk, OnOk, Some, option_map};
+ghost use Rattle.std.specs.Prelude.{◌≡◌, ◌<◌, ◌^◌, IfOk, OnOk, Some, codes, option_map};
+ghost use Rattle.serde_json.specs.Data.{put};
 ghost use Rattle.cacao_json.specs.Tree.{data_of};
+ghost use Rattle.oc2_msg_targets.specs.Parts.{one_text, whole_data};
+ghost use Rattle.oc2_msg_targets.specs.Puts.{put_part};
+ghost use Rattle.oc2_msg_targets.specs.Words.{feature_word};
 ghost use Rattle.oc2_msg.specs.Reasons.{reason_text};
 ghost use Rattle.oc2_msg.specs.Ranges.{IsStatus};
 ghost use Rattle.oc2_msg.specs.Responses.{flow_kinds, feature_value, pairs_value, value_part, rule_part, results_part, text_part, response_object, response_text, answer};
@@ -42,21 +46,34 @@ fn flow_kinds(alloc: Global) -> Result<Tree, AllocError>
     Ok(Tree::List(items))
 }
 
+/// Puts a member that is a list of one text.
+fn put_one_text(alloc: Global, pairs: &mut Pairs, name: &str, text: &str) -> Result<(), AllocError>
+    ensures { OnOk result (pairs.new ≡ put name.now (one_text text.now) pairs.old) }
+{
+    let value = one_text(alloc, text)?;
+    put(alloc, pairs, name, Some(value))?;
+    Ok(())
+}
+
+/// Puts the targets of rules.
+fn put_flow_kinds(alloc: Global, pairs: &mut Pairs, name: &str) -> Result<(), AllocError>
+    ensures { OnOk result (pairs.new ≡ put name.now flow_kinds pairs.old) }
+{
+    let value = flow_kinds(alloc)?;
+    put(alloc, pairs, name, Some(value))?;
+    Ok(())
+}
+
 /// The targets that each action takes.
 fn pairs_value(alloc: Global) -> Result<Tree, AllocError>
     ensures { IfOk result (λ t. data_of t ≡ pairs_value) }
 {
-    let allow = flow_kinds(alloc)?;
-    let delete = one_text(alloc, "slpf:rule_number")?;
-    let deny = flow_kinds(alloc)?;
-    let query = one_text(alloc, "features")?;
-    let update = one_text(alloc, "file")?;
     let mut pairs = Pairs::new(alloc);
-    put(alloc, &mut pairs, "update", Some(update))?;
-    put(alloc, &mut pairs, "query", Some(query))?;
-    put(alloc, &mut pairs, "deny", Some(deny))?;
-    put(alloc, &mut pairs, "delete", Some(delete))?;
-    put(alloc, &mut pairs, "allow", Some(allow))?;
+    put_one_text(alloc, &mut pairs, "update", "file")?;
+    put_one_text(alloc, &mut pairs, "query", "features")?;
+    put_flow_kinds(alloc, &mut pairs, "deny")?;
+    put_one_text(alloc, &mut pairs, "delete", "slpf:rule_number")?;
+    put_flow_kinds(alloc, &mut pairs, "allow")?;
     Ok(Tree::Members(pairs))
 }
 
@@ -86,6 +103,20 @@ fn value_part(
     }
 }
 
+/// Puts the value of a feature under its name, if it is asked for.
+fn put_value(
+    alloc: Global,
+    results: &mut Pairs,
+    features: &FeatureList,
+    feature: Feature,
+) -> Result<(), AllocError>
+    ensures { OnOk result (results.new ≡ put_part (feature_word feature) (value_part features.now feature) results.old) }
+{
+    let value = value_part(alloc, features, feature)?;
+    put(alloc, results, feature.word(), value)?;
+    Ok(())
+}
+
 fn rule_part(alloc: Global, rule: u32) -> Result<Option<Tree>, AllocError>
     ensures { IfOk result (λ part. option_map data_of part ≡ rule_part rule) }
 {
@@ -104,17 +135,13 @@ fn results_part(
     ensures value { IfOk result (λ part. option_map data_of part ≡ results_part rule features.now) }
     ensures small { OnOk result (rule < 2 ^ 32) }
 {
-    let pairs = value_part(alloc, features, Feature::Pairs)?;
-    let profiles = value_part(alloc, features, Feature::Profiles)?;
-    let rate_limit = value_part(alloc, features, Feature::RateLimit)?;
-    let slpf = rule_part(alloc, rule)?;
-    let versions = value_part(alloc, features, Feature::Versions)?;
     let mut results = Pairs::new(alloc);
-    put(alloc, &mut results, "versions", versions)?;
+    put_value(alloc, &mut results, features, Feature::Versions)?;
+    let slpf = rule_part(alloc, rule)?;
     put(alloc, &mut results, "slpf", slpf)?;
-    put(alloc, &mut results, "rate_limit", rate_limit)?;
-    put(alloc, &mut results, "profiles", profiles)?;
-    put(alloc, &mut results, "pairs", pairs)?;
+    put_value(alloc, &mut results, features, Feature::RateLimit)?;
+    put_value(alloc, &mut results, features, Feature::Profiles)?;
+    put_value(alloc, &mut results, features, Feature::Pairs)?;
     Ok(unless_empty(results))
 }
 
@@ -128,6 +155,17 @@ fn text_part(alloc: Global, text: Reason) -> Result<Option<Tree>, AllocError>
     Ok(Some(text_tree(alloc, text)?))
 }
 
+/// Puts the text, if it is not empty, and the status.
+fn put_status(alloc: Global, pairs: &mut Pairs, status: u16, text: Reason) -> Result<(), AllocError>
+    ensures { OnOk result (pairs.new
+        ≡ put (codes "status") (whole_data status) (put_part (codes "status_text") (text_part (reason_text text)) pairs.old)) }
+{
+    let text = text_part(alloc, text)?;
+    put(alloc, pairs, "status_text", text)?;
+    put(alloc, pairs, "status", Some(whole_tree(status as u64)))?;
+    Ok(())
+}
+
 fn response_tree(
     alloc: Global,
     results: Option<Tree>,
@@ -136,10 +174,8 @@ fn response_tree(
 ) -> Result<Tree, AllocError>
     ensures { IfOk result (λ t. data_of t ≡ response_object (option_map data_of results) status text) }
 {
-    let text = text_part(alloc, text)?;
     let mut pairs = Pairs::new(alloc);
-    put(alloc, &mut pairs, "status_text", text)?;
-    put(alloc, &mut pairs, "status", Some(whole_tree(status as u64)))?;
+    put_status(alloc, &mut pairs, status, text)?;
     put(alloc, &mut pairs, "results", results)?;
     Ok(Tree::Members(pairs))
 }
