@@ -79,7 +79,7 @@ impl Flow {
         ensures edits { IfOk result (λ o. option_map (λ coming. edits_of coming.edits.items) o ≡ taken self.now item) }
         ensures declared { IfOk result (λ o. IfSome o (λ coming. AreDeclared coming.edits.items)) }
     {
-        match self.edits_for(&item)? {
+        match self.edits_for(Vec::new(self.alloc), &item)? {
             Some(edits) => Ok(Some(Coming { item, edits })),
             None => Ok(None),
         }

@@ -18,6 +18,7 @@ use flow_core_rules::Move;
 use run_records::Record;
 use std::alloc::{AllocError, Global};
 use std::marker::Model;
+use std::mem;
 
 /// What a record changes that may come next, and its moment in milliseconds.
 #[derive(Drop)]
@@ -33,6 +34,8 @@ pub struct Flow {
     pub(crate) run: Run,
     pub(crate) count: u32,
     plan: Option<Plan>,
+    // The list whose memory the next plan takes.
+    spare: Vec<Planned>,
 }
 
 // (by hand, and not by derive: so a drop is one call in the proofs of all who own one)
@@ -43,6 +46,7 @@ impl Drop for Flow {
             run: _,
             count: _,
             plan: _,
+            spare: _,
         } = self;
     }
 }
@@ -76,6 +80,7 @@ impl Flow {
             },
             count: 0,
             plan: None,
+            spare: Vec::new(alloc),
         }
     }
 
@@ -96,8 +101,12 @@ impl Flow {
         begin(&self.run, self.alloc, moment)
     }
 
-    /// What a record changes; None where it may not come next.
-    pub(crate) fn edits_for(&self, item: &Record) -> Result<Option<Vec<Planned>>, AllocError>
+    /// What a record changes; None where it may not come next. The memory of a list is taken for it.
+    pub(crate) fn edits_for(
+        &self,
+        spare: Vec<Planned>,
+        item: &Record,
+    ) -> Result<Option<Vec<Planned>>, AllocError>
         ensures edits { IfOk result (λ o. option_map (λ plan. edits_of plan.items) o ≡ taken self.now item.now) }
         ensures declared { IfOk result (λ o. IfSome o (λ plan. AreDeclared plan.items)) }
     {
@@ -108,7 +117,14 @@ impl Flow {
             return Err(AllocError);
         }
         setup_law(&self.run.setup);
-        change(&self.run, self.alloc, item)
+        change(&self.run, self.alloc, spare, item)
+    }
+
+    /// The list whose memory the next plan takes; the flow keeps one without any.
+    fn take_spare(&mut self) -> Vec<Planned>
+        ensures { self.new ≡ self.old }
+    {
+        mem::replace(&mut self.spare, Vec::new(self.alloc))
     }
 
     /// Keeps a plan, and takes the room for it. A refusal changes nothing.
@@ -144,7 +160,8 @@ impl Flow {
         ensures err { OnErr result (self.new ≡ self.old) }
         ensures answers { Answers self.old result (taken self.old item.now) }
     {
-        let found = self.edits_for(item)?;
+        let spare = self.take_spare();
+        let found = self.edits_for(spare, item)?;
         match found {
             Some(edits) => self.hold(Plan {
                 moment: moment_of(item),
@@ -176,7 +193,7 @@ impl Flow {
         let Some(plan) = self.plan.take() else {
             unreachable!()
         };
-        self.run.tables.edit_all(&self.run.setup, plan.edits);
+        self.spare = self.run.tables.edit_all(&self.run.setup, plan.edits);
         self.run.moment = plan.moment;
         self.count += 1;
     }

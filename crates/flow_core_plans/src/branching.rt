@@ -11,7 +11,7 @@ ghost use Rattle.flow_core_values.specs.RunFacts.{IsWell, shown_of, here_of};
 ghost use Rattle.flow_core_values.specs.Stands.{Stands};
 
 use crate::going::{child, finish, in_phase};
-use crate::writing::add;
+use crate::writing::{add, emptied};
 use cacao_json::Text;
 use cacao_vars::{Scope, Vars};
 use flow_core_rules::{Phase, Task};
@@ -193,13 +193,14 @@ fn add_branch(
 pub(crate) fn parallel(
     run: &Run,
     alloc: Global,
+    spare: Vec<Planned>,
     stand: Stand<'_>,
     keys: &[Text],
 ) -> Result<Vec<Planned>, AllocError>
     requires { IsWell run.now }
     ensures { IfOk result (λ plan. IsPlan plan.items (taking (here_of (shown_of run.now) stand.entry) keys.now)) }
 {
-    let mut edits = Vec::new(alloc);
+    let mut edits = emptied(spare);
     add_opening(run, alloc, &mut edits, stand)?;
     add_branches(run, &mut edits, inside(run, stand), next_scope(run), keys)?;
     Ok(edits)
@@ -210,13 +211,14 @@ pub(crate) fn parallel(
 pub(crate) fn single(
     run: &Run,
     alloc: Global,
+    spare: Vec<Planned>,
     stand: Stand<'_>,
     head: Option<&Text>,
 ) -> Result<Vec<Planned>, AllocError>
     requires { IsWell run.now }
     ensures { IfOk result (λ plan. IsPlan plan.items (taking (here_of (shown_of run.now) stand.entry) (option_to_list (option_copied head.entry)))) }
 {
-    let mut edits = Vec::new(alloc);
+    let mut edits = emptied(spare);
     add_opening(run, alloc, &mut edits, stand)?;
     add_branch(run, &mut edits, inside(run, stand), next_scope(run), head)?;
     Ok(edits)
@@ -227,6 +229,7 @@ pub(crate) fn single(
 pub(crate) fn control(
     run: &Run,
     alloc: Global,
+    spare: Vec<Planned>,
     stand: Stand<'_>,
 ) -> Result<Vec<Planned>, AllocError>
     requires well { IsWell run.now }
@@ -239,6 +242,6 @@ pub(crate) fn control(
         scope: stand.task.scope,
     };
     let head = run.head(stand, sight);
-    let plan = single(run, alloc, stand, head)?;
+    let plan = single(run, alloc, spare, stand, head)?;
     Ok(plan)
 }

@@ -17,7 +17,7 @@ use crate::branching::{
     add_done, add_joining, add_opening, control, inside, next_scope, opened, parallel,
 };
 use crate::going::{child, in_phase};
-use crate::writing::{add, bind};
+use crate::writing::{add, bind, emptied};
 use cacao_book::{Book, StepKind};
 use cacao_json::Text;
 use cacao_vars::{Name, Word};
@@ -103,6 +103,7 @@ fn add_root(
 fn called(
     run: &Run,
     alloc: Global,
+    spare: Vec<Planned>,
     stand: Stand<'_>,
     in_args: &[Name],
     number: u32,
@@ -113,7 +114,7 @@ fn called(
     ensures { let h = here_of (shown_of run.now) stand.entry in
         IfOk result (λ plan. IsPlan plan.items (opening h ∷ called (inside h) (length h.seen.lists.scopes) in_args.now (number, book.now))) }
 {
-    let mut edits = Vec::new(alloc);
+    let mut edits = emptied(spare);
     add_opening(run, alloc, &mut edits, stand)?;
     let edit = opened(alloc, None, &book.variables)?;
     add(&mut edits, edit)?;
@@ -129,11 +130,16 @@ fn called(
 
 // The plan of an action: it comes to its first place.
 #[tactic(auto, using(crate::proofs::EnteredLemmas::plan_acting))]
-fn act(run: &Run, alloc: Global, stand: Stand<'_>) -> Result<Vec<Planned>, AllocError>
+fn act(
+    run: &Run,
+    alloc: Global,
+    spare: Vec<Planned>,
+    stand: Stand<'_>,
+) -> Result<Vec<Planned>, AllocError>
     requires { IsWell run.now }
     ensures { IfOk result (λ plan. IsPlan plan.items (acting (here_of (shown_of run.now) stand.entry))) }
 {
-    let mut edits = Vec::new(alloc);
+    let mut edits = emptied(spare);
     add_opening(run, alloc, &mut edits, stand)?;
     let task = inside(run, stand).task;
     let new = in_phase(task, Phase::Sending { place: 0 });
@@ -145,27 +151,27 @@ fn act(run: &Run, alloc: Global, stand: Stand<'_>) -> Result<Vec<Planned>, Alloc
     Ok(edits)
 }
 
-/// The plan of a task whose step is done, well or not.
+/// The plan of a task whose step is done, well or not, over the memory of a list.
 #[tactic(auto, using(crate::proofs::EnteredLemmas::plan_of))]
 pub(crate) fn done(
     run: &Run,
-    alloc: Global,
+    spare: Vec<Planned>,
     stand: Stand<'_>,
     well: bool,
 ) -> Result<Vec<Planned>, AllocError>
     ensures { IfOk result (λ plan. IsPlan plan.items (done (here_of (shown_of run.now) stand.entry) well)) }
 {
-    let mut edits = Vec::new(alloc);
+    let mut edits = emptied(spare);
     add_done(run, &mut edits, stand, well)?;
     Ok(edits)
 }
 
 // The plan of an end.
 #[tactic(auto, using(crate::proofs::EnteredLemmas::plan_of))]
-fn end(run: &Run, alloc: Global, stand: Stand<'_>) -> Result<Vec<Planned>, AllocError>
+fn end(run: &Run, spare: Vec<Planned>, stand: Stand<'_>) -> Result<Vec<Planned>, AllocError>
     ensures { IfOk result (λ plan. IsPlan plan.items (ending (here_of (shown_of run.now) stand.entry))) }
 {
-    let mut edits = Vec::new(alloc);
+    let mut edits = emptied(spare);
     let edit = Planned::Moves {
         task: stand.number,
         new: in_phase(stand.task, Phase::Ended { well: true }),
@@ -178,6 +184,7 @@ fn end(run: &Run, alloc: Global, stand: Stand<'_>) -> Result<Vec<Planned>, Alloc
 fn call(
     run: &Run,
     alloc: Global,
+    spare: Vec<Planned>,
     stand: Stand<'_>,
     playbook: &Text,
     in_args: &[Name],
@@ -191,14 +198,15 @@ fn call(
     let Some((number, book)) = run.setup.book_with(playbook) else {
         return Ok(None);
     };
-    let plan = called(run, alloc, stand, in_args, number, book)?;
+    let plan = called(run, alloc, spare, stand, in_args, number, book)?;
     Ok(Some(plan))
 }
 
-/// The plan of a task that enters its step; None where it calls a playbook that is not given.
+/// The plan of a task that enters its step, over the memory of a list; None where it calls a playbook that is not given.
 pub(crate) fn enter(
     run: &Run,
     alloc: Global,
+    spare: Vec<Planned>,
     stand: Stand<'_>,
 ) -> Result<Option<Vec<Planned>>, AllocError>
     requires well { IsWell run.now }
@@ -207,17 +215,20 @@ pub(crate) fn enter(
     ensures declared { IfOk result (λ o. IfSome o (λ plan. AreDeclared plan.items)) }
 {
     match &stand.step.kind {
-        StepKind::Start => Ok(Some(done(run, alloc, stand, true)?)),
-        StepKind::End => Ok(Some(end(run, alloc, stand)?)),
-        StepKind::Action { .. } => Ok(Some(act(run, alloc, stand)?)),
+        StepKind::Start => Ok(Some(done(run, spare, stand, true)?)),
+        StepKind::End => Ok(Some(end(run, spare, stand)?)),
+        StepKind::Action { .. } => Ok(Some(act(run, alloc, spare, stand)?)),
         StepKind::PlaybookAction {
             playbook,
             in_args,
             ..
-        } => call(run, alloc, stand, playbook, in_args.as_slice()),
-        StepKind::Parallel { next } => { Ok(Some(parallel(run, alloc, stand, next.as_slice())?)) }
-        StepKind::If { .. } => Ok(Some(control(run, alloc, stand)?)),
-        StepKind::While { .. } => Ok(Some(control(run, alloc, stand)?)),
-        StepKind::Switch { .. } => Ok(Some(control(run, alloc, stand)?)),
+        } => call(run, alloc, spare, stand, playbook, in_args.as_slice()),
+        StepKind::Parallel { next } => {
+            let plan = parallel(run, alloc, spare, stand, next.as_slice())?;
+            Ok(Some(plan))
+        }
+        StepKind::If { .. } => Ok(Some(control(run, alloc, spare, stand)?)),
+        StepKind::While { .. } => Ok(Some(control(run, alloc, spare, stand)?)),
+        StepKind::Switch { .. } => Ok(Some(control(run, alloc, spare, stand)?)),
     }
 }

@@ -14,12 +14,12 @@ ghost use Rattle.flow_core_values.specs.Truths.{condition_in};
 
 use crate::branching::{add_child, add_done};
 use crate::entering::{copy_of, done};
-use crate::writing::write;
+use crate::writing::{emptied, write};
 use cacao_book::StepKind;
 use cacao_json::Text;
 use cacao_vars::Name;
 use flow_core_values::{Planned, Run, Sight, Stand, Wait};
-use std::alloc::{AllocError, Global};
+use std::alloc::AllocError;
 
 // How many of the tasks that this one waits for have not ended, and whether one of them has failed.
 fn wait(run: &Run, stand: Stand<'_>, from: u32) -> Wait
@@ -96,7 +96,7 @@ fn write_back(
 // The plan of a playbook-action whose playbook has ended well.
 fn rejoin_call(
     run: &Run,
-    alloc: Global,
+    spare: Vec<Planned>,
     stand: Stand<'_>,
     from: u32,
     scope: u32,
@@ -106,7 +106,7 @@ fn rejoin_call(
     requires scope { scope < length run.now.tables.opened.scopes }
     ensures { IfOk result (λ plan. IsPlan plan.items (returning (here_of (shown_of run.now) stand.entry) from scope out_args.now)) }
 {
-    let mut edits = Vec::new(alloc);
+    let mut edits = emptied(spare);
     write_back(run, &mut edits, from, scope, out_args)?;
     add_done(run, &mut edits, stand, true)?;
     Ok(edits)
@@ -115,7 +115,7 @@ fn rejoin_call(
 // The plan of a while-condition whose turn has ended well.
 fn rejoin_while(
     run: &Run,
-    alloc: Global,
+    spare: Vec<Planned>,
     stand: Stand<'_>,
     scope: u32,
     on_true: &Text,
@@ -130,9 +130,9 @@ fn rejoin_while(
         scope,
     };
     if !run.is_true(stand, sight) {
-        return done(run, alloc, stand, true);
+        return done(run, spare, stand, true);
     }
-    let mut edits = Vec::new(alloc);
+    let mut edits = emptied(spare);
     add_child(run, &mut edits, stand, scope, on_true)?;
     Ok(edits)
 }
@@ -140,7 +140,7 @@ fn rejoin_while(
 // The plan of a step whose branches have ended well.
 fn rejoin(
     run: &Run,
-    alloc: Global,
+    spare: Vec<Planned>,
     stand: Stand<'_>,
     from: u32,
     scope: u32,
@@ -151,18 +151,18 @@ fn rejoin(
     ensures { IfOk result (λ plan. IsPlan plan.items (rejoined (here_of (shown_of run.now) stand.entry) from scope stand.entry.step.now.kind)) }
 {
     match &stand.step.kind {
-        StepKind::While { on_true, .. } => rejoin_while(run, alloc, stand, scope, on_true),
+        StepKind::While { on_true, .. } => rejoin_while(run, spare, stand, scope, on_true),
         StepKind::PlaybookAction { out_args, .. } => {
-            rejoin_call(run, alloc, stand, from, scope, out_args.as_slice())
+            rejoin_call(run, spare, stand, from, scope, out_args.as_slice())
         }
-        _ => done(run, alloc, stand, true),
+        _ => done(run, spare, stand, true),
     }
 }
 
 // The plan of a step that waits for its branches; None while one of them goes on.
 fn joined(
     run: &Run,
-    alloc: Global,
+    spare: Vec<Planned>,
     stand: Stand<'_>,
     from: u32,
     scope: u32,
@@ -180,16 +180,16 @@ fn joined(
         return Ok(None);
     }
     if wait.failed {
-        return Ok(Some(done(run, alloc, stand, false)?));
+        return Ok(Some(done(run, spare, stand, false)?));
     }
-    Ok(Some(rejoin(run, alloc, stand, from, scope)?))
+    Ok(Some(rejoin(run, spare, stand, from, scope)?))
 }
 
 /// The plan of a task that joins; None while one of those that it waits for goes on, and where it has no step scope.
 #[tactic(auto, using(crate::proofs::StandLemmas::step_scope_there))]
 pub(crate) fn join(
     run: &Run,
-    alloc: Global,
+    spare: Vec<Planned>,
     stand: Stand<'_>,
     from: u32,
 ) -> Result<Option<Vec<Planned>>, AllocError>
@@ -202,5 +202,5 @@ pub(crate) fn join(
     let Some(scope) = stand.task.step_scope else {
         return Ok(None);
     };
-    joined(run, alloc, stand, from, scope)
+    joined(run, spare, stand, from, scope)
 }

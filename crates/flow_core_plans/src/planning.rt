@@ -148,8 +148,13 @@ pub fn first_change(
     }
 }
 
-/// The edits of a later record; None where it may not come next.
-pub fn change(run: &Run, alloc: Global, item: &Record) -> Result<Option<Vec<Planned>>, AllocError>
+/// The edits of a later record; None where it may not come next. Those of a Walk take the memory of a list that is given.
+pub fn change(
+    run: &Run,
+    alloc: Global,
+    spare: Vec<Planned>,
+    item: &Record,
+) -> Result<Option<Vec<Planned>>, AllocError>
     requires well { IsWell run.now }
     ensures edits { IfOk result (λ o. option_map (λ plan. edits_of plan.items) o ≡ change (shown_of run.now) item.now) }
     ensures declared { IfOk result (λ o. IfSome o (λ plan. AreDeclared plan.items)) }
@@ -157,17 +162,22 @@ pub fn change(run: &Run, alloc: Global, item: &Record) -> Result<Option<Vec<Plan
     if !run.is_in_time(moment_of(item)) {
         return Ok(None);
     }
-    edits_of(run, alloc, item)
+    edits_of(run, alloc, spare, item)
 }
 
-fn edits_of(run: &Run, alloc: Global, item: &Record) -> Result<Option<Vec<Planned>>, AllocError>
+fn edits_of(
+    run: &Run,
+    alloc: Global,
+    spare: Vec<Planned>,
+    item: &Record,
+) -> Result<Option<Vec<Planned>>, AllocError>
     requires well { IsWell run.now }
     ensures edits { IfOk result (λ o. option_map (λ plan. edits_of plan.items) o ≡ edits_of_record (shown_of run.now) item.now) }
     ensures declared { IfOk result (λ o. IfSome o (λ plan. AreDeclared plan.items)) }
 {
     match item {
         Record::Begin { .. } => Ok(None),
-        Record::Walk { task, moment } => walk(run, alloc, *moment, *task),
+        Record::Walk { task, moment } => walk(run, alloc, spare, *moment, *task),
         Record::Send {
             task,
             issue,

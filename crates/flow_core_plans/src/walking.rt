@@ -20,7 +20,12 @@ fn is_due(since: u64, delay: u32, now: u64) -> bool
 }
 
 // The plan of a task that goes on, if it can.
-fn walk_on(run: &Run, alloc: Global, stand: Stand<'_>) -> Result<Option<Vec<Planned>>, AllocError>
+fn walk_on(
+    run: &Run,
+    alloc: Global,
+    spare: Vec<Planned>,
+    stand: Stand<'_>,
+) -> Result<Option<Vec<Planned>>, AllocError>
     requires well { IsWell run.now }
     requires stands { Stands run.now stand }
     ensures edits { IfOk result (λ o. option_map (λ plan. edits_of plan.items) o ≡ walked (here_of (shown_of run.now) stand.entry) stand.entry.task.phase) }
@@ -29,21 +34,22 @@ fn walk_on(run: &Run, alloc: Global, stand: Stand<'_>) -> Result<Option<Vec<Plan
     match stand.task.phase {
         Phase::At { since } => {
             if is_due(since, stand.step.delay, stand.now) {
-                enter(run, alloc, stand)
+                enter(run, alloc, spare, stand)
             } else {
                 Ok(None)
             }
         }
-        Phase::Joining { from } => join(run, alloc, stand, from),
+        Phase::Joining { from } => join(run, spare, stand, from),
         _ => Ok(None),
     }
 }
 
-/// The plan of a Walk of the task with this number at a moment; None where there is none.
+/// The plan of a Walk of the task with this number at a moment, over the memory of a list; None where there is none.
 #[tactic(auto, using(crate::proofs::StandLemmas::stands_here))]
 pub(crate) fn walk(
     run: &Run,
     alloc: Global,
+    spare: Vec<Planned>,
     now: u64,
     t: u32,
 ) -> Result<Option<Vec<Planned>>, AllocError>
@@ -54,5 +60,5 @@ pub(crate) fn walk(
     let Some(stand) = run.here(now, t) else {
         return Ok(None);
     };
-    walk_on(run, alloc, stand)
+    walk_on(run, alloc, spare, stand)
 }

@@ -1,5 +1,5 @@
 // Edits that are added to a plan.
-ghost use Rattle.std.specs.Prelude.{◌<◌, ◌∷◌, [], OnOk, length};
+ghost use Rattle.std.specs.Prelude.{◌≡◌, ◌<◌, ◌∷◌, [], OnOk, length};
 ghost use Rattle.flow_core_rules.specs.Changes.{written, binding};
 ghost use Rattle.flow_core_values.specs.Planned.{edit_of, IsDeclared};
 ghost use Rattle.flow_core_plans.specs.Adding.{Adds};
@@ -18,6 +18,15 @@ pub(crate) fn add(edits: &mut Vec<Planned>, edit: Planned) -> Result<(), AllocEr
 {
     edits.push(edit)?;
     Ok(())
+}
+
+/// This list without what it has, over the same memory.
+pub(crate) fn emptied(edits: Vec<Planned>) -> Vec<Planned>
+    ensures { result.items ≡ [] }
+{
+    let mut edits = edits;
+    edits.clear();
+    edits
 }
 
 /// Adds that a text is bound to a name in this very scope; nothing where there is none.

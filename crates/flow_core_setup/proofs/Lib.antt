@@ -1,3 +1,4 @@
+pub mod HintLemmas
 pub mod SetupAgain
 pub mod SetupLists
 pub mod SetupOrder

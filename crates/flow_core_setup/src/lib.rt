@@ -2,6 +2,7 @@
 #![tactic(auto)]
 
 mod bindings;
+mod hints;
 mod setup;
 mod setup_errors;
 mod setup_laws;

@@ -1,27 +1,31 @@
 // What a run is given: accepted playbooks and bindings.
-ghost use Rattle.std.specs.Prelude.{◌≡◌, ◌≤◌, length, All, IfOk, IfErr, option_map, option_and_then, unwrap_or, position, find, slice_get};
+ghost use Rattle.std.specs.Prelude.{◌≡◌, ◌<◌, ◌≤◌, length, map, All, Some, IfOk, IfErr, option_map, option_and_then, unwrap_or, position, find, slice_get};
+ghost use Rattle.std.specs.Bool.{OnTrue};
 ghost use Rattle.std.specs.Option.{option_copied};
 ghost use Rattle.std.specs.Str.{bytes_eq};
 ghost use Rattle.cacao_cond.specs.Trees.{tree_of};
+ghost use Rattle.cacao_json.specs.Tree.{data_of};
 ghost use Rattle.cacao_book.specs.Steps.{IsInKeyOrder, place_of};
 ghost use Rattle.cacao_check.specs.Fits.{FitsKind};
 ghost use Rattle.flow_core_rules.specs.Givens.{Given, book_at, step_at, number_of_step, book_with as book_under};
 ghost use Rattle.flow_core_rules.specs.Places.{filter_of as filter_in};
 ghost use Rattle.flow_core_rules.specs.Accepted.{Accepted};
+ghost use Rattle.flow_core_rules.specs.Bindings.{bindings_of};
 ghost use Rattle.flow_core_setup.specs.Setups.{AreAccepted, IsReadable, IsSetup, condition_at, content_at};
 ghost use Rattle.flow_core_setup.specs.SetupGivens.{AreInOrder, PartsOf};
-ghost use Rattle.flow_core_setup.specs.SetupReading.{RefusesTexts};
+ghost use Rattle.flow_core_setup.specs.SetupReading.{AreTreesOf, RefusesTexts};
 ghost use Rattle.flow_core_texts.specs.Contents.{content_data};
 ghost use Rattle.flow_core_texts.specs.Questions.{question_text};
 ghost use Rattle.flow_core_texts.specs.Wordings.{step_said, step_words};
 
 use crate::bindings::{Bound, read_bound};
+use crate::hints::{Hints, read_hints};
 use crate::setup_errors::SetupError;
 use crate::setup_reading::{canonical_bind, canonical_texts, judge, read_bindings, read_trees};
 use cacao_book::{Book, Step, find_place};
 use cacao_check::{Checked, Parts, sound_gives};
 use cacao_cond::Cond;
-use cacao_json::Text;
+use cacao_json::{Text, Tree};
 use cacao_site::Bytes;
 use cacao_text::canonical_law;
 use cacao_vars::{Name, Word};
@@ -41,6 +45,7 @@ pub struct Setup {
     agents: Vec<(Text, u8)>,
     variables: Vec<(Name, Word)>,
     words: Vec<BookWords>,
+    hints: Vec<Hints>,
 }
 
 // (by hand, and not by derive: so a drop is one call in the proofs of all who own one)
@@ -53,6 +58,7 @@ impl Drop for Setup {
             agents: _,
             variables: _,
             words: _,
+            hints: _,
         } = self;
     }
 }
@@ -80,13 +86,34 @@ pub fn setup_law(setup: &Setup)
     let _ = setup.texts.as_slice();
 }
 
-// The number of the step with this key, and how many steps there are where none has it.
-fn place_in(steps: &[Step], key: &Text) -> usize
+fn has_key(step: &Step, key: &Text) -> bool
+    ensures { result ≡ bytes_eq step.now.key key.now }
+{
+    step.key.text() == key.text()
+}
+
+// Whether the step with this key stands here.
+fn stands_at(steps: &[Step], place: usize, key: &Text) -> bool
+    requires { IsInKeyOrder steps.now }
+    ensures place { OnTrue result (place_of steps.now key.now ≡ Some place) }
+    ensures within { OnTrue result (place < length steps.now) }
+{
+    match steps.get(place) {
+        Some(step) => has_key(step, key),
+        None => false,
+    }
+}
+
+// The number of the step with this key, and how many steps there are where none has it. The place that is given is tried first.
+fn place_in(steps: &[Step], first: usize, key: &Text) -> usize
     requires few { length steps.now ≤ 4096 }
     requires order { IsInKeyOrder steps.now }
     ensures place { result ≡ unwrap_or (place_of steps.now key.now) (length steps.now) }
     ensures within { result ≤ 4096 }
 {
+    if stands_at(steps, first, key) {
+        return first;
+    }
     match find_place(steps, key.text()) {
         Some(place) => place,
         None => steps.len(),
@@ -172,17 +199,38 @@ impl Setup {
             Ok(bindings) => bindings,
             Err(refusal) => return Err(refusal),
         };
-        let checked = match judge(alloc, trees.as_slice()) {
+        Setup::read_by_trees(alloc, books, bind, trees.as_slice(), &bindings)
+    }
+
+    // The same by the trees of the texts. (It only borrows them: so their drops are proved once.)
+    fn read_by_trees(
+        alloc: Global,
+        books: &[Bytes],
+        bind: &Bytes,
+        trees: &[Tree],
+        bindings: &Tree,
+    ) -> Result<Setup, SetupError>
+        requires some { 1 ≤ length books.now }
+        requires few { length books.now ≤ 16 }
+        requires readable { All IsReadable books.now }
+        requires readable_bind { IsReadable bind.now }
+        requires trees { AreTreesOf books.now (map data_of trees.now) }
+        requires bindings { bindings_of bind.now ≡ Some (data_of bindings.now) }
+        ensures ok { IfOk result (λ setup. Accepted AreAccepted FitsKind books.now bind.now setup) }
+        ensures err { IfErr result (RefusesTexts books.now bind.now) }
+    {
+        let checked = match judge(alloc, trees) {
             Ok(checked) => checked,
             Err(refusal) => return Err(refusal),
         };
-        let bound = match read_bound(alloc, &bindings, &checked.book(0).variables) {
+        let bound = match read_bound(alloc, bindings, &checked.book(0).variables) {
             Ok(bound) => bound,
             Err(refusal) => return Err(refusal),
         };
-        let texts = canonical_texts(alloc, trees.as_slice())?;
-        let bind = canonical_bind(alloc, bind, &bindings)?;
+        let texts = canonical_texts(alloc, trees)?;
+        let bind = canonical_bind(alloc, bind, bindings)?;
         let words = read_words(alloc, &checked)?;
+        let hints = read_hints(alloc, &checked)?;
         sound_gives();
         canonical_law();
         let Bound { agents, variables } = bound;
@@ -193,6 +241,7 @@ impl Setup {
             agents,
             variables,
             words,
+            hints,
         })
     }
 
@@ -239,14 +288,23 @@ impl Setup {
         book.steps.as_slice().get(step as usize)
     }
 
+    // Where the step with this key may stand.
+    fn hint(&self, book: u32, key: &Text) -> usize {
+        match self.hints.get(book as usize) {
+            Some(hints) => hints.place_of(key.text()),
+            None => 0,
+        }
+    }
+
     /// The number of the step with this key: the count of the playbook's steps where none has it, and 0 where there is no such
     /// playbook. It takes no memory.
     pub fn number_of_step(&self, book: u32, key: &Text) -> u32
         ensures number { result ≡ number_of_step self.now book key.now }
         ensures within { result ≤ 4096 }
     {
+        let first = self.hint(book, key);
         match self.book(book) {
-            Some(book) => place_in(book.steps.as_slice(), key) as u32,
+            Some(book) => place_in(book.steps.as_slice(), first, key) as u32,
             None => 0,
         }
     }

@@ -1,18 +1,46 @@
 -- Plans, edit by edit.
-use Rattle.std.proofs.Common.{◌≡◌, ℕ, suc, ◌+◌, ◌<◌, ◌≤◌, List, [], ◌∷◌, length, arith, ap, sym, subst, ◌∙◌, length-append}
+use Rattle.std.proofs.Common.{◌≡◌, ℕ, suc, ◌+◌, ◌<◌, ◌≤◌, List, [], ◌∷◌, length, arith, refl, ap, sym, subst, ◌∙◌, length-append}
 use Rattle.flow_core_rules.specs.State.{Lists}
 use Rattle.flow_core_rules.specs.Edits.{Edit, shown_edited, all_shown_edited, closed}
 use Rattle.flow_core_rules.specs.Edits.Edit.{opens, writes, makes, moves, issues, closes, upgrades}
 use Rattle.flow_core_tables.specs.declared.planned.Planned.{Planned}
 use Rattle.flow_core_tables.specs.declared.tables.Tables.{Tables}
-use Rattle.flow_core_tables.specs.Planned.{edit_of, edits_of, AreDeclared}
-use Rattle.flow_core_tables.specs.Fits.{AllFit}
+use Rattle.flow_core_tables.specs.Planned.{edit_of, edits_of, IsDeclared, AreDeclared}
+use Rattle.flow_core_tables.specs.Fits.{Fits, AllFit}
 use Rattle.flow_core_tables.specs.TableFacts.{HasRoom}
 use Rattle.flow_core_rules.proofs.TaskLemmas.{set_length}
 use Rattle.flow_core_tables.proofs.EntryLemmas.{changed_length}
 
-pub rest_left : (items rest : List Planned) (p : Planned) (n m : ℕ) → items ≡ p ∷ rest → n ≡ length items → m + 1 ≡ n → m ≡ length rest
-rest_left items rest p n m e h one = let k : length items ≡ suc (length rest) = ap length e in omega arith
+pub none_left : (items : List Planned) → length items ≡ 0 → items ≡ []
+none_left [] e = refl
+none_left (p ∷ items) e = absurd (omega (arith, e))
+
+-- ---- the first one
+
+pub first_fits : (items rest : List Planned) (p : Planned) (s : Lists) → items ≡ p ∷ rest → AllFit s (edits_of items) → Fits s (edit_of p)
+first_fits items rest p s e h = let here : AllFit s (edits_of (p ∷ rest)) = subst (λ l. AllFit s (edits_of l)) e h in here.0
+
+pub first_declared : (items rest : List Planned) (p : Planned) → items ≡ p ∷ rest → AreDeclared items → IsDeclared p
+first_declared items rest p e h = let here : AreDeclared (p ∷ rest) = subst AreDeclared e h in here.0
+
+pub first_below : (count most : ℕ) (items : List Planned) → count + length items < most → count < most
+first_below count most items lt = omega (arith, lt)
+
+pub first_room : (items rest : List Planned) (p : Planned) (t : Tables) → items ≡ p ∷ rest → HasRoom (length items) t → HasRoom 1 t
+first_room items rest p t e room =
+    let k : length items ≡ suc (length rest) = ap length e in
+    let one : 1 ≤ length items = omega (arith, k) in record {
+      tasks = omega (arith, one, room.tasks);
+      waits = omega (arith, one, room.waits);
+      scopes = omega (arith, one, room.scopes);
+      issues = omega (arith, one, room.issues);
+      ready = omega (arith, one, room.ready);
+      delays = omega (arith, one, room.delays);
+      deadlines = omega (arith, one, room.deadlines);
+      questions = omega (arith, one, room.questions);
+    }
+
+-- ---- the others
 
 pub rest_fits : (items rest : List Planned) (p : Planned) (s after : Lists) → items ≡ p ∷ rest → AllFit s (edits_of items) → after ≡ shown_edited (edit_of p) s → AllFit after (edits_of rest)
 rest_fits items rest p s after e h step =

@@ -1,7 +1,7 @@
 // The scopes that a run opened, with the present texts of each.
-ghost use Rattle.std.specs.Prelude.{◌≡◌, ◌+◌, ◌<◌, ◌≤◌, ◌++◌, ◌∷◌, [], is_some, length, slice_get, IfSome, OnOk};
+ghost use Rattle.std.specs.Prelude.{◌≡◌, ◌+◌, ◌<◌, ◌≤◌, ◌++◌, ◌∷◌, [], length, option_map, slice_get, IfSome, OnOk};
 ghost use Rattle.std.specs.Option.{option_copied};
-ghost use Rattle.cacao_vars.specs.Scopes.{HasParentsBefore, declaration, home, parent_of};
+ghost use Rattle.cacao_vars.specs.Scopes.{HasParentsBefore, declaration, home, home_declaration, parent_of};
 ghost use Rattle.flow_core_rules.specs.Edits.{changed_at, declared_texts, with_text};
 ghost use Rattle.flow_core_tables.specs.Opened.{blank_scope};
 
@@ -157,8 +157,8 @@ impl Opened {
         }
     }
 
-    /// What a scope itself declares of the name with these bytes. It takes no memory.
-    pub fn declaration(&self, scope: u32, name: &[u8]) -> Option<&Var>
+    // What a scope itself declares of the name with these bytes.
+    fn declaration(&self, scope: u32, name: &[u8]) -> Option<&Var>
         ensures { option_copied result ≡ declaration self.now.scopes scope name.now }
     {
         match self.places.get(scope as usize) {
@@ -168,13 +168,6 @@ impl Opened {
             },
             None => None,
         }
-    }
-
-    // Whether a scope itself declares a name.
-    fn declares(&self, scope: u32, name: &[u8]) -> bool
-        ensures { result ≡ is_some (declaration self.now.scopes scope name.now) }
-    {
-        self.declaration(scope, name).is_some()
     }
 
     // The scope around a scope.
@@ -188,21 +181,23 @@ impl Opened {
         }
     }
 
-    /// The first scope that declares the name with these bytes, from this one along the parents. It takes no memory.
-    pub fn home_of(&self, scope: u32, name: &[u8]) -> Option<u32>
+    /// The first scope that declares the name with these bytes, from this one along the parents, and what it declares of it. It
+    /// takes no memory.
+    pub fn find(&self, scope: u32, name: &[u8]) -> Option<(u32, &Var)>
         requires scope { scope < length self.now.scopes }
         requires parents { HasParentsBefore self.now.scopes }
-        ensures home { result ≡ home self.now.scopes scope name.now }
-        ensures exists { IfSome result (λ at. at < length self.now.scopes) }
+        ensures home { option_map (λ found. found.0) result ≡ home self.now.scopes scope name.now }
+        ensures declaration { option_map (λ found. found.1.now) result ≡ home_declaration self.now.scopes scope name.now }
+        ensures exists { IfSome (home self.now.scopes scope name.now) (λ at. at < length self.now.scopes) }
     {
         let mut at = scope;
         'outward: loop {
-            if self.declares(at, name) {
-                return Some(at);
-            }
-            match self.parent(at) {
-                Some(around) => at = around,
-                None => return None,
+            match self.declaration(at, name) {
+                Some(var) => return Some((at, var)),
+                None => match self.parent(at) {
+                    Some(around) => at = around,
+                    None => return None,
+                },
             }
         }
     }

@@ -122,8 +122,8 @@ impl Tables {
         }
     }
 
-    /// Makes all edits, the first one first. It takes no memory.
-    pub fn edit_all(&mut self, setup: &Setup, plan: Vec<Planned>)
+    /// Makes all edits, the first one first, and gives the list back without them. It takes no memory.
+    pub fn edit_all(&mut self, setup: &Setup, plan: Vec<Planned>) -> Vec<Planned>
         requires fits { AllFit (lists_of self.old) (edits_of plan.items) }
         requires declared { AreDeclared plan.items }
         requires tables { HasTables (seen_with setup.now (lists_of self.old)) self.old }
@@ -133,8 +133,11 @@ impl Tables {
         ensures lists { lists_of self.new ≡ all_shown_edited (edits_of plan.items) (lists_of self.old) }
         ensures tables { HasTables (seen_with setup.now (lists_of self.new)) self.new }
     {
-        for edit in plan {
+        let mut rest = plan;
+        rest.reverse();
+        while let Some(edit) = rest.pop() {
             self.edit(setup, edit);
         }
+        rest
     }
 }

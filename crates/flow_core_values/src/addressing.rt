@@ -1,6 +1,6 @@
 // A command's identifier and its arguments.
-ghost use Rattle.std.specs.Prelude.{◌≡◌, IfOk, option_map};
-ghost use Rattle.serde_json.specs.Data.{object};
+ghost use Rattle.std.specs.Prelude.{◌≡◌, IfOk, OnOk, codes, option_map};
+ghost use Rattle.serde_json.specs.Data.{object, put};
 ghost use Rattle.cacao_json.specs.Tree.{data_of};
 ghost use Rattle.cacao_text.specs.Canon.{canon};
 ghost use Rattle.flow_core_rules.specs.Filled.{command_id, addressed};
@@ -47,6 +47,24 @@ fn completed(alloc: Global, args: Option<Tree>) -> Result<Tree, AllocError>
     }
 }
 
+// Sets a member.
+fn put(alloc: Global, pairs: &mut Pairs, name: &str, tree: Tree) -> Result<(), AllocError>
+    ensures { OnOk result (pairs.new ≡ put name.now (data_of tree) pairs.old) }
+{
+    let name = Text::from_str(alloc, name)?;
+    pairs.put(name, tree)?;
+    Ok(())
+}
+
+// Sets the identifier of a command.
+fn put_id(alloc: Global, pairs: &mut Pairs, run: u64, issue: u32) -> Result<(), AllocError>
+    ensures { OnOk result (pairs.new ≡ put (codes "command_id") (command_id run issue) pairs.old) }
+{
+    let id = command_id(alloc, run, issue)?;
+    put(alloc, pairs, "command_id", id)?;
+    Ok(())
+}
+
 // The members of a command with its identifier and its arguments.
 fn address(alloc: Global, run: u64, issue: u32, pairs: Pairs) -> Result<Pairs, AllocError>
     ensures { IfOk result (λ new. canon (object new) ≡ canon (addressed run issue (object pairs))) }
@@ -55,13 +73,10 @@ fn address(alloc: Global, run: u64, issue: u32, pairs: Pairs) -> Result<Pairs, A
     let _ = pairs.as_slice();
     let args = pairs.remove("args");
     let _ = pairs.as_slice();
-    let args = completed(alloc, args)?;
-    let id = command_id(alloc, run, issue)?;
-    let name = Text::from_str(alloc, "command_id")?;
-    pairs.put(name, id)?;
+    put_id(alloc, &mut pairs, run, issue)?;
     let _ = pairs.as_slice();
-    let name = Text::from_str(alloc, "args")?;
-    pairs.put(name, args)?;
+    let args = completed(alloc, args)?;
+    put(alloc, &mut pairs, "args", args)?;
     Ok(pairs)
 }
 

@@ -1,8 +1,7 @@
 // Names as they are seen from a scope: where they are declared, and what they are worth.
-ghost use Rattle.std.specs.Prelude.{◌≡◌, ◌<◌, Some, is_some, length, slice_get, option_and_then};
+ghost use Rattle.std.specs.Prelude.{◌≡◌, ◌<◌, Some, length, slice_get, option_and_then, option_map};
 ghost use Rattle.std.specs.Option.{option_copied};
-ghost use Rattle.cacao_vars.specs.Declarations.{declared};
-ghost use Rattle.cacao_vars.specs.Scopes.{declaration, home, home_declaration};
+ghost use Rattle.cacao_vars.specs.Scopes.{home, home_declaration};
 ghost use Rattle.cacao_cond.specs.Worths.{worth_of};
 ghost use Rattle.flow_core_rules.specs.State.{value_shown, text_in};
 ghost use Rattle.flow_core_rules.specs.Values.{worth_at};
@@ -15,13 +14,6 @@ use crate::run::{Run, Sight};
 use cacao_cond::{Atom, value_of};
 use cacao_vars::{Name, Var, Vars, Word};
 
-// Whether a name is declared.
-fn is_declared(vars: &Vars, name: &[u8]) -> bool
-    ensures { result ≡ is_some (declared vars.now name.now) }
-{
-    vars.find_bytes(name).is_some()
-}
-
 // The text that a name is declared with.
 fn declared_text<'a>(vars: &'a Vars, name: &[u8]) -> Option<&'a Word>
     ensures { option_copied result ≡ text_in (declared_texts vars.now) name.now }
@@ -33,27 +25,29 @@ fn declared_text<'a>(vars: &'a Vars, name: &[u8]) -> Option<&'a Word>
 }
 
 impl Run {
-    // The home of a name once a scope with these declarations is open inside this one.
-    fn home_opened(&self, vars: &Vars, scope: u32, name: &[u8]) -> Option<u32>
+    // The home of a name, and its declaration there, once a scope with these declarations is open inside this one.
+    fn found_opened<'a>(&'a self, vars: &'a Vars, scope: u32, name: &[u8]) -> Option<(u32, &'a Var)>
         requires well { IsWell self.now }
         requires scope { scope < length self.now.tables.opened.scopes }
-        ensures { result ≡ home (lists_in (lists_of self.now.tables) (Some vars.now) scope).scopes (length self.now.tables.opened.scopes) name.now }
+        ensures home { option_map (λ found. found.0) result ≡ home (lists_in (lists_of self.now.tables) (Some vars.now) scope).scopes (length self.now.tables.opened.scopes) name.now }
+        ensures declaration { option_map (λ found. found.1.now) result ≡ home_declaration (lists_in (lists_of self.now.tables) (Some vars.now) scope).scopes (length self.now.tables.opened.scopes) name.now }
     {
-        if is_declared(vars, name) {
-            return Some(self.tables.opened.len() as u32);
+        match vars.find_bytes(name) {
+            Some(var) => Some((self.tables.opened.len() as u32, var)),
+            None => self.tables.opened.find(scope, name),
         }
-        self.tables.opened.home_of(scope, name)
     }
 
-    // The home of a name with these bytes.
-    fn home_of_bytes(&self, sight: Sight<'_>, name: &[u8]) -> Option<u32>
+    // The home of the name with these bytes as it is seen, and its declaration there.
+    fn found<'a>(&'a self, sight: Sight<'a>, name: &[u8]) -> Option<(u32, &'a Var)>
         requires well { IsWell self.now }
         requires scope { sight.scope < length self.now.tables.opened.scopes }
-        ensures { result ≡ home (lists_seen self.now sight.entry).scopes (scope_seen self.now sight.entry) name.now }
+        ensures home { option_map (λ found. found.0) result ≡ home (lists_seen self.now sight.entry).scopes (scope_seen self.now sight.entry) name.now }
+        ensures declaration { option_map (λ found. found.1.now) result ≡ home_declaration (lists_seen self.now sight.entry).scopes (scope_seen self.now sight.entry) name.now }
     {
         match sight.opening {
-            Some(vars) => self.home_opened(vars, sight.scope, name),
-            None => self.tables.opened.home_of(sight.scope, name),
+            Some(vars) => self.found_opened(vars, sight.scope, name),
+            None => self.tables.opened.find(sight.scope, name),
         }
     }
 
@@ -63,39 +57,9 @@ impl Run {
         requires scope { sight.scope < length self.now.tables.opened.scopes }
         ensures { result ≡ home (lists_seen self.now sight.entry).scopes (scope_seen self.now sight.entry) name.now }
     {
-        self.home_of_bytes(sight, name.text().as_bytes())
-    }
-
-    // What the scope with this number declares of a name.
-    fn declaration_in_scope(&self, at: u32, name: &[u8]) -> Option<&Var>
-        ensures { option_copied result ≡ declaration self.now.tables.opened.scopes at name.now }
-    {
-        self.tables.opened.declaration(at, name)
-    }
-
-    // The same once a scope with these declarations is open inside another one.
-    fn declaration_opened<'a>(
-        &'a self,
-        vars: &'a Vars,
-        scope: u32,
-        at: u32,
-        name: &[u8],
-    ) -> Option<&'a Var>
-        ensures { option_copied result ≡ declaration (lists_in (lists_of self.now.tables) (Some vars.now) scope).scopes at name.now }
-    {
-        if at as usize == self.tables.opened.len() {
-            return vars.find_bytes(name);
-        }
-        self.declaration_in_scope(at, name)
-    }
-
-    // What the scope with this number declares of a name, as it is seen.
-    fn declaration_at<'a>(&'a self, sight: Sight<'a>, at: u32, name: &[u8]) -> Option<&'a Var>
-        ensures { option_copied result ≡ declaration (lists_seen self.now sight.entry).scopes at name.now }
-    {
-        match sight.opening {
-            Some(vars) => self.declaration_opened(vars, sight.scope, at, name),
-            None => self.declaration_in_scope(at, name),
+        match self.found(sight, name.text().as_bytes()) {
+            Some(found) => Some(found.0),
+            None => None,
         }
     }
 
@@ -141,8 +105,10 @@ impl Run {
         requires scope { sight.scope < length self.now.tables.opened.scopes }
         ensures { option_copied result ≡ home_declaration (lists_seen self.now sight.entry).scopes (scope_seen self.now sight.entry) name.now }
     {
-        let at = self.home(sight, name)?;
-        self.declaration_at(sight, at, name.text().as_bytes())
+        match self.found(sight, name.text().as_bytes()) {
+            Some(found) => Some(found.1),
+            None => None,
+        }
     }
 
     /// The text of a name in its home; None where it is unset, and where it has no home. It takes no memory.
@@ -161,9 +127,10 @@ impl Run {
         requires scope { sight.scope < length self.now.tables.opened.scopes }
         ensures { option_copied result ≡ value_shown (lists_seen self.now sight.entry) (scope_seen self.now sight.entry) name.now }
     {
-        let at = self.home_of_bytes(sight, name)?;
-        let var = self.declaration_at(sight, at, name)?;
-        self.text_at(sight, at, &var.name)
+        match self.found(sight, name) {
+            Some(found) => self.text_at(sight, found.0, &found.1.name),
+            None => None,
+        }
     }
 
     /// The value of a name by the kind that its home declares, as conditions compare it. It takes no memory.
@@ -172,13 +139,10 @@ impl Run {
         requires scope { sight.scope < length self.now.tables.opened.scopes }
         ensures { worth_of result ≡ worth_at (lists_seen self.now sight.entry) (scope_seen self.now sight.entry) name.now }
     {
-        let Some(at) = self.home(sight, name) else {
-            return Atom::Unset;
-        };
-        match self.declaration_at(sight, at, name.text().as_bytes()) {
-            Some(var) => value_of(
-                &var.kind,
-                self.text_at(sight, at, name).map(|word| word.text()),
+        match self.found(sight, name.text().as_bytes()) {
+            Some(found) => value_of(
+                &found.1.kind,
+                self.text_at(sight, found.0, name).map(|word| word.text()),
             ),
             None => Atom::Unset,
         }

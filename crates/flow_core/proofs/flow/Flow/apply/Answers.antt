@@ -13,7 +13,7 @@ pub invariant_of-self : goal.invariant_of-self
 invariant_of-self c =
     let is = sym (sym c.in-Some.is ∙ c.take.ensures.value) in
     let run : Run = record { setup = c.self.inside.run.setup; number = c.self.inside.run.number; moment = c.in-Some.plan.moment; tables = c.edit_all.new.self } in
-    let new : Inside = record { alloc = c.self.inside.alloc; run = run; count = c.self.inside.count + 1; plan = c.take.new.self } in
+    let new : Inside = record { alloc = c.self.inside.alloc; run = run; count = c.self.inside.count + 1; plan = c.take.new.self; spare = c.edit_all.result } in
     applied_sound c.self.inside c.args.item.now c.in-Some.plan new c.self.invariant c.setup_law.ensures.runnable is (held_taken c.self.inside c.args.self.now c.args.item.now c.in-Some.plan c.self.view_is is c.requires)
     (held_moment c.self.inside c.args.self.now c.args.item.now c.in-Some.plan c.self.view_is is c.requires) (omega arith) c.take.ensures.after
     (applied_shown c.self.inside run c.in-Some.plan refl refl refl c.edit_all.ensures.lists) c.edit_all.ensures.tables

@@ -7,5 +7,5 @@ pub returns-in-Some-clause-ok : goal.returns-in-Some-clause-ok
 returns-in-Some-clause-ok c =
     let e = rw c.in-Some.is at c.in_ok-found.ensures.edits in
     on_ok c.hold.result
-    (ready_held c.args.self.now c.hold.new.self c.args.item.now (edits_of c.in-Some.edits.items) c.moment_of.result (sym e) c.moment_of.ensures)
+    (ready_held c.take_spare-spare.new.self c.hold.new.self c.args.item.now (edits_of c.in-Some.edits.items) c.moment_of.result (sym e) c.moment_of.ensures)
     c.hold.ensures.ok

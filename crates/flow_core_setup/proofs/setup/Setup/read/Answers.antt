@@ -1,55 +1,13 @@
-use Rattle.std.proofs.Common.{◌≡◌, ◌∙◌, sym, ap, subst, List, map}
-use Rattle.serde_json.specs.Data.{Data}
+use Rattle.std.proofs.Common.{◌≡◌, sym, ap, subst, map}
 use Rattle.cacao_json.specs.Tree.{data_of}
-use Rattle.cacao_book.specs.Books.{book}
-use Rattle.cacao_vars.specs.declared.declarations.Var.{Var}
-use Rattle.flow_core_setup.specs.Setups.{AreAccepted}
-use Rattle.flow_core_setup.specs.SetupReading.{RefusesBindings}
-use Rattle.cacao_text.specs.Canon.{book_text}
-use Rattle.cacao_check.specs.Fits.{FitsKind}
-use Rattle.flow_core_rules.specs.Accepted.{Accepted}
-use Rattle.flow_core_setup.specs.SetupGivens.{given_by}
-use Rattle.flow_core_setup.proofs.SetupReasons.{refused_bind, refused_bindings, variables_are}
-use Rattle.flow_core_setup.proofs.SetupAgain.{accepted_again}
-use Rattle.flow_core_setup.proofs.SetupWhole.{is_setup, accepted_whole}
+use Rattle.flow_core_setup.specs.SetupReading.{AreTreesOf}
+use Rattle.flow_core_setup.proofs.SetupReasons.{refused_bind}
 use Rattle.flow_core_setup.proofs.setup.Setup.read.Goals as goal
 
 pub returns-in-Err-read_bindings-clause-err : goal.returns-in-Err-read_bindings-clause-err
 returns-in-Err-read_bindings-clause-err c = refused_bind c.args.books.now c.args.bind.now (map data_of c.in-Ok.trees.items) c.in-Err-read_bindings.refusal c.in-Ok.ensures.ok c.in-Err-read_bindings.ensures.err
 
-pub returns-in-Err-read_bound-clause-err : goal.returns-in-Err-read_bound-clause-err
-returns-in-Err-read_bound-clause-err c =
-    let trees : List Data = map data_of c.in-Ok.trees.items in
-    let same : map data_of c.as_slice.result.now ≡ trees = ap (map data_of) c.as_slice.ensures.value in
-    refused_bindings c.args.books.now c.args.bind.now trees (data_of c.in-Ok-read_bindings.bindings) c.in-Err-read_bound.refusal c.in-Ok.ensures.ok c.in-Ok-read_bindings.ensures.ok
-    (subst AreAccepted same c.in-Ok-judge.ensures.accepted)
-    (subst (λ (vars : List Var). RefusesBindings vars (data_of c.in-Ok-read_bindings.bindings) c.in-Err-read_bound.refusal)
-    (sym (variables_are trees c.in-Ok-judge.checked.books c.book.result.now (c.in-Ok-judge.ensures.books ∙ ap (map book) same) c.book.ensures)) c.in-Err-read_bound.ensures.broken)
-
-whole : (c : goal.After-canonical_law) → Accepted AreAccepted FitsKind c.args.books.now c.args.bind.now
-    (given_by c.in-Ok-judge.checked.books c.in_ok-texts.texts c.in_ok-bind.bind c.in-Ok-read_bound.bound.agents.items c.in-Ok-read_bound.bound.variables.items)
-whole c =
-    let trees : List Data = map data_of c.in-Ok.trees.items in
-    let same : map data_of c.as_slice.result.now ≡ trees = ap (map data_of) c.as_slice.ensures.value in
-    let same-2 : map data_of c.as_slice-2.result.now ≡ trees = ap (map data_of) c.as_slice-2.ensures.value in
-    accepted_whole c.args.books.now c.args.bind.now trees (data_of c.in-Ok-read_bindings.bindings) c.book.result.now c.in-Ok-judge.checked.books c.in_ok-texts.texts c.in_ok-bind.bind c.in-Ok-read_bound.bound.agents.items
-    c.in-Ok-read_bound.bound.variables.items c.requires.few c.in-Ok.ensures.ok c.in-Ok-read_bindings.ensures.ok (subst AreAccepted same c.in-Ok-judge.ensures.accepted) c.book.ensures c.in-Ok-read_bound.ensures.kept
-    (c.in-Ok-judge.ensures.books ∙ ap (map book) same) (c.in_ok-texts.ensures ∙ ap (map book_text) same-2) c.in_ok-bind.ensures c.in-Ok-read_bound.ensures.agents c.in-Ok-read_bound.ensures.variables
-
-pub invariant_of-result : goal.invariant_of-result
-invariant_of-result c = (
-  is_setup c.sound_gives.ensures
-      (accepted_again c.canonical_law.ensures.trees c.canonical_law.ensures.reads_back c.canonical_law.ensures.book_reads_back c.canonical_law.ensures.book_fixed) c.canonical_law.ensures.no_longer c.canonical_law.ensures.book_no_longer c.args.books.now c.args.bind.now
-      (given_by c.in-Ok-judge.checked.books c.in_ok-texts.texts c.in_ok-bind.bind c.in-Ok-read_bound.bound.agents.items c.in-Ok-read_bound.bound.variables.items) (whole c)
-      c.requires.readable c.requires.readable_bind c.in-Ok-judge.ensures.steps c.in-Ok-read_bound.ensures.order,
-  c.in_ok-words.ensures,
-)
-
-pub returns-clause-ok : goal.returns-clause-ok
-returns-clause-ok c =
-    let trees : List Data = map data_of c.in-Ok.trees.items in
-    let same : map data_of c.as_slice.result.now ≡ trees = ap (map data_of) c.as_slice.ensures.value in
-    let same-2 : map data_of c.as_slice-2.result.now ≡ trees = ap (map data_of) c.as_slice-2.ensures.value in
-    accepted_whole c.args.books.now c.args.bind.now trees (data_of c.in-Ok-read_bindings.bindings) c.book.result.now c.in-Ok-judge.checked.books c.in_ok-texts.texts c.in_ok-bind.bind c.in-Ok-read_bound.bound.agents.items
-    c.in-Ok-read_bound.bound.variables.items c.requires.few c.in-Ok.ensures.ok c.in-Ok-read_bindings.ensures.ok (subst AreAccepted same c.in-Ok-judge.ensures.accepted) c.book.ensures c.in-Ok-read_bound.ensures.kept
-    (c.in-Ok-judge.ensures.books ∙ ap (map book) same) (c.in_ok-texts.ensures ∙ ap (map book_text) same-2) c.in_ok-bind.ensures c.in-Ok-read_bound.ensures.agents c.in-Ok-read_bound.ensures.variables
+pub read_by_trees-requires-clause-trees : goal.read_by_trees-requires-clause-trees
+read_by_trees-requires-clause-trees c =
+    let same : map data_of c.as_slice.result.now ≡ map data_of c.in-Ok.trees.items = ap (map data_of) c.as_slice.ensures.value in
+    subst (AreTreesOf c.args.books.now) (sym same) c.in-Ok.ensures.ok

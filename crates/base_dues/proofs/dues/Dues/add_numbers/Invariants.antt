@@ -1,5 +1,5 @@
 use Rattle.std.proofs.Common.{◌≡◌, ◌≤◌, ◌-◌}
-use Rattle.base_dues.proofs.dues.Dues.reserve.Given as goal
+use Rattle.base_dues.proofs.dues.Dues.add_numbers.Given as goal
 
 abbrev pub invariant-loop-self : goal.invariant-loop-self
 invariant-loop-self l = record { same : l.self.pairs ≡ l.initial.self.pairs; room : l.initial.self.room ≤ l.self.room }

@@ -1,6 +1,6 @@
 use Rattle.std.proofs.Common.{◌≡◌, ◌<◌, length}
 use Rattle.cacao_vars.specs.Scopes.{home}
-use Rattle.flow_core_tables.proofs.opened.Opened.home_of.Given as goal
+use Rattle.flow_core_tables.proofs.opened.Opened.find.Given as goal
 
 -- the scopes so far do not declare the name
 abbrev pub invariant-outward : goal.invariant-outward
