@@ -35,7 +35,7 @@ module _ (pairs : List RunBook) (place : ℕ) (one : RunBook) (before : Runs) (t
   here : place < length pairs
   here = slice_get_within pairs place one there
 
-  long : length before ≡ place
+  pub long : length before ≡ place
   long = sym (length-map before run_number) ∙ ap (λ (l : List ℕ). length l) numbered ∙ length-map (take place pairs) number_of ∙ length-take-le place pairs (omega (arith, here))
 
   -- the one at a lower place, among the first

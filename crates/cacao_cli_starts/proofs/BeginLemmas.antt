@@ -3,7 +3,11 @@ use Rattle.std.proofs.Common.{◌≡◌, ◌∙◌, inl, inr, refl, sym, ap, sub
 use Rattle.std.specs.Prelude.{IsSome, slice_get}
 use Rattle.std.proofs.lemmas.Option.{slice_get_within}
 use Rattle.serde_json.specs.Data.{Data}
+use Rattle.cacao_check.specs.Fits.{FitsKind}
 use Rattle.flow_core.specs.SetupReading.{AreTreesOf, BreaksBindRule, IsFirstUnreadable, texts_read}
+use Rattle.flow_core.specs.Setups.{AreAccepted}
+use Rattle.flow_core_rules.specs.Accepted.{Accepted}
+use Rattle.flow_core_rules.specs.Givens.{Given}
 use Rattle.cacao_json.specs.declared.error.JsonError.{JsonError}
 use Rattle.flow_engine_answers.specs.Answers as told
 use Rattle.flow_engine_answers.specs.declared.answers.OperatorAnswer.{OperatorAnswer}
@@ -49,3 +53,6 @@ module _ (wanted : RunRequest) (texts : RunTexts) where
 
   pub bind-lacking : (rule : ℕ) (how : HowEnd) → BreaksBindRule texts.books.items texts.bind rule → LacksOthers wanted texts how → AreRefused wanted texts (end_of how)
   bind-lacking rule how breaks lacks = begins-lacking breaks.trees breaks.trees_are (is-some (bindings_of texts.bind) breaks.bindings breaks.bindings_are) how lacks
+
+  pub accepted-lacking : (given : Given) (how : HowEnd) → Accepted AreAccepted FitsKind texts.books.items texts.bind given → LacksOthers wanted texts how → AreRefused wanted texts (end_of how)
+  accepted-lacking given how accepted lacks = begins-lacking accepted.trees accepted.trees_are (is-some (bindings_of texts.bind) accepted.bindings accepted.bindings_are) how lacks
