@@ -19,7 +19,7 @@ HOUSES = {
     "oc2_wire": ["oc2_wire", "oc2_wire_link", "oc2_wire_memory", "oc2_wire_process", "oc2_wire_lines", "oc2_wire_site"],
     "slpf_rules": ["slpf_rules"],
     "slpf_shadow": ["slpf_shadow"],
-    "slpf_actuator": ["slpf_actuator"],
+    "slpf_actuator": ["slpf_actuator", "slpf_actuator_acts"],
     "run_records": ["run_records"],
     "run_journal": ["run_journal"],
     "flow_core": ["flow_core"],

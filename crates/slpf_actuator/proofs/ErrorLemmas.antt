@@ -28,22 +28,13 @@ from_broken (journal.Full length) h = absurd (cc)
 from_broken journal.Broken h = refl
 from_broken journal.Memory h = absurd (cc)
 
--- an append never answers that the value was broken, nor that the file is damaged
+-- what keeps an act never answers that the value was broken, nor that the file is damaged
 pub no_other_passes : (r : Result (Unit {0}) ActError) (j : JournalError) → (e : ActError) × (r ≡ Err e) × (e ≡ error_of j)
-    → ((place : ℕ) → (IsErrOf {T = Unit {0}} (Err j) journal.Broken → ⊥) × (IsErrOf {T = Unit {0}} (Err j) journal.Memory → ⊥) × (IsErrOf {T = Unit {0}} (Err j) (journal.Damaged place) → ⊥))
+    → ((place : ℕ) → (IsErrOf {T = Unit {0}} (Err j) journal.Broken → ⊥) × (IsErrOf {T = Unit {0}} (Err j) (journal.Damaged place) → ⊥))
     → (place : ℕ) → (IsErrOf r Broken → ⊥) × (IsErrOf r (Damaged place) → ⊥)
 no_other_passes r j (e, is, from) other place = (
   λ h. let same : e ≡ Broken = cc in (other place).0 (ap (λ (x : JournalError). Err x) (from_broken j (sym from ∙ same))),
-  λ h. let same : e ≡ Damaged place = cc in (other place).2 (ap (λ (x : JournalError). Err x) (from_damaged j place (sym from ∙ same))),
-)
-
--- nor does what hands its refusals on
-pub no_other_stays : (r : Result (Unit {0}) ActError) (f : ActError) → (e : ActError) × (r ≡ Err e) × (e ≡ f)
-    → ((place : ℕ) → (IsErrOf {T = Unit {0}} (Err f) Broken → ⊥) × (IsErrOf {T = Unit {0}} (Err f) (Damaged place) → ⊥))
-    → (place : ℕ) → (IsErrOf r Broken → ⊥) × (IsErrOf r (Damaged place) → ⊥)
-no_other_stays r f (e, is, from) other place = (
-  λ h. let same : f ≡ Broken = cc in (other place).0 (ap (λ (x : ActError). Err x) same),
-  λ h. let same : f ≡ Damaged place = cc in (other place).1 (ap (λ (x : ActError). Err x) same),
+  λ h. let same : e ≡ Damaged place = cc in (other place).1 (ap (λ (x : JournalError). Err x) (from_damaged j place (sym from ∙ same))),
 )
 
 -- what holds whatever the error is

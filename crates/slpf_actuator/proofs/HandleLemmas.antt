@@ -7,22 +7,32 @@ use Rattle.cacao_site.specs.View.{SiteView}
 use Rattle.run_journal.proofs.DurableLemmas.{images_stay}
 use Rattle.run_journal.specs.JournalView.{JournalView}
 use Rattle.run_records.specs.declared.act.Act.{Act}
+use Rattle.run_records.specs.Ranges.{ActInRange}
 use Rattle.slpf_rules.specs.Laws.{RepliesAreFinal}
 use Rattle.slpf_actuator.specs.declared.error.ActError.{ActError}
 use Rattle.slpf_actuator.specs.declared.error.ActError.TheVariants.{Disk, Damaged, Full, Broken, Memory}
-use Rattle.slpf_actuator.specs.ActLists.{IsHistory, entries_of}
+use Rattle.slpf_actuator_acts.specs.ActLists.{IsHistory, IsNew, entries_of}
 use Rattle.slpf_actuator.specs.ActuatorCalls.{MayHaveDone, Offers, Repeats}
 use Rattle.run_journal.specs.Durable.{IsImage}
-use Rattle.slpf_actuator.specs.ActuatorView.{ActuatorView, IsReady, reply_parcel_of}
-use Rattle.slpf_actuator.specs.History.{is_of}
-use Rattle.slpf_actuator.specs.Inside.{view_over}
-use Rattle.slpf_actuator.proofs.ActLemmas.{acts_final}
-use Rattle.slpf_actuator.proofs.Places.{find_some}
+use Rattle.slpf_actuator_acts.specs.ActuatorView.{ActuatorView, IsReady, act_for, reply_parcel_of, view_over}
+use Rattle.slpf_actuator_acts.specs.History.{is_of}
+use Rattle.slpf_actuator_acts.proofs.ActLemmas.{acts_final}
+use Rattle.slpf_actuator_acts.proofs.KeepLemmas.{adds_none}
+use Rattle.slpf_actuator_acts.proofs.Places.{find_some}
 
 -- the filter as it stands, where no call was refused
 pub view_whole : (j : JournalView) (acts : List Act) (broken : Bool) → broken ≡ false
     → view_over j acts ≡ record { agent = j.file; acts = acts; prepared = j.prepared; broken = broken }
 view_whole j acts broken whole = ap (λ (b : Bool). let v : ActuatorView = record { agent = j.file; acts = acts; prepared = j.prepared; broken = b } in v) (sym whole)
+
+-- a site that stays may have got the act on a command
+pub offers_none : (j : JournalView) (acts : List Act) (command : Parcel) (moment : ℕ) (site : SiteView) → IsReady (view_over j acts) site → IsNew acts command.run command.issue
+    → ActInRange (act_for acts command moment) → Offers (view_over j acts) command moment site site
+offers_none j acts command moment site ready is_new fits = record {
+  is_new = is_new;
+  in_range = fits;
+  adds = adds_none j acts (act_for acts command moment) site ready;
+}
 
 -- a put leaves a filter ready
 pub ready_after_put : (v : ActuatorView) (parcel : Parcel) (between new : SiteView) → IsReady v between → Puts parcel between new → IsReady v new

@@ -1,7 +1,4 @@
-pub mod ActLemmas
-pub mod Damages
 pub mod ErrorLemmas
 pub mod HandleLemmas
-pub mod KeepLemmas
-pub mod OpenLemmas
-pub mod Places
+pub use Rattle.slpf_actuator_acts.proofs.ActLemmas
+pub use Rattle.slpf_actuator_acts.proofs.Damages

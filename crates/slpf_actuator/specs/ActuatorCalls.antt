@@ -1,27 +1,16 @@
 -- Promise: What the calls of a filter do.
-use Rattle.std.specs.Prelude.{◌≡◌, ◌≢◌, ◌⊎◌, ℕ, ◌+◌, ◌<◌, ◌≤◌, length, true, List, [], ◌∷◌, ◌++◌}
+use Rattle.std.specs.Prelude.{◌≡◌, ◌≢◌, ◌⊎◌, ℕ, ◌<◌, ◌≤◌, true, [], ◌∷◌, ◌++◌}
 use Rattle.cacao_site.specs.declared.parcel.Parcel.{Parcel}
-use Rattle.cacao_site.specs.DiskCalls.{AllLeft, OnlyFile}
+use Rattle.cacao_site.specs.DiskCalls.{AllLeft}
 use Rattle.cacao_site.specs.SiteCalls.{Puts}
 use Rattle.cacao_site.specs.View.{SiteView}
 use Rattle.run_records.specs.declared.act.Act.{Act}
-use Rattle.run_records.specs.Layout.{act_layout}
 use Rattle.run_records.specs.Ranges.{ActInRange}
 use Rattle.slpf_actuator.specs.declared.error.ActError.{ActError}
 use Rattle.slpf_actuator.specs.declared.error.ActError.TheVariants.{Disk, Memory}
-use Rattle.slpf_actuator.specs.ActLists.{HasActed, IsFinalReply, IsNew, length_with}
-use Rattle.slpf_actuator.specs.ActuatorView.{ActuatorView, HoldsActs, act_for, reply_parcel_of}
-use Rattle.run_journal.specs.Durable.{header_calls, header_bytes}
-
--- the image stands for the acts, or for these and one more
-abbrev pub HoldsWith : List Act → Act → List ℕ → Type 0
-HoldsWith acts act image = HoldsActs acts image ⊎ HoldsActs (acts ++ act ∷ []) image
-
--- the filter's file alone may have changed, and each image of it at each beat stands for the acts, or for these and this one
-pub record MayAdd (v : ActuatorView) (act : Act) (old new : SiteView) : Type 0 where
-  pub file : OnlyFile v.agent old new (HoldsWith v.acts act)
-  pub calls : new.disk.calls ≤ old.disk.calls + (header_calls v.prepared + 4)
-  pub written : new.disk.written ≤ old.disk.written + (header_bytes v.prepared + (length (act_layout act) + 6))
+use Rattle.slpf_actuator_acts.specs.ActLists.{HasActed, IsFinalReply, IsNew, length_with}
+pub use Rattle.slpf_actuator_acts.specs.Adding.{HoldsWith, MayAdd}
+use Rattle.slpf_actuator_acts.specs.ActuatorView.{ActuatorView, HoldsActs, act_for, reply_parcel_of}
 
 -- the act on a command of a new run and issue may have been added, and nothing else changed
 pub record Offers (v : ActuatorView) (parcel : Parcel) (moment : ℕ) (old new : SiteView) : Type 0 where

@@ -1,14 +1,8 @@
 -- Promise: What an `Actuator` keeps.
-use Rattle.std.specs.Prelude.{◌≡◌, ◌≤◌, false, List}
-use Rattle.run_journal.specs.JournalView.{JournalView}
-use Rattle.run_records.specs.declared.act.Act.{Act}
+use Rattle.std.specs.Prelude.{◌≡◌, ◌≤◌, false}
 use Rattle.slpf_actuator.specs.declared.actuator.Actuator.TheInside.{Inside}
-use Rattle.slpf_actuator.specs.ActLists.{entries_of}
-use Rattle.slpf_actuator.specs.ActuatorView.{ActuatorView}
-
--- the filter of a journal and its acts, as long as no call was refused
-abbrev pub view_over : JournalView → List Act → ActuatorView
-view_over journal acts = record { agent = journal.file; acts = acts; prepared = journal.prepared; broken = false }
+use Rattle.slpf_actuator_acts.specs.ActLists.{entries_of}
+use Rattle.slpf_actuator_acts.specs.ActuatorView.{ActuatorView}
 
 abbrev pub actuator_view : Inside → ActuatorView
 actuator_view a = record { agent = a.journal.file; acts = a.history; prepared = a.journal.prepared; broken = a.broken }

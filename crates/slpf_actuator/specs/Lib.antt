@@ -1,8 +1,7 @@
-pub mod ActLists
 pub mod ActuatorCalls
-pub mod ActuatorView
-pub mod Damage
 pub mod Errors
-pub mod History
 pub mod Inside
-pub mod Laws
+pub use Rattle.slpf_actuator_acts.specs.ActLists
+pub use Rattle.slpf_actuator_acts.specs.ActuatorView
+pub use Rattle.slpf_actuator_acts.specs.Damage
+pub use Rattle.slpf_actuator_acts.specs.Laws

@@ -1,11 +1,11 @@
 // The filter.
 ghost use Rattle.std.specs.Prelude.{◌≡◌, ◌↔◌, ◌≤◌, IsTrue, Any, length};
 ghost use Rattle.slpf_rules_acts.specs.Acts.{table_of};
-ghost use Rattle.slpf_actuator.specs.ActLists.{IsHistory};
-ghost use Rattle.slpf_actuator.specs.ActuatorView.{ActuatorView};
+ghost use Rattle.slpf_actuator_acts.specs.ActLists.{IsHistory};
+ghost use Rattle.slpf_actuator_acts.specs.ActuatorView.{ActuatorView};
 
-use crate::history::History;
 use run_journal::Journal;
+use slpf_actuator_acts::History;
 use slpf_rules::Table;
 use std::alloc::Global;
 use std::marker::Model;
@@ -34,7 +34,7 @@ impl Drop for Actuator {
 }
 
 impl Model for Actuator {
-    ghost use Rattle.slpf_actuator.specs.ActuatorView.{ActuatorView};
+    ghost use Rattle.slpf_actuator_acts.specs.ActuatorView.{ActuatorView};
 
     ghost Value = { ActuatorView };
 

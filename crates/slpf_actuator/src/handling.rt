@@ -1,14 +1,15 @@
 // A command, and what becomes of it.
 ghost use Rattle.std.specs.Prelude.{◌≡◌, ◌≢◌, ◌⊎◌, ◌↔◌, ◌<◌, ◌≤◌, ℕ, length, true, false, Ok, Err, IfErr, IsErrOf};
 ghost use Rattle.cacao_site.specs.Counts.{Rose};
-ghost use Rattle.slpf_actuator.specs.ActLists.{IsNew, length_with};
+ghost use Rattle.slpf_actuator_acts.specs.ActLists.{IsNew, length_with};
 ghost use Rattle.slpf_actuator.specs.ActuatorCalls.{Acts, Overflows, Refuses, Repeats};
-ghost use Rattle.slpf_actuator.specs.ActuatorView.{IsReady, act_for};
+ghost use Rattle.slpf_actuator_acts.specs.ActuatorView.{IsReady, act_for};
 
+use crate::acting::act_on;
 use crate::actuator::Actuator;
 use crate::error::ActError;
-use crate::keeping::{act_on, reply_parcel};
 use cacao_site::{Parcel, Site};
+use slpf_actuator_acts::reply_parcel;
 use slpf_rules::replies_are_final;
 
 impl Actuator {

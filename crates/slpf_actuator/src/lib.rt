@@ -2,15 +2,12 @@
 //! journal before its reply leaves, and answers a command that comes again from its act.
 #![tactic(auto)]
 
+mod acting;
 pub mod actuator;
-mod answering;
 pub mod error;
 mod handling;
-mod history;
-mod keeping;
-mod laws;
 mod opening;
 
 pub use actuator::Actuator;
 pub use error::ActError;
-pub use laws::damage_law;
+pub use slpf_actuator_acts::damage_law;

@@ -1,19 +1,17 @@
 // The opening of a filter.
-ghost use Rattle.std.specs.Prelude.{◌≡◌, ◌≢◌, ◌↔◌, ◌⊎◌, ◌+◌, ◌/◌, ◌<◌, ◌≤◌, ◌++◌, ◌∷◌, [], ℕ, length, true, false, IsTrue, Ok, Err, IfOk, OnErr, IsErrOf};
+ghost use Rattle.std.specs.Prelude.{◌≡◌, ◌≢◌, ◌↔◌, ◌⊎◌, ◌+◌, ◌/◌, ◌<◌, ◌≤◌, ℕ, length, false, IsTrue, Err, IfOk, OnErr, IsErrOf};
 ghost use Rattle.cacao_site.specs.Counts.{Rose};
 ghost use Rattle.cacao_site.specs.DiskCalls.{IsDurable, IsLeft, OnlyFile};
-ghost use Rattle.slpf_actuator.specs.ActLists.{IsHistory, entries_of};
-ghost use Rattle.slpf_actuator.specs.ActuatorView.{HoldsActs, IsReady};
-ghost use Rattle.slpf_actuator.specs.Damage.{BreaksIn, IsBad, IsDamaged};
+ghost use Rattle.slpf_actuator_acts.specs.ActLists.{IsHistory, entries_of};
+ghost use Rattle.slpf_actuator_acts.specs.ActuatorView.{HoldsActs, IsReady};
+ghost use Rattle.slpf_actuator_acts.specs.Damage.{BreaksIn, IsDamaged};
 
 use crate::actuator::Actuator;
-use crate::answering::answer;
 use crate::error::ActError;
-use crate::history::History;
 use cacao_site::Disk;
 use run_journal::Journal;
-use run_records::read_act;
-use std::alloc::{AllocError, Global};
+use slpf_actuator_acts::{History, replay};
+use std::alloc::Global;
 
 impl Actuator {
     /// Opens the file of an agent, 1 to 16: it syncs, reads the acts in one pass, and answers each command anew to see
@@ -54,7 +52,7 @@ impl Actuator {
             Ok(journal) => journal,
             Err(error) => return Err(ActError::from(error)),
         };
-        match replay(alloc, &journal) {
+        match read_acts(alloc, &journal) {
             Ok(history) => Ok(Actuator {
                 alloc,
                 journal,
@@ -67,40 +65,14 @@ impl Actuator {
 }
 
 /// The acts of the entries.
-fn replay(alloc: Global, journal: &Journal) -> Result<History, ActError>
+fn read_acts(alloc: Global, journal: &Journal) -> Result<History, ActError>
     ensures acts { IfOk result (λ history. entries_of history ≡ journal.now.items) }
     ensures history { IfOk result IsHistory }
     ensures damaged { (place : ℕ) → IsErrOf result (ActError.Damaged place) → BreaksIn journal.now.items place }
     ensures no_other { OnErr result ((result ≡ Err ActError.Memory) ⊎ ((place : ℕ) × (result ≡ Err (ActError.Damaged place)))) }
 {
-    let mut history = History::new(alloc);
-    for n in 0..journal.count() {
-        if !add_entry(alloc, &mut history, journal.entry(n))? {
-            return Err(ActError::Damaged {
-                place: journal.place(n),
-            });
-        }
+    match replay(alloc, journal)? {
+        Ok(history) => Ok(history),
+        Err(place) => Err(ActError::Damaged { place }),
     }
-    Ok(history)
-}
-
-/// Adds the act of an entry; false where it is no act that may follow.
-fn add_entry(alloc: Global, history: &mut History, entry: &[u8]) -> Result<bool, AllocError>
-    requires few { length history.old < 4_294_967_295 }
-    ensures added { result ≡ Ok true → entries_of history.new ≡ entries_of history.old ++ entry.now ∷ [] }
-    ensures history { result ≡ Ok true → IsHistory history.new }
-    ensures bad { result ≡ Ok false → IsBad history.old entry.now }
-{
-    let Some(act) = read_act(alloc, entry)? else {
-        return Ok(false);
-    };
-    if history.find(act.run, act.issue).is_some() {
-        return Ok(false);
-    }
-    let answered = answer(alloc, history.table(), act.command.as_slice())?;
-    if answered.reply != act.reply {
-        return Ok(false);
-    }
-    history.push(act, &answered.asked)?;
-    Ok(true)
 }

@@ -1,13 +1,13 @@
 use Rattle.std.proofs.Common.{◌≡◌, ◌∙◌, ◌<◌, ◌^◌, find, Some, false, sym, subst, ap, arith}
 use Rattle.std.proofs.lemmas.Option.{none-some}
-use Rattle.slpf_actuator.specs.ActLists.{IsHistory}
+use Rattle.slpf_actuator_acts.specs.ActLists.{IsHistory}
 use Rattle.slpf_actuator.specs.ActuatorCalls.{Offers}
-use Rattle.slpf_actuator.specs.ActuatorView.{ActuatorView}
+use Rattle.slpf_actuator_acts.specs.ActuatorView.{ActuatorView}
 use Rattle.slpf_actuator.specs.declared.error.ActError.TheVariants.{Broken, Damaged}
-use Rattle.slpf_actuator.specs.History.{is_of}
+use Rattle.slpf_actuator_acts.specs.History.{is_of}
 use Rattle.slpf_actuator.proofs.HandleLemmas.{broken_view, may_have_done, ready_after_put, repeats, same_refusal, view_whole}
-use Rattle.slpf_actuator.proofs.KeepLemmas.{act_fits}
-use Rattle.slpf_actuator.proofs.Places.{find_none, new_finds_none}
+use Rattle.slpf_actuator_acts.proofs.KeepLemmas.{act_fits}
+use Rattle.slpf_actuator_acts.proofs.Places.{find_none, new_finds_none}
 use Rattle.slpf_actuator.proofs.actuator.Actuator.handle.Goals as goal
 
 pub act_on-requires-clause-is_new : goal.act_on-requires-clause-is_new

@@ -11,8 +11,8 @@ returns-in-Err-clause-no_other g c = λ needed.
       λ e. let same : c.from.result ≡ Full needed = cc in says.1 (ap (λ (j : JournalError). Err j) (from_full c.in-Err.error needed (sym c.from.ensures ∙ same))),
     )
 
-pub returns-in-Ok-replay-clause-ready : goal.returns-in-Ok-replay-clause-ready
-returns-in-Ok-replay-clause-ready g c = record {
+pub returns-in-Ok-read_acts-clause-ready : goal.returns-in-Ok-read_acts-clause-ready
+returns-in-Ok-read_acts-clause-ready g c = record {
   low = search rules;
   high = search rules;
   history = search rules;
