@@ -8,8 +8,8 @@ use Rattle.flow_core_rules.specs.Givens.{Given}
 use Rattle.flow_engine_answers.specs.declared.answers.OperatorAnswer.{OperatorAnswer}
 use Rattle.flow_laws.specs.Images.{IsRecords}
 use Rattle.flow_world.specs.Sessions.{HasRefused, IsStart}
-use Rattle.flow_world_parcels_law.specs.Parcels.{AreHandled, IsOfTaken, Took}
-use Rattle.flow_world_parcels_law.proofs.Parcels.{each_close_handles, each_refusal_handles}
+use Rattle.flow_world_laws.specs.Parcels.{AreHandled, IsOfTaken, Took}
+use Rattle.flow_world_laws.proofs.Parcels.{each_close_handles, each_refusal_handles}
 use Rattle.flow_world.specs.WorldError.{WorldError}
 use Rattle.cacao_cli_peers.specs.Prefixes.{GoesOn, GoesOnDurably}
 use Rattle.cacao_cli_peers.proofs.Prefixes.{each_close_goes_on, each_later_refusal_goes_on, each_refusal_goes_on, each_second_refusal_goes_on}

@@ -7,7 +7,7 @@ use Rattle.flow_core_rules.specs.Givens.{Given}
 use Rattle.flow_engine_answers.specs.declared.answers.OperatorAnswer.{OperatorAnswer}
 use Rattle.flow_laws.specs.Good.{IsGood}
 use Rattle.flow_world.specs.Sessions.{HasRefused, IsStart}
-use Rattle.flow_world_parcels_law.specs.Parcels.{AreHandled, IsOfTaken, Took, but_the_last}
+use Rattle.flow_world_laws.specs.Parcels.{AreHandled, IsOfTaken, Took, but_the_last}
 use Rattle.flow_world.specs.WorldError.{WorldError}
 use Rattle.cacao_cli_peers.specs.Prefixes.{GoesOn, GoesOnDurably}
 use Rattle.cacao_cli_words.specs.Requests.{FleetRequest, PeerRequest, RunRequest, fleet_request, peer_request}

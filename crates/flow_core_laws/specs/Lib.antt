@@ -1,3 +1,12 @@
 pub mod OwnTask
 pub mod StaysEnabled
 pub mod SameBytes
+pub mod Reads
+pub mod BothOrders
+pub mod Exchanged
+pub mod Renumbered
+pub mod Results
+pub mod BothSend
+pub mod ReadInScope
+pub mod UsedNames
+pub mod FitValues

@@ -28,7 +28,7 @@ use Rattle.flow_world_steps.proofs.Records.{has_records}
 use Rattle.flow_world_parts.specs.Errors.{opening_refusal}
 use Rattle.flow_world_parts.specs.Openings.{RefusesFilters}
 use Rattle.flow_world_parts.specs.declared.error.WorldError.TheVariants as error
-use Rattle.flow_world_prefix_law.specs.Prefixes.{GoesOn as RunGoes}
+use Rattle.flow_world_laws.specs.Prefixes.{GoesOn as RunGoes}
 use Rattle.flow_fleet_laws.specs.Fleets.{IsAt, IsFleetStart, KeepsEach}
 use Rattle.flow_fleet_laws.specs.Views.{seen_from}
 use Rattle.flow_fleet_laws.proofs.Seen.{no_filter, sound-seen}

@@ -9,7 +9,7 @@ use Rattle.cacao_site.specs.View.{SiteView}
 use Rattle.run_records.specs.declared.record.Record.{Record}
 use Rattle.flow_laws.specs.Images.{IsRecords}
 use Rattle.flow_world_steps.specs.Sums.{IsBetween}
-use Rattle.flow_world_prefix_law.specs.Prefixes.{GoesOn}
+use Rattle.flow_world_laws.specs.Prefixes.{GoesOn}
 use Rattle.flow_fleet_laws.specs.Fleets.{IsAt, IsFleetStart, KeepsEach}
 use Rattle.flow_fleet_laws.specs.Views.{seen_from}
 use Rattle.flow_fleet_steps.specs.Openings.{RefusesFleetOpening, Runs, numbers}

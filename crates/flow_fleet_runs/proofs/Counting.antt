@@ -29,8 +29,8 @@ use Rattle.flow_world_steps.proofs.Growth.{gains_none, gains_one, gains_then}
 use Rattle.flow_world_steps.proofs.Handling.{total_append}
 use Rattle.flow_world_steps.proofs.Hands.{HandGoes, IsEmptyAt, TakesEmpty, at_looked, at_opened, at_owes, at_rests, empty_to, few_at_hand, hand_as, refused_to, to_looked, to_owes, to_reached, to_rests}
 use Rattle.flow_world_steps.proofs.Spoken.{fails_said}
-use Rattle.flow_world_parcels_law.specs.Parcels.{Took}
-use Rattle.flow_world_parcels_law.proofs.Taken.{all_taken}
+use Rattle.flow_world_laws.specs.Parcels.{Took}
+use Rattle.flow_world_laws.proofs.Taken.{all_taken}
 use Rattle.flow_fleet_laws.specs.Views.{seen_from}
 use Rattle.flow_fleet_steps.specs.Closes.{IsFleetClose}
 use Rattle.flow_fleet_steps.specs.Laws.{FleetWent}

@@ -27,9 +27,9 @@ use Rattle.flow_world_steps.specs.Worlds.{Phase}
 use Rattle.flow_world_steps.proofs.FilterCalls.{has_acts}
 use Rattle.flow_world_steps.proofs.Records.{has_records}
 use Rattle.flow_world_steps.proofs.Sites.{some_same}
-use Rattle.flow_world_parcels_law.specs.Parcels.{Took}
-use Rattle.flow_world_parcels_law.proofs.Held.{HoldsActsMore, HoldsRecordsMore}
-use Rattle.flow_world_parcels_law.proofs.Taken.{all_taken, none_in, there_at}
+use Rattle.flow_world_laws.specs.Parcels.{Took}
+use Rattle.flow_world_laws.proofs.Held.{HoldsActsMore, HoldsRecordsMore}
+use Rattle.flow_world_laws.proofs.Taken.{all_taken, none_in, there_at}
 use Rattle.flow_fleet_laws.specs.Events.Events.{nothing as no_event}
 use Rattle.flow_fleet_laws.specs.Fleets.{IsAt, IsFleetStart, KeepsEach}
 use Rattle.flow_fleet_laws.specs.Shrinking.{OnlyShrinks}

@@ -10,8 +10,8 @@ use Rattle.cacao_site.specs.declared.parcel.Parcel.{Parcel}
 use Rattle.flow_laws.specs.Good.{AgreeOn, IsChoice}
 use Rattle.flow_laws.specs.Images.{IsActs, IsRecords, puts_to}
 use Rattle.flow_laws.proofs.Basics.{put_at, put_at-each, put_at-same, same_some}
-use Rattle.flow_world_parcels_law.specs.Parcels.{Took, but_the_last}
-use Rattle.flow_world_parcels_law.proofs.Taken.{none_in, there_at}
+use Rattle.flow_world_laws.specs.Parcels.{Took, but_the_last}
+use Rattle.flow_world_laws.proofs.Taken.{none_in, there_at}
 use Rattle.flow_fleet_laws.specs.Fleets.{IsAt, IsFleetStart}
 use Rattle.flow_fleet_laws.specs.Shrinking.{OnlyShrinks}
 use Rattle.flow_fleet_laws.specs.Views.{seen_from}

@@ -13,8 +13,8 @@ use Rattle.flow_laws.specs.Images.{puts_of, puts_to, session_puts, told_list, up
 use Rattle.flow_laws.proofs.Basics.{same_some}
 use Rattle.flow_laws.proofs.Calls.{all_past}
 use Rattle.flow_world_steps.specs.Link.{commands_in, commands_of, in_hand, replies_in}
-use Rattle.flow_world_parcels_law.specs.Parcels.{Took}
-use Rattle.flow_world_parcels_law.proofs.Taken.{all_taken}
+use Rattle.flow_world_laws.specs.Parcels.{Took}
+use Rattle.flow_world_laws.proofs.Taken.{all_taken}
 use Rattle.flow_fleet_laws.specs.Events.{Events, EventsPutOwn}
 use Rattle.flow_fleet_laws.specs.Fleets.{IsAt, IsFleetStart, KeepsEach}
 use Rattle.flow_fleet_laws.specs.Speeches.Form.{with_numbers}

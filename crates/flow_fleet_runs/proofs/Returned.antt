@@ -27,9 +27,9 @@ use Rattle.flow_world_steps.specs.Steps.{IsAddressed}
 use Rattle.flow_world_steps.specs.Worlds.{Phase, looked, rests, waits}
 use Rattle.flow_world_steps.proofs.Hands.{few_at_hand, hand_as}
 use Rattle.flow_world_steps.proofs.Records.{has_records}
-use Rattle.flow_world_parcels_law.specs.Parcels.{HasTakenActs, HasTakenReplies, IsActedOn, IsRecorded, Took, WasAwaited, but_the_last}
-use Rattle.flow_world_parcels_law.proofs.Awaited.{from_filter}
-use Rattle.flow_world_parcels_law.proofs.Taken.{in_acts_of, in_all, in_front, parts, there_at, was_put}
+use Rattle.flow_world_laws.specs.Parcels.{HasTakenActs, HasTakenReplies, IsActedOn, IsRecorded, Took, WasAwaited, but_the_last}
+use Rattle.flow_world_laws.proofs.Awaited.{from_filter}
+use Rattle.flow_world_laws.proofs.Taken.{in_acts_of, in_all, in_front, parts, there_at, was_put}
 use Rattle.flow_fleet_laws.specs.Fleets.{IsAt, IsFleetStart}
 use Rattle.flow_fleet_laws.specs.Views.{seen_from}
 use Rattle.flow_fleet_laws.proofs.Seen.{filter_file, sound-seen}

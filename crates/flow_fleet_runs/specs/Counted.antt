@@ -8,7 +8,7 @@ use Rattle.flow_engine.specs.EngineView.{EngineView}
 use Rattle.flow_world_steps.specs.Handled.{IsAtHand, one_reply}
 use Rattle.flow_world_steps.specs.Sums.{total}
 use Rattle.flow_world_steps.specs.Turns.{most_ignored}
-use Rattle.flow_world_parcels_law.specs.Parcels.{Took}
+use Rattle.flow_world_laws.specs.Parcels.{Took}
 use Rattle.flow_fleet_steps.specs.Openings.{Runs}
 use Rattle.flow_fleet_steps.specs.Steps.{FleetSteps}
 use Rattle.flow_fleet_steps.specs.Worlds.{FleetWorld}

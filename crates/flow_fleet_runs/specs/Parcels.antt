@@ -7,8 +7,8 @@ use Rattle.oc2_msg.specs.declared.answers.Answer.{Answer}
 use Rattle.flow_engine.specs.EngineCalls.{IsFinal}
 use Rattle.flow_laws.specs.Images.{EachFilter, EachJournal, IsAgent}
 use Rattle.flow_world_steps.specs.Handled.{IsCommand}
-use Rattle.flow_world_parcels_law.specs.Parcels.{HasTakenActs, HasTakenReplies, IsActedOn, IsRecorded, Took, WasAwaited}
-use Rattle.flow_world_parcels_law.specs.Parcels.{but_the_last}
+use Rattle.flow_world_laws.specs.Parcels.{HasTakenActs, HasTakenReplies, IsActedOn, IsRecorded, Took, WasAwaited}
+use Rattle.flow_world_laws.specs.Parcels.{but_the_last}
 use Rattle.flow_fleet_laws.specs.Fleets.{IsAt, IsFleetStart}
 use Rattle.flow_fleet_laws.specs.Views.{seen_from}
 use Rattle.flow_fleet_steps.specs.Openings.{Runs, numbers}

@@ -7,7 +7,7 @@ use Rattle.flow_engine.specs.OpenIssues.{most_puts}
 use Rattle.flow_laws.specs.Held.{HasOpenSend}
 use Rattle.flow_laws.specs.Images.{EachJournal}
 use Rattle.flow_world_steps.specs.Link.{commands_in, commands_of, replies_in}
-use Rattle.flow_world_parcels_law.specs.Parcels.{Took}
+use Rattle.flow_world_laws.specs.Parcels.{Took}
 use Rattle.flow_fleet_laws.specs.Fleets.{IsAt, IsFleetStart}
 use Rattle.flow_fleet_laws.specs.Views.{seen_from}
 use Rattle.flow_fleet_steps.specs.Laws.{FleetWent}

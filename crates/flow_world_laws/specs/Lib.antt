@@ -3,3 +3,12 @@ pub mod Complete
 pub mod Ends
 pub mod Returned
 pub mod Undamaged
+pub mod Prefixes
+pub mod Parcels
+pub mod Acts
+pub mod AllCame
+pub mod Came
+pub mod Expires
+pub mod Puts
+pub mod Replies
+pub mod Returns

@@ -14,4 +14,4 @@ pub mod Served
 pub mod ServedLeft
 pub mod Taking
 pub mod TurnLemmas
-pub use Rattle.flow_world_prefix_law.proofs.Prefixes as PrefixPrefixes
+pub use Rattle.flow_world_laws.proofs.Prefixes as PrefixPrefixes

@@ -26,7 +26,7 @@ use Rattle.flow_world_steps.proofs.Records.{has_records}
 use Rattle.flow_world_parts.specs.Errors.{opening_refusal}
 use Rattle.flow_world_parts.specs.declared.close.Close.{Close}
 use Rattle.flow_world_parts.specs.declared.error.WorldError.TheVariants as error
-use Rattle.flow_world_prefix_law.specs.Prefixes.{AddsNothing, GoesOn, GoesOnDurably}
+use Rattle.flow_world_laws.specs.Prefixes.{AddsNothing, GoesOn, GoesOnDurably}
 use Rattle.oc2_wire_laws.specs.Ends.{EngineKeeps, IsRunFrom}
 use Rattle.oc2_wire_laws.specs.Since.{EngineKeepsSince, taken_before, takes_of}
 use Rattle.oc2_wire_steps.specs.Kept.{IsToldStart}

@@ -5,5 +5,5 @@ pub mod Reading
 pub mod ReplyWires
 pub mod Serving
 pub mod Turns
-pub use Rattle.flow_world_prefix_law.specs.Prefixes
+pub use Rattle.flow_world_laws.specs.Prefixes
 pub use Rattle.oc2_wire_steps.specs.Kept

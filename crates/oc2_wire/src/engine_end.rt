@@ -4,7 +4,7 @@ ghost use Rattle.cacao_site.specs.DiskCalls.{GoesOn as KeepsOn};
 ghost use Rattle.cacao_site.specs.LinkCalls.{GainsAll, Keeps};
 ghost use Rattle.cacao_site.specs.declared.parcel.Parcel.{Parcel};
 ghost use Rattle.flow_world_parts.specs.Openings.{IsJournalOpen};
-ghost use Rattle.flow_world_prefix_law.specs.Prefixes.{AddsNothing, GoesOn, GoesOnDurably};
+ghost use Rattle.flow_world_laws.specs.Prefixes.{AddsNothing, GoesOn, GoesOnDurably};
 ghost use Rattle.oc2_wire.specs.Errors.{IsOfEngine};
 ghost use Rattle.oc2_wire.specs.Reading.{KeepsByLines};
 ghost use Rattle.oc2_wire.specs.Serving.{HasRefused, HasServed, RefusesFirst, Serves};

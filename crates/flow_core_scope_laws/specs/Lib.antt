@@ -1,3 +1,0 @@
-pub mod ReadInScope
-pub mod UsedNames
-pub mod FitValues

@@ -1,5 +1,0 @@
-pub mod Awaited
-pub mod Taken
-pub mod Held
-pub mod Handled
-pub mod Parcels

@@ -1,9 +1,0 @@
-pub mod Acts
-pub mod AllCame
-pub mod Behind
-pub mod Came
-pub mod Expires
-pub mod LastMoments
-pub mod Puts
-pub mod Replies
-pub mod Returns

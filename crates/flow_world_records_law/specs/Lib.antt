@@ -1,7 +1,0 @@
-pub mod Acts
-pub mod AllCame
-pub mod Came
-pub mod Expires
-pub mod Puts
-pub mod Replies
-pub mod Returns
