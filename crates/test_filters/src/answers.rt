@@ -16,6 +16,14 @@ pub(crate) fn none(alloc: Global) -> Result<String, AllocError> {
     String::from_str(alloc, "none")
 }
 
+/// A number, or that there is none.
+pub(crate) fn number_or_none(alloc: Global, number: Option<u64>) -> Result<String, AllocError> {
+    match number {
+        Some(number) => format!(in alloc; "{number}"),
+        None => none(alloc),
+    }
+}
+
 /// A text, or the word for none where it is empty.
 pub(crate) fn text_or_none(alloc: Global, text: &str) -> Result<String, AllocError> {
     if text.is_empty() {

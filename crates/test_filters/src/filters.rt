@@ -53,11 +53,23 @@ impl Filter {
         }
         match read_command(alloc, text) {
             Ok(command) => {
-                let response = self.table.answer(&command, moment)?;
-                Ok(Some(Said::of(&response)))
+                let answered = self.table.answer(&command, moment);
+                drop(command);
+                let response = answered?;
+                let said = Said::of(&response);
+                drop(response);
+                Ok(Some(said))
             }
             Err(CommandError::Refused(_)) => Ok(None),
             Err(CommandError::Memory) => Err(AllocError),
+        }
+    }
+
+    /// Whether a command adds a rule.
+    pub(crate) fn adds(&mut self, alloc: Global, text: &[u8]) -> Result<bool, AllocError> {
+        match self.ask(alloc, text, 0)? {
+            Some(said) => Ok(said.status == 200),
+            None => Ok(false),
         }
     }
 

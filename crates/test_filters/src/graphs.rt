@@ -75,22 +75,33 @@ fn enclosed(text: &mut String, nests: &Nests, guard: u32, count: u32) -> Result<
     Ok(())
 }
 
-/// The places that each guard of the last field asked for encloses.
-fn nests(alloc: Global, row: &Row) -> Result<String, AllocError> {
-    let back_free = table(alloc, row.text(4))?;
-    let back_guarded = table(alloc, row.text(5))?;
+/// The guards of a row's graph inside which places stand.
+fn nests_of(alloc: Global, row: &Row) -> Result<Nests, AllocError> {
     let first = places(alloc, row.text(6))?;
-    let nests = graph(alloc, row)?.nests(
-        alloc,
-        back_free.as_slice(),
-        back_guarded.as_slice(),
-        first.as_slice(),
-    )?;
+    let graph = graph(alloc, row)?;
+    let back = Guarded::read(alloc, count_of(row), row.text(4), row.text(5))?;
+    graph.nests(alloc, &back, first.as_slice())
+}
+
+/// The places that each of these guards encloses.
+fn enclosed_by(
+    alloc: Global,
+    nests: &Nests,
+    guards: &[u32],
+    count: u32,
+) -> Result<String, AllocError> {
     let mut text = String::new(alloc);
-    for guard in places(alloc, row.text(7))?.as_slice() {
-        enclosed(&mut text, &nests, *guard, count_of(row))?;
+    for guard in guards {
+        enclosed(&mut text, nests, *guard, count)?;
     }
     Ok(text)
+}
+
+/// The places that each guard of the last field asked for encloses.
+fn nests(alloc: Global, row: &Row) -> Result<String, AllocError> {
+    let guards = places(alloc, row.text(7))?;
+    let nests = nests_of(alloc, row)?;
+    enclosed_by(alloc, &nests, guards.as_slice(), count_of(row))
 }
 
 /// How many of all pairs of a guard and a place are told otherwise than in a chain of places, each of which guards the next.
@@ -118,13 +129,20 @@ fn chain_edges(alloc: Global, last: u32, backward: bool) -> Result<String, Alloc
     Ok(text)
 }
 
+/// The guards of a chain of so many places behind the first one.
+fn chain_nests(alloc: Global, last: u32) -> Result<Nests, AllocError> {
+    let count = last.saturating_add(1);
+    let edges = chain_edges(alloc, last, false)?;
+    let back_edges = chain_edges(alloc, last, true)?;
+    let graph = Guarded::read(alloc, count, "", edges.as_str())?;
+    let back = Guarded::read(alloc, count, "", back_edges.as_str())?;
+    graph.nests(alloc, &back, &[0])
+}
+
 fn chain(alloc: Global, row: &Row) -> Result<String, AllocError> {
     let last = count_of(row);
     let count = last.saturating_add(1);
-    let edges = chain_edges(alloc, last, false)?;
-    let back = table(alloc, chain_edges(alloc, last, true)?.as_str())?;
-    let graph = Guarded::read(alloc, count, "", edges.as_str())?;
-    let nests = graph.nests(alloc, &[], back.as_slice(), &[0])?;
+    let nests = chain_nests(alloc, last)?;
     let mut all: u32 = 0;
     for guard in 0..count {
         all = all.saturating_add(differing(&nests, guard, count));

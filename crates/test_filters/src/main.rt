@@ -38,24 +38,21 @@ fn play_rows(
     Ok(())
 }
 
-/// Plays the rows of the file of this name from the first on.
-fn play_all(
-    rt: &(impl Print + AllocGlobal),
-    name: &str,
-    rows: &[Row],
-    tally: &mut Tally,
-) -> io::Result<()> {
+/// Plays the rows of the file of this name from the first on; true where all agreed.
+fn play_all(rt: &(impl Print + AllocGlobal), name: &str, rows: &[Row]) -> io::Result<bool> {
+    let mut tally = Tally::new(rt.alloc(), name)?;
     let mut answers = Answers::new(rt.alloc());
-    play_rows(rt, name, rows, &mut answers, tally)
+    let played = play_rows(rt, name, rows, &mut answers, &mut tally);
+    drop(answers);
+    played?;
+    tally.end(rt)
 }
 
 /// Plays a file of rows; true where all agreed.
 fn play(rt: &(impl Files + Print + AllocGlobal), name: &str) -> io::Result<bool> {
     let file = format!(in rt.alloc(); "{name}.rows")?;
     let rows = read_file(rt, file.as_str())?;
-    let mut tally = Tally::new(rt.alloc(), name)?;
-    play_all(rt, name, rows.as_slice(), &mut tally)?;
-    tally.end(rt)
+    play_all(rt, name, rows.as_slice())
 }
 
 fn main(rt: HostRuntime) -> io::Result<ExitCode> {

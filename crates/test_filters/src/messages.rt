@@ -17,8 +17,9 @@ fn command(alloc: Global, text: &[u8]) -> Result<String, AllocError> {
     }
     match read_command(alloc, text) {
         Ok(command) => {
-            let least = write_command(alloc, &command)?;
-            String::from_str(alloc, text_of(least.as_slice()))
+            let least = write_command(alloc, &command);
+            drop(command);
+            String::from_str(alloc, text_of(least?.as_slice()))
         }
         Err(CommandError::Refused(refusal)) => {
             let status = refusal.status;

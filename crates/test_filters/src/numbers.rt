@@ -1,15 +1,8 @@
 // Rows of whole numbers: `number TEXT MOST` and `integer TEXT BELOW ABOVE`.
-use crate::answers::{none, number_of, unknown};
+use crate::answers::{none, number_of, number_or_none, unknown};
 use base_decimals::{read_integer, read_number};
 use std::alloc::{AllocError, Global};
 use test_rows::Row;
-
-fn number(alloc: Global, text: &[u8], most: u64) -> Result<String, AllocError> {
-    match read_number(text, most) {
-        Some(number) => format!(in alloc; "{number}"),
-        None => none(alloc),
-    }
-}
 
 fn integer(alloc: Global, text: &[u8], below: u64, above: u64) -> Result<String, AllocError> {
     if below > 9_223_372_036_854_775_808 || above > 9_223_372_036_854_775_807 {
@@ -24,7 +17,7 @@ fn integer(alloc: Global, text: &[u8], below: u64, above: u64) -> Result<String,
 /// What a row answers.
 pub(crate) fn answer(alloc: Global, row: &Row) -> Result<String, AllocError> {
     match row.text(0) {
-        "number" => number(alloc, row.bytes(1), number_of(row.text(2))),
+        "number" => number_or_none(alloc, read_number(row.bytes(1), number_of(row.text(2)))),
         "integer" => integer(
             alloc,
             row.bytes(1),

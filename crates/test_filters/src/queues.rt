@@ -1,5 +1,5 @@
 // Rows of a set of dues, each on what the rows before left: `new`, `put MOMENT NUMBER`, `take NUMBER`, `count` and `many COUNT`.
-use crate::answers::{number_of, place_of, unknown};
+use crate::answers::{none, number_of, number_or_none, place_of, unknown};
 use base_dues::{Dues, dues_are_one};
 use std::alloc::{AllocError, Global};
 use test_rows::Row;
@@ -16,21 +16,14 @@ pub(crate) struct Queue {
 fn number_text(alloc: Global, number: Option<u32>) -> Result<String, AllocError> {
     match number {
         Some(number) => format!(in alloc; "{number}"),
-        None => String::from_str(alloc, "none"),
-    }
-}
-
-fn moment_text(alloc: Global, moment: Option<u64>) -> Result<String, AllocError> {
-    match moment {
-        Some(moment) => format!(in alloc; "{moment}"),
-        None => String::from_str(alloc, "none"),
+        None => none(alloc),
     }
 }
 
 fn pair_text(alloc: Global, pair: Option<(u64, u32)>) -> Result<String, AllocError> {
     match pair {
         Some((moment, number)) => format!(in alloc; "{moment} {number}"),
-        None => String::from_str(alloc, "none"),
+        None => none(alloc),
     }
 }
 
@@ -54,15 +47,11 @@ impl Queue {
         pair_text(alloc, self.dues.first())
     }
 
-    fn get(&self, alloc: Global, number: u32) -> Result<String, AllocError> {
-        moment_text(alloc, self.dues.get(number))
-    }
-
     /// The least pair, the least number in time, and the moment of this number.
     fn after_put(&self, alloc: Global, number: u32) -> Result<String, AllocError> {
         let first = self.first(alloc)?;
         let by = number_text(alloc, self.dues.least_by(BY))?;
-        let moment = self.get(alloc, number)?;
+        let moment = number_or_none(alloc, self.dues.get(number))?;
         format!(in alloc; "first {first}, by 30 {by}, moment {moment}")
     }
 
@@ -70,7 +59,7 @@ impl Queue {
     fn after_take(&self, alloc: Global, number: u32) -> Result<String, AllocError> {
         let first = self.first(alloc)?;
         let count = self.dues.len();
-        let moment = self.get(alloc, number)?;
+        let moment = number_or_none(alloc, self.dues.get(number))?;
         format!(in alloc; "first {first}, count {count}, moment {moment}")
     }
 

@@ -1,5 +1,5 @@
 // Rows of bytes in hexadecimal: `record BYTES` and `act BYTES`.
-use crate::answers::{none, text_of, unknown, words};
+use crate::answers::{none, text_of, unknown};
 use run_records::{Act, BytesList, Record, read_act, read_record, write_act, write_record};
 use std::alloc::{AllocError, Global};
 use test_rows::Row;
@@ -7,7 +7,7 @@ use test_rows::Row;
 /// The bytes of a text in hexadecimal digits, two a byte, with spaces between; those up to a word that is none.
 fn bytes_of(alloc: Global, text: &str) -> Result<Vec<u8>, AllocError> {
     let mut bytes = Vec::new(alloc);
-    for word in words(alloc, text)?.as_slice() {
+    for word in text.split(' ') {
         match u8::from_str_radix(word, 16) {
             Ok(byte) => bytes.push(byte)?,
             Err(_) => return Ok(bytes),
@@ -25,6 +25,35 @@ fn books_text(alloc: Global, books: &BytesList) -> Result<String, AllocError> {
     Ok(text)
 }
 
+/// A word, numbers, and a text if there is one, with a space between each two.
+fn told(
+    alloc: Global,
+    word: &str,
+    numbers: &[u64],
+    text: Option<&str>,
+) -> Result<String, AllocError> {
+    let mut all = String::from_str(alloc, word)?;
+    for number in numbers {
+        write!(all, " {number}")?;
+    }
+    if let Some(text) = text {
+        write!(all, " {text}")?;
+    }
+    Ok(all)
+}
+
+fn begin_text(
+    alloc: Global,
+    run: u64,
+    moment: u64,
+    books: &BytesList,
+    bind: &str,
+) -> Result<String, AllocError> {
+    let count = books.len();
+    let books = books_text(alloc, books)?;
+    format!(in alloc; "Begin {run} {moment} \"{bind}\" {count}{books}")
+}
+
 fn record_text(alloc: Global, record: &Record) -> Result<String, AllocError> {
     match record {
         Record::Begin {
@@ -32,13 +61,8 @@ fn record_text(alloc: Global, record: &Record) -> Result<String, AllocError> {
             moment,
             books,
             bind,
-        } => {
-            let count = books.len();
-            let books = books_text(alloc, books)?;
-            let bind = text_of(bind.as_slice());
-            format!(in alloc; "Begin {run} {moment} \"{bind}\" {count}{books}")
-        }
-        Record::Walk { task, moment } => format!(in alloc; "Walk {task} {moment}"),
+        } => begin_text(alloc, *run, *moment, books, text_of(bind.as_slice())),
+        Record::Walk { task, moment } => told(alloc, "Walk", &[u64::from(*task), *moment], None),
         Record::Send {
             task,
             issue,
@@ -46,8 +70,13 @@ fn record_text(alloc: Global, record: &Record) -> Result<String, AllocError> {
             moment,
             bytes,
         } => {
-            let bytes = text_of(bytes.as_slice());
-            format!(in alloc; "Send {task} {issue} {agent} {moment} {bytes}")
+            let numbers = [
+                u64::from(*task),
+                u64::from(*issue),
+                u64::from(*agent),
+                *moment,
+            ];
+            told(alloc, "Send", &numbers, Some(text_of(bytes.as_slice())))
         }
         Record::Reply {
             issue,
@@ -56,19 +85,28 @@ fn record_text(alloc: Global, record: &Record) -> Result<String, AllocError> {
             rule,
             text,
         } => {
-            let text = text_of(text.as_slice());
-            format!(in alloc; "Reply {issue} {moment} {status} {rule} {text}")
+            let numbers = [
+                u64::from(*issue),
+                *moment,
+                u64::from(*status),
+                u64::from(*rule),
+            ];
+            told(alloc, "Reply", &numbers, Some(text_of(text.as_slice())))
         }
-        Record::Expire { issue, moment } => format!(in alloc; "Expire {issue} {moment}"),
-        Record::Upgrade { version, moment } => format!(in alloc; "Upgrade {version} {moment}"),
+        Record::Expire { issue, moment } => {
+            told(alloc, "Expire", &[u64::from(*issue), *moment], None)
+        }
+        Record::Upgrade { version, moment } => {
+            told(alloc, "Upgrade", &[u64::from(*version), *moment], None)
+        }
         Record::Ask {
             task,
             issue,
             moment,
             bytes,
         } => {
-            let bytes = text_of(bytes.as_slice());
-            format!(in alloc; "Ask {task} {issue} {moment} {bytes}")
+            let numbers = [u64::from(*task), u64::from(*issue), *moment];
+            told(alloc, "Ask", &numbers, Some(text_of(bytes.as_slice())))
         }
         Record::Told {
             issue,
@@ -76,8 +114,8 @@ fn record_text(alloc: Global, record: &Record) -> Result<String, AllocError> {
             status,
             text,
         } => {
-            let text = text_of(text.as_slice());
-            format!(in alloc; "Told {issue} {moment} {status} {text}")
+            let numbers = [u64::from(*issue), *moment, u64::from(*status)];
+            told(alloc, "Told", &numbers, Some(text_of(text.as_slice())))
         }
     }
 }
@@ -97,14 +135,14 @@ fn record(alloc: Global, bytes: &[u8]) -> Result<String, AllocError> {
         return none(alloc);
     };
     let written = write_record(alloc, &record)?;
-    if written.as_slice() != bytes {
-        return String::from_str(alloc, "written otherwise");
-    }
     let copy = record.clone()?;
-    if copy != record {
-        return String::from_str(alloc, "a copy differs");
+    if written.as_slice() != bytes {
+        String::from_str(alloc, "written otherwise")
+    } else if copy != record {
+        String::from_str(alloc, "a copy differs")
+    } else {
+        record_text(alloc, &record)
     }
-    record_text(alloc, &record)
 }
 
 /// The fields of an act, where it is written as it was read.
@@ -113,10 +151,11 @@ fn act(alloc: Global, bytes: &[u8]) -> Result<String, AllocError> {
         return none(alloc);
     };
     let written = write_act(alloc, &act)?;
-    if written.as_slice() != bytes {
-        return String::from_str(alloc, "written otherwise");
+    if written.as_slice() == bytes {
+        act_text(alloc, &act)
+    } else {
+        String::from_str(alloc, "written otherwise")
     }
-    act_text(alloc, &act)
 }
 
 /// What a row answers.

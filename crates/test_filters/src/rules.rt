@@ -40,10 +40,7 @@ fn is_added(alloc: Global, filter: &mut Filter, number: u32) -> Result<bool, All
     let text = format!(in alloc;
         r#"{{"action":"deny","target":{{"ipv4_net":"10.{high}.{low}.0/24"}}}}"#
     )?;
-    match filter.ask(alloc, text.as_str().as_bytes(), 0)? {
-        Some(said) => Ok(said.status == 200),
-        None => Ok(false),
-    }
+    filter.adds(alloc, text.as_bytes())
 }
 
 /// How many of 65,536 denies of nets `10.X.Y.0/24` are added.

@@ -1,32 +1,18 @@
 // Rows of shadowed rules: `shadows COMMANDS`, a command a line, and `within FLOW FLOW`.
-use crate::answers::{text_or_none, truth, unknown};
+use crate::answers::{none, truth, unknown};
 use crate::filters::Filter;
 use crate::flows::read_flow;
 use slpf_shadow::{Shadow, flow_within};
 use std::alloc::{AllocError, Global};
 use test_rows::Row;
 
-/// Adds the rule of a command; true where it is added.
-fn is_added(alloc: Global, filter: &mut Filter, text: &str) -> Result<bool, AllocError> {
-    match filter.ask(alloc, text.as_bytes(), 0)? {
-        Some(said) => Ok(said.status == 200),
-        None => Ok(false),
-    }
-}
-
-fn line(alloc: Global, shadow: Shadow) -> Result<String, AllocError> {
-    let rule = shadow.rule;
-    let by = shadow.by;
-    format!(in alloc; "{rule} by {by}")
-}
-
 fn lines(alloc: Global, shadows: &[Shadow]) -> Result<String, AllocError> {
     let mut text = String::new(alloc);
     for shadow in shadows {
-        if !text.is_empty() {
-            text.push_str(", ")?;
-        }
-        text.push_str(line(alloc, *shadow)?.as_str())?;
+        let before = if text.is_empty() { "" } else { ", " };
+        let rule = shadow.rule;
+        let by = shadow.by;
+        write!(text, "{before}{rule} by {by}")?;
     }
     Ok(text)
 }
@@ -34,13 +20,16 @@ fn lines(alloc: Global, shadows: &[Shadow]) -> Result<String, AllocError> {
 /// What is listed of the rules of a filter and of these commands.
 fn shadows_with(alloc: Global, filter: &mut Filter, commands: &str) -> Result<String, AllocError> {
     for command in commands.split('\n') {
-        if !is_added(alloc, filter, command)? {
+        if !filter.adds(alloc, command.as_bytes())? {
             return unknown(alloc);
         }
     }
     let list = filter.shadowed(alloc)?;
-    let lines = lines(alloc, list.as_slice())?;
-    text_or_none(alloc, lines.as_str())
+    if list.as_slice().is_empty() {
+        none(alloc)
+    } else {
+        lines(alloc, list.as_slice())
+    }
 }
 
 /// What is listed of the rules of these commands.

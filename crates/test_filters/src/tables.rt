@@ -2,7 +2,7 @@
 ghost use Rattle.std.specs.Prelude.{◌<◌, All, IsTrue};
 ghost use Rattle.base_graphs.specs.Tables.{IsWithin};
 
-use crate::answers::{place_of, words};
+use crate::answers::place_of;
 use base_graphs::Places;
 use std::alloc::{AllocError, Global};
 
@@ -24,7 +24,7 @@ fn add(alloc: Global, rows: &mut Vec<Places>, from: u32, to: &str) -> Result<(),
 /// The table of a text.
 pub(crate) fn table(alloc: Global, text: &str) -> Result<Vec<Places>, AllocError> {
     let mut rows = Vec::new(alloc);
-    for word in words(alloc, text)?.as_slice() {
+    for word in text.split(' ') {
         if let Some((from, to)) = word.split_once('>') {
             add(alloc, &mut rows, place_of(from), to)?;
         }
@@ -55,8 +55,10 @@ pub(crate) fn table_text(alloc: Global, rows: &[Places]) -> Result<String, Alloc
 /// The places of a text.
 pub(crate) fn places(alloc: Global, text: &str) -> Result<Vec<u32>, AllocError> {
     let mut places = Vec::new(alloc);
-    for word in words(alloc, text)?.as_slice() {
-        places.push(place_of(word))?;
+    for word in text.split(' ') {
+        if !word.is_empty() {
+            places.push(place_of(word))?;
+        }
     }
     Ok(places)
 }

@@ -1,7 +1,7 @@
 // Typed playbooks.
 use crate::samples::Samples;
 use crate::shapes::edited;
-use crate::words::{kind_word, unknown, word};
+use crate::words::{kind_word, none, unknown, word};
 use cacao_book::{Book, Step, StepKind, find_place, read_book};
 use cacao_json::Tree;
 use cacao_vars::Var;
@@ -15,16 +15,11 @@ fn count(alloc: Global, count: usize) -> Result<String, AllocError> {
 
 /// A declaration: its name, its kind, and whether it is constant and external.
 fn declared(alloc: Global, var: &Var) -> Result<String, AllocError> {
-    let mut said = word(alloc, var.name.text())?;
-    said.push(' ')?;
-    said.push_str(kind_word(&var.kind))?;
-    if var.constant {
-        said.push_str(" constant")?;
-    }
-    if var.external {
-        said.push_str(" external")?;
-    }
-    Ok(said)
+    let name = var.name.text();
+    let kind = kind_word(&var.kind);
+    let constant = if var.constant { " constant" } else { "" };
+    let external = if var.external { " external" } else { "" };
+    format!(in alloc; "{name} {kind}{constant}{external}")
 }
 
 /// What the book says of itself.
@@ -35,13 +30,13 @@ fn of_book(alloc: Global, book: &Book, what: &str) -> Result<String, AllocError>
         "start" => word(alloc, book.start.text()),
         "exception" => match &book.exception {
             Some(key) => word(alloc, key.text()),
-            None => word(alloc, "none"),
+            None => none(alloc),
         },
         "agents" => count(alloc, book.agents.as_slice().len()),
         "variables" => count(alloc, book.variables.as_slice().len()),
         "first variable" => match book.variables.as_slice().first() {
             Some(var) => declared(alloc, var),
-            None => word(alloc, "none"),
+            None => none(alloc),
         },
         "steps" => count(alloc, book.steps.as_slice().len()),
         _ => unknown(alloc),
@@ -52,7 +47,7 @@ fn of_book(alloc: Global, book: &Book, what: &str) -> Result<String, AllocError>
 fn place(alloc: Global, book: &Book, key: &str) -> Result<String, AllocError> {
     match find_place(book.steps.as_slice(), key) {
         Some(place) => count(alloc, place),
-        None => word(alloc, "none"),
+        None => none(alloc),
     }
 }
 
@@ -108,17 +103,9 @@ fn of_second(alloc: Global, steps: &[Step], what: &str) -> Result<String, AllocE
     }
 }
 
-/// The playbook of a tree; none where it is refused.
-fn read(alloc: Global, tree: &Tree) -> Option<Book> {
-    match read_book(alloc, tree) {
-        Ok(book) => Some(book),
-        Err(_) => None,
-    }
-}
-
 /// What is asked of a tree's playbook.
 fn asked(alloc: Global, tree: &Tree, row: &Row) -> Result<String, AllocError> {
-    let Some(book) = read(alloc, tree) else {
+    let Some(book) = read_book(alloc, tree).ok() else {
         return word(alloc, "refused");
     };
     match row.text(0) {
@@ -152,7 +139,11 @@ fn new_of(row: &Row) -> &str {
 /// What a row is answered.
 pub(crate) fn answer(alloc: Global, samples: &Samples, row: &Row) -> Result<String, AllocError> {
     match edited(alloc, samples, old_of(row), new_of(row))? {
-        Some(tree) => asked(alloc, &tree, row),
+        Some(tree) => {
+            let said = asked(alloc, &tree, row);
+            drop(tree);
+            said
+        }
         None => word(alloc, "no tree"),
     }
 }

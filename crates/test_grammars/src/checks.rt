@@ -11,22 +11,32 @@ use cacao_vars::Kind;
 use std::alloc::{AllocError, Global};
 use test_rows::Row;
 
+/// Puts a text in the place of one in the last of these texts, which is that of a playbook or, behind `also`, the one that stands there.
+fn add_text(
+    alloc: Global,
+    texts: &mut Vec<String>,
+    samples: &Samples,
+    row: &Row,
+    at: usize,
+) -> Result<(), AllocError> {
+    let old = row.text(at.saturating_add(1));
+    let new = row.text(at.saturating_add(2));
+    if row.text(at) != "also" {
+        texts.push(samples.short(row.text(at)).replace(alloc, old, new)?)?;
+    } else if let Some(text) = texts.last_mut() {
+        let changed = text.as_str().replace(alloc, old, new)?;
+        *text = changed;
+    }
+    Ok(())
+}
+
 /// The texts of the playbooks of a row, in groups of three fields from 2 on: the name of a playbook, or `also` for the one before, a text in
 /// it, and what stands in its place.
 fn texts(alloc: Global, samples: &Samples, row: &Row) -> Result<Vec<String>, AllocError> {
     let mut texts: Vec<String> = Vec::new(alloc);
     for n in 0..row.count().saturating_sub(3) / 3 {
         let at = n.saturating_mul(3).saturating_add(2);
-        let old = row.text(at.saturating_add(1));
-        let new = row.text(at.saturating_add(2));
-        let base = if row.text(at) == "also" {
-            texts.pop()
-        } else {
-            Some(word(alloc, samples.short(row.text(at)))?)
-        };
-        if let Some(base) = base {
-            texts.push(base.as_str().replace(alloc, old, new)?)?;
-        }
+        add_text(alloc, &mut texts, samples, row, at)?;
     }
     Ok(texts)
 }
@@ -34,13 +44,13 @@ fn texts(alloc: Global, samples: &Samples, row: &Row) -> Result<Vec<String>, All
 /// The playbook of a text whose identifiers are short: `end--13` stands for `end--00000000-0000-4000-8000-000000000013`.
 pub(crate) fn book(alloc: Global, text: &str) -> Result<Option<Book>, AllocError> {
     let text = text.replace(alloc, "--", "--00000000-0000-4000-8000-0000000000")?;
-    let Some(tree) = find_tree(alloc, text.as_str().as_bytes())? else {
-        return Ok(None);
+    let tree = find_tree(alloc, text.as_str().as_bytes())?;
+    let book = match &tree {
+        Some(tree) => read_book(alloc, tree).ok(),
+        None => None,
     };
-    match read_book(alloc, &tree) {
-        Ok(book) => Ok(Some(book)),
-        Err(_) => Ok(None),
-    }
+    drop(tree);
+    Ok(book)
 }
 
 /// The playbooks of texts; none where one is no playbook.
@@ -56,17 +66,18 @@ fn books(alloc: Global, texts: &[String]) -> Result<Option<Books>, AllocError> {
 }
 
 /// The key of a step; empty for the book itself.
-fn key_or_empty(alloc: Global, step: Option<Text>) -> String {
+fn key_or_empty(step: &Option<Text>) -> &str {
     match step {
-        Some(key) => key.into_string(),
-        None => String::new(alloc),
+        Some(key) => key.text(),
+        None => "",
     }
 }
 
 /// What a row asks of a break.
-fn told(alloc: Global, what: &str, found: Break) -> Result<String, AllocError> {
-    let Break { book, step, rule } = found;
-    let key = key_or_empty(alloc, step);
+fn told(alloc: Global, what: &str, found: &Break) -> Result<String, AllocError> {
+    let book = found.book;
+    let rule = found.rule;
+    let key = key_or_empty(&found.step);
     match what {
         "rule" => format!(in alloc; "{rule}"),
         "rule and book" => format!(in alloc; "{rule} of book {book}"),
@@ -84,7 +95,11 @@ fn first_break(alloc: Global, what: &str, books: Books, mode: Mode) -> Result<St
     match check(alloc, books, mode) {
         Ok(_) => word(alloc, "sound"),
         Err(CheckError::Memory) => word(alloc, "out of memory"),
-        Err(CheckError::Broken(found)) => told(alloc, what, found),
+        Err(CheckError::Broken(found)) => {
+            let said = told(alloc, what, &found);
+            drop(found);
+            said
+        }
     }
 }
 
@@ -99,7 +114,9 @@ pub(crate) fn mode(word: &str) -> Mode {
 /// The first break of a row's books.
 fn checked(alloc: Global, samples: &Samples, row: &Row) -> Result<String, AllocError> {
     let texts = texts(alloc, samples, row)?;
-    let Some(books) = books(alloc, texts.as_slice())? else {
+    let found = books(alloc, texts.as_slice());
+    drop(texts);
+    let Some(books) = found? else {
         return word(alloc, "no playbook");
     };
     let count = books.as_slice().len();

@@ -1,7 +1,7 @@
 // Conditions.
 use crate::spelled::spelled;
 use crate::vars::listed;
-use crate::words::{accepted, text_of, unknown, word, yes};
+use crate::words::{accepted, none, text_of, unknown, word, yes};
 use cacao_cond::{Atom, Cond, CondError, Worths, names, print_cond, read_cond, truth, value_of};
 use cacao_vars::{Kind, Name};
 use std::alloc::{AllocError, Global};
@@ -20,29 +20,13 @@ fn read(alloc: Global, text: &str) -> Result<Option<Cond>, AllocError> {
 }
 
 /// A condition as it is printed.
-fn printed_of(alloc: Global, cond: &Cond) -> Result<String, AllocError> {
+fn printed(alloc: Global, cond: &Cond) -> Result<String, AllocError> {
     text_of(alloc, print_cond(alloc, cond)?.as_slice())
 }
 
-/// The text of a condition as it is printed.
-fn printed(alloc: Global, text: &str) -> Result<String, AllocError> {
-    match read(alloc, text)? {
-        Some(cond) => printed_of(alloc, &cond),
-        None => word(alloc, "none"),
-    }
-}
-
 /// The names of a condition.
-fn names_of(alloc: Global, cond: &Cond) -> Result<String, AllocError> {
+fn named(alloc: Global, cond: &Cond) -> Result<String, AllocError> {
     listed(alloc, &names(alloc, cond)?)
-}
-
-/// The names of the condition of a text.
-fn named(alloc: Global, text: &str) -> Result<String, AllocError> {
-    match read(alloc, text)? {
-        Some(cond) => names_of(alloc, &cond),
-        None => word(alloc, "none"),
-    }
 }
 
 /// The values of two names; all others are unset.
@@ -85,15 +69,35 @@ fn atom<'a>(kind: &str, text: &'a str) -> Atom<'a> {
 }
 
 /// Whether a condition holds where `__a__` has this value and `__b__` is 8.
-fn holds(alloc: Global, a: Atom<'_>, text: &str) -> Result<String, AllocError> {
+fn holds(alloc: Global, cond: &Cond, a: Atom<'_>) -> Result<String, AllocError> {
     let two = Two {
         a,
         b: Atom::Whole(8),
     };
-    match read(alloc, text)? {
-        Some(cond) => yes(alloc, truth(&cond, &two)),
-        None => word(alloc, "none"),
+    yes(alloc, truth(cond, &two))
+}
+
+/// What is asked of a condition.
+fn told(alloc: Global, cond: &Cond, row: &Row) -> Result<String, AllocError> {
+    match row.text(0) {
+        "condition" => accepted(alloc, true),
+        "printed" => printed(alloc, cond),
+        "names" => named(alloc, cond),
+        "holds" => holds(alloc, cond, atom(row.text(2), row.text(3))),
+        _ => unknown(alloc),
     }
+}
+
+/// What is asked of the condition of a text.
+fn asked(alloc: Global, text: &str, row: &Row) -> Result<String, AllocError> {
+    let found = read(alloc, text)?;
+    let said = match &found {
+        Some(cond) => told(alloc, cond, row),
+        None => none(alloc),
+    };
+    // (dropped by name, which is one call: at the end of the function the drop of each part would stand, and be proved again)
+    drop(found);
+    said
 }
 
 /// A value.
@@ -117,12 +121,8 @@ pub(crate) fn answer(alloc: Global, row: &Row) -> Result<String, AllocError> {
     let text = spelled(alloc, row.text(1))?;
     let text = text.as_str();
     match row.text(0) {
-        "condition" => accepted(alloc, read(alloc, text)?.is_some()),
-        "printed" => printed(alloc, text),
-        "names" => named(alloc, text),
-        "holds" => holds(alloc, atom(row.text(2), row.text(3)), text),
         "value" => value(alloc, text, Some(row.text(2))),
         "no value" => value(alloc, text, None),
-        _ => unknown(alloc),
+        _ => asked(alloc, text, row),
     }
 }

@@ -1,7 +1,7 @@
 // The members of an object.
-use crate::trees::number;
-use crate::words::{add_word, word};
-use cacao_json::{Pairs, Text, Tree, whole_of};
+use crate::trees::{number, whole};
+use crate::words::{add_number, add_word, none};
+use cacao_json::{Pairs, Text, Tree};
 use std::alloc::{AllocError, Global};
 use test_rows::Row;
 
@@ -17,13 +17,13 @@ fn names(alloc: Global, pairs: &Pairs) -> Result<String, AllocError> {
 
 /// Takes a member out, and says what it was.
 fn removed(alloc: Global, pairs: &mut Pairs, name: &str) -> Result<String, AllocError> {
-    let Some(tree) = pairs.remove(name) else {
-        return word(alloc, "none");
+    let found = pairs.remove(name);
+    let said = match &found {
+        Some(tree) => whole(alloc, Some(tree)),
+        None => none(alloc),
     };
-    match whole_of(&tree) {
-        Some(number) => format!(in alloc; "{number}"),
-        None => word(alloc, "no number"),
-    }
+    drop(found);
+    said
 }
 
 /// Puts a member, takes one out, or says all names. The fields are what is done, the name and the number.
@@ -37,8 +37,8 @@ fn step(
     let name = row.text(at.saturating_add(1));
     match row.text(at) {
         "put" => {
-            let tree = Tree::Whole(number(row.text(at.saturating_add(2))));
-            pairs.put(Text::from_str(alloc, name)?, tree)
+            let name = Text::from_str(alloc, name)?;
+            pairs.put(name, Tree::Whole(number(row.text(at.saturating_add(2)))))
         }
         "remove" => add_word(said, removed(alloc, pairs, name)?.as_str()),
         "names" => add_word(said, names(alloc, pairs)?.as_str()),
@@ -54,7 +54,6 @@ pub(crate) fn play(alloc: Global, row: &Row) -> Result<String, AllocError> {
         let at = n.saturating_mul(3).saturating_add(1);
         step(alloc, &mut pairs, row, at, &mut said)?;
     }
-    let count = pairs.into_vec().len();
-    add_word(&mut said, format!(in alloc; "{count}")?.as_str())?;
+    add_number(alloc, &mut said, pairs.into_vec().len())?;
     Ok(said)
 }

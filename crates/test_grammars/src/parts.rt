@@ -3,7 +3,7 @@ ghost use Rattle.std.specs.Prelude.{◌≤◌, length};
 
 use crate::checks::{book, mode};
 use crate::samples::Samples;
-use crate::words::{add_word, kind_word, number_or_none, some, unknown, word, yes};
+use crate::words::{add_number, add_word, kind_word, number_or_none, some, unknown, word, yes};
 use cacao_book::find_place;
 use cacao_check::{Books, Checked, Mode, Parts, Sight, check};
 use cacao_vars::Name;
@@ -17,10 +17,7 @@ fn checked(alloc: Global, text: &str, mode: Mode) -> Result<Option<Checked>, All
     };
     let mut books = Books::new(alloc);
     books.push(book)?;
-    match check(alloc, books, mode) {
-        Ok(checked) => Ok(Some(checked)),
-        Err(_) => Ok(None),
-    }
+    Ok(check(alloc, books, mode).ok())
 }
 
 /// The step of a word; none for the main region.
@@ -47,16 +44,10 @@ fn sight_word(sight: &Sight) -> &'static str {
     }
 }
 
-/// The kinds of the declarations that a step may see, and `missing` where there may be none, in the order of their letters.
-fn seen(alloc: Global, checked: &Checked, row: &Row) -> Result<String, AllocError>
-    requires { 1 ≤ length checked.now.books }
-{
-    let Some(name) = Name::read(alloc, row.text(4))? else {
-        return word(alloc, "no name");
-    };
-    let seen = checked.seen(alloc, 0, row.text(3), &name)?;
+/// The words for what is seen, in the order of their letters.
+fn sight_words(alloc: Global, sights: &[Sight]) -> Result<String, AllocError> {
     let mut words = Vec::new(alloc);
-    for sight in seen.as_slice() {
+    for sight in sights {
         words.push(sight_word(sight))?;
     }
     words.sort()?;
@@ -65,6 +56,24 @@ fn seen(alloc: Global, checked: &Checked, row: &Row) -> Result<String, AllocErro
         add_word(&mut all, word)?;
     }
     Ok(all)
+}
+
+/// What the step with a key may see of a name.
+fn seen_of(alloc: Global, checked: &Checked, key: &str, name: &Name) -> Result<String, AllocError>
+    requires { 1 ≤ length checked.now.books }
+{
+    let seen = checked.seen(alloc, 0, key, name)?;
+    sight_words(alloc, seen.as_slice())
+}
+
+/// The kinds of the declarations that a step may see, and `missing` where there may be none, in the order of their letters.
+fn seen(alloc: Global, checked: &Checked, row: &Row) -> Result<String, AllocError>
+    requires { 1 ≤ length checked.now.books }
+{
+    let Some(name) = Name::read(alloc, row.text(4))? else {
+        return word(alloc, "no name");
+    };
+    seen_of(alloc, checked, row.text(3), &name)
 }
 
 /// What was read of a step.
@@ -79,7 +88,7 @@ fn parts_of<'a>(checked: &'a Checked, key: &str) -> Option<&'a Parts>
 fn heads(alloc: Global, places: &[u32]) -> Result<String, AllocError> {
     let mut said = String::new(alloc);
     for place in places {
-        add_word(&mut said, format!(in alloc; "{place}")?.as_str())?;
+        add_number(alloc, &mut said, *place as usize)?;
     }
     Ok(said)
 }

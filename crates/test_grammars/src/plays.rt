@@ -34,20 +34,6 @@ impl Subject {
         }
     }
 
-    /// The file of its rows.
-    fn file(self) -> &'static str {
-        match self {
-            Subject::Trees => "cacao_json.rows",
-            Subject::Canon => "cacao_text.rows",
-            Subject::Ids => "cacao_ids.rows",
-            Subject::Vars => "cacao_vars.rows",
-            Subject::Conds => "cacao_cond.rows",
-            Subject::Shapes => "cacao_book_shape.rows",
-            Subject::Books => "cacao_book.rows",
-            Subject::Checks => "cacao_check.rows",
-        }
-    }
-
     /// What the crate answers.
     fn answer(self, alloc: Global, samples: &Samples, row: &Row) -> Result<String, AllocError> {
         match self {
@@ -63,19 +49,42 @@ impl Subject {
     }
 }
 
-/// Plays a file of rows; true where all agree.
+/// Plays a row.
+fn play_row(
+    rt: &(impl Print + AllocGlobal),
+    samples: &Samples,
+    subject: Subject,
+    tally: &mut Tally,
+    row: &Row,
+) -> io::Result<()> {
+    let came = subject.answer(rt.alloc(), samples, row)?;
+    tally.compare(rt, row, came.as_str().as_bytes())
+}
+
+/// Plays rows; true where all agree.
+fn play_rows(
+    rt: &(impl Print + AllocGlobal),
+    samples: &Samples,
+    subject: Subject,
+    rows: &[Row],
+) -> io::Result<bool> {
+    let mut tally = Tally::new(rt.alloc(), subject.name())?;
+    for row in rows {
+        play_row(rt, samples, subject, &mut tally, row)?;
+    }
+    tally.end(rt)
+}
+
+/// Plays the file of rows of a crate; true where all agree.
 fn play(
     rt: &(impl Files + Print + AllocGlobal),
     samples: &Samples,
     subject: Subject,
 ) -> io::Result<bool> {
-    let rows = read_file(rt, subject.file())?;
-    let mut tally = Tally::new(rt.alloc(), subject.name())?;
-    for row in &rows {
-        let came = subject.answer(rt.alloc(), samples, row)?;
-        tally.compare(rt, row, came.as_str().as_bytes())?;
-    }
-    tally.end(rt)
+    let name = subject.name();
+    let file = format!(in rt.alloc(); "{name}.rows")?;
+    let rows = read_file(rt, file.as_str())?;
+    play_rows(rt, samples, subject, rows.as_slice())
 }
 
 /// Plays all files of rows; true where all agree.

@@ -6,6 +6,14 @@ use cacao_vars::{Kind, Name, ScopeError, Scopes, Var, Vars, Word};
 use std::alloc::{AllocError, Global};
 use test_rows::Row;
 
+/// The value of a declaration, if it has one.
+fn word_of(alloc: Global, worth: Option<&str>) -> Result<Option<Word>, AllocError> {
+    match worth {
+        Some(worth) => Ok(Some(Word::new(alloc, worth)?)),
+        None => Ok(None),
+    }
+}
+
 /// The declaration of a text: perhaps `constant` and a space, a name, and perhaps `=` and its value.
 fn declaration(alloc: Global, text: &str) -> Result<Option<Var>, AllocError> {
     let (constant, text) = match text.strip_prefix("constant ") {
@@ -13,7 +21,7 @@ fn declaration(alloc: Global, text: &str) -> Result<Option<Var>, AllocError> {
         None => (false, text),
     };
     let (name, worth) = match text.split_once('=') {
-        Some((name, worth)) => (name, Some(Word::new(alloc, worth)?)),
+        Some((name, worth)) => (name, Some(worth)),
         None => (text, None),
     };
     let Some(name) = Name::read(alloc, name)? else {
@@ -21,8 +29,8 @@ fn declaration(alloc: Global, text: &str) -> Result<Option<Var>, AllocError> {
     };
     Ok(Some(Var {
         name,
-        kind: Kind::read(alloc, "string")?,
-        worth,
+        kind: Kind::String,
+        worth: word_of(alloc, worth)?,
         constant,
         external: false,
     }))
@@ -39,12 +47,22 @@ fn insert(vars: &mut Vars, var: Option<Var>) -> Result<&'static str, AllocError>
     Ok("kept")
 }
 
+/// Adds the declaration of a text, and says what came of it.
+fn declare(
+    alloc: Global,
+    vars: &mut Vars,
+    text: &str,
+    said: &mut String,
+) -> Result<(), AllocError> {
+    let var = declaration(alloc, text)?;
+    add_word(said, insert(vars, var)?)
+}
+
 /// The declarations of a text, with `;` between each two, and what came of each.
 pub(crate) fn vars_of(alloc: Global, text: &str, said: &mut String) -> Result<Vars, AllocError> {
     let mut vars = Vars::new(alloc);
     for part in text.split(';') {
-        let var = declaration(alloc, part)?;
-        add_word(said, insert(&mut vars, var)?)?;
+        declare(alloc, &mut vars, part, said)?;
     }
     Ok(vars)
 }

@@ -40,7 +40,11 @@ fn first_broken(alloc: Global, tree: &Tree) -> Result<String, AllocError> {
 /// What a row is answered.
 pub(crate) fn answer(alloc: Global, samples: &Samples, row: &Row) -> Result<String, AllocError> {
     match edited(alloc, samples, row.text(0), row.text(1))? {
-        Some(tree) => first_broken(alloc, &tree),
+        Some(tree) => {
+            let said = first_broken(alloc, &tree);
+            drop(tree);
+            said
+        }
         None => word(alloc, "no tree"),
     }
 }

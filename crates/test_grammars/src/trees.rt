@@ -1,7 +1,7 @@
 // JSON texts as trees.
 use crate::members;
 use crate::spelled::spelled;
-use crate::words::{add_word, some, unknown, word};
+use crate::words::{add_word, none, some, unknown, word};
 use cacao_json::{
     Items, JsonError, TEXT_LIMIT, Text, Tree, copy_tree, find_tree, member, read_tree, text_of,
     whole_of,
@@ -33,7 +33,10 @@ fn error(alloc: Global, error: JsonError) -> Result<String, AllocError> {
 /// Whether a text has a tree, or why it has none.
 fn reading(alloc: Global, text: &str) -> Result<String, AllocError> {
     match read(alloc, text) {
-        Ok(_) => word(alloc, "read"),
+        Ok(tree) => {
+            drop(tree);
+            word(alloc, "read")
+        }
         Err(why) => error(alloc, why),
     }
 }
@@ -59,13 +62,13 @@ fn led_to<'a>(tree: &'a Tree, row: &Row) -> Option<&'a Tree> {
 }
 
 /// The whole number that a part is.
-fn whole(alloc: Global, part: Option<&Tree>) -> Result<String, AllocError> {
+pub(crate) fn whole(alloc: Global, part: Option<&Tree>) -> Result<String, AllocError> {
     let Some(part) = part else {
         return word(alloc, "no part");
     };
     match whole_of(part) {
         Some(number) => format!(in alloc; "{number}"),
-        None => word(alloc, "none"),
+        None => none(alloc),
     }
 }
 
@@ -76,7 +79,7 @@ fn named(alloc: Global, part: Option<&Tree>) -> Result<String, AllocError> {
     };
     match text_of(part) {
         Some(text) => word(alloc, text.text()),
-        None => word(alloc, "none"),
+        None => none(alloc),
     }
 }
 
@@ -90,6 +93,13 @@ fn told(alloc: Global, what: &str, tree: &Tree, row: &Row) -> Result<String, All
     }
 }
 
+/// What is asked of a copy.
+fn told_of_copy(alloc: Global, what: &str, copy: Tree, row: &Row) -> Result<String, AllocError> {
+    let said = told(alloc, what, &copy, row);
+    drop(copy);
+    said
+}
+
 /// What is asked of the tree of a text, or of its copy.
 fn asked(alloc: Global, text: &str, row: &Row) -> Result<String, AllocError> {
     let Ok(tree) = read(alloc, text) else {
@@ -97,25 +107,28 @@ fn asked(alloc: Global, text: &str, row: &Row) -> Result<String, AllocError> {
     };
     match row.text(0).strip_prefix("copied ") {
         Some(what) => {
-            let copy = copy_tree(alloc, &tree)?;
+            let copy = copy_tree(alloc, &tree);
             drop(tree);
-            told(alloc, what, &copy, row)
+            told_of_copy(alloc, what, copy?, row)
         }
-        None => told(alloc, row.text(0), &tree, row),
+        None => {
+            let said = told(alloc, row.text(0), &tree, row);
+            drop(tree);
+            said
+        }
     }
 }
 
 /// Whether a tree is found in a text, and whether it is a list.
 fn found(alloc: Global, text: &str) -> Result<String, AllocError> {
     let found = find_tree(alloc, text.as_bytes())?;
-    word(
-        alloc,
-        match &found {
-            Some(Tree::List(_)) => "list",
-            Some(_) => "no list",
-            None => "none",
-        },
-    )
+    let what = match &found {
+        Some(Tree::List(_)) => "list",
+        Some(_) => "no list",
+        None => "none",
+    };
+    drop(found);
+    word(alloc, what)
 }
 
 /// The number of a field; 0 where it is none.
@@ -139,17 +152,29 @@ fn items_of(alloc: Global, row: &Row) -> Result<Items, AllocError> {
     Ok(items)
 }
 
-/// The whole numbers of items.
-fn items(alloc: Global, row: &Row) -> Result<String, AllocError> {
-    let items = items_of(alloc, row)?;
+/// Adds a whole number to a list.
+fn add_whole(alloc: Global, said: &mut String, tree: &Tree) -> Result<(), AllocError> {
+    let text = whole(alloc, Some(tree))?;
+    add_word(said, text.as_str())
+}
+
+/// The whole numbers of these.
+fn wholes(alloc: Global, trees: &[Tree]) -> Result<String, AllocError> {
     let mut said = String::new(alloc);
-    if items.as_slice().is_empty() {
-        add_word(&mut said, "empty")?;
-    }
-    for tree in &items.into_vec() {
-        add_word(&mut said, whole(alloc, Some(tree))?.as_str())?;
+    for tree in trees {
+        add_whole(alloc, &mut said, tree)?;
     }
     Ok(said)
+}
+
+/// The whole numbers of items.
+fn items(alloc: Global, row: &Row) -> Result<String, AllocError> {
+    let items = items_of(alloc, row)?.into_vec();
+    if items.is_empty() {
+        word(alloc, "empty")
+    } else {
+        wholes(alloc, items.as_slice())
+    }
 }
 
 /// The order of two texts.

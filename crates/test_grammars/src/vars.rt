@@ -1,7 +1,7 @@
 // Names, references, declarations and kinds.
 use crate::scopes::{play, vars_of};
 use crate::spelled::spelled;
-use crate::words::{accepted, add_word, kind_word, unknown, word};
+use crate::words::{accepted, add_word, kind_word, none, unknown, word};
 use cacao_vars::{Kind, Name, Names, Vars, find_reference, leading_reference, whole_reference};
 use std::alloc::{AllocError, Global};
 use test_rows::Row;
@@ -18,7 +18,7 @@ fn name(alloc: Global, text: &str) -> Result<String, AllocError> {
 /// The first reference of a text: what stands before it, its name, and what stands behind it.
 fn first(alloc: Global, text: &str) -> Result<String, AllocError> {
     let Some(found) = find_reference(text) else {
-        return word(alloc, "none");
+        return none(alloc);
     };
     let before = found.before;
     let name = found.name;
@@ -30,7 +30,7 @@ fn first(alloc: Global, text: &str) -> Result<String, AllocError> {
 fn leading(alloc: Global, text: &str) -> Result<String, AllocError> {
     match leading_reference(text.as_bytes()) {
         Some(length) => format!(in alloc; "{length}"),
-        None => word(alloc, "none"),
+        None => none(alloc),
     }
 }
 
@@ -38,7 +38,19 @@ fn leading(alloc: Global, text: &str) -> Result<String, AllocError> {
 fn whole(alloc: Global, text: &str) -> Result<String, AllocError> {
     match whole_reference(text) {
         Some(name) => word(alloc, name),
-        None => word(alloc, "none"),
+        None => none(alloc),
+    }
+}
+
+/// The word for a kind, and the type's name where it is none of the ten.
+fn kind_text(alloc: Global, kind: &Kind) -> Result<String, AllocError> {
+    let word = kind_word(kind);
+    match kind {
+        Kind::Other(name) => {
+            let name = name.text();
+            format!(in alloc; "{word} {name}")
+        }
+        _ => String::from_str(alloc, word),
     }
 }
 
@@ -46,15 +58,11 @@ fn whole(alloc: Global, text: &str) -> Result<String, AllocError> {
 fn kind(alloc: Global, text: &str) -> Result<String, AllocError> {
     let kind = Kind::read(alloc, text)?;
     let again = Kind::read(alloc, text)?;
-    if kind != again {
-        return word(alloc, "another kind the second time");
+    if kind == again {
+        kind_text(alloc, &kind)
+    } else {
+        word(alloc, "another kind the second time")
     }
-    let mut said = word(alloc, kind_word(&kind))?;
-    if let Kind::Other(name) = &kind {
-        said.push(' ')?;
-        said.push_str(name.text())?;
-    }
-    Ok(said)
 }
 
 /// A list of names as it was pushed.

@@ -16,6 +16,11 @@ pub(crate) fn text_of(alloc: Global, bytes: &[u8]) -> Result<String, AllocError>
     }
 }
 
+/// That there is none.
+pub(crate) fn none(alloc: Global) -> Result<String, AllocError> {
+    word(alloc, "none")
+}
+
 /// What a row is told whose first field is not known.
 pub(crate) fn unknown(alloc: Global) -> Result<String, AllocError> {
     word(alloc, "(no such row)")
@@ -24,6 +29,15 @@ pub(crate) fn unknown(alloc: Global) -> Result<String, AllocError> {
 /// Whether a text is of a grammar.
 pub(crate) fn accepted(alloc: Global, is: bool) -> Result<String, AllocError> {
     word(alloc, if is { "accepted" } else { "none" })
+}
+
+/// Whether something was read of a text.
+pub(crate) fn is_read<T: Drop>(
+    alloc: Global,
+    found: Result<Option<T>, AllocError>,
+) -> Result<String, AllocError> {
+    let is = found?.is_some();
+    accepted(alloc, is)
 }
 
 /// Yes or no.
@@ -40,7 +54,7 @@ pub(crate) fn some(alloc: Global, is: bool) -> Result<String, AllocError> {
 pub(crate) fn number_or_none(alloc: Global, number: Option<u32>) -> Result<String, AllocError> {
     match number {
         Some(number) => format!(in alloc; "{number}"),
-        None => word(alloc, "none"),
+        None => none(alloc),
     }
 }
 
@@ -50,6 +64,16 @@ pub(crate) fn add_word(list: &mut String, word: &str) -> Result<(), AllocError> 
         list.push(',')?;
     }
     list.push_str(word)
+}
+
+/// Adds a number to a list, behind a comma.
+pub(crate) fn add_number(
+    alloc: Global,
+    list: &mut String,
+    number: usize,
+) -> Result<(), AllocError> {
+    let text = format!(in alloc; "{number}")?;
+    add_word(list, text.as_str())
 }
 
 /// The name of a kind of variables.

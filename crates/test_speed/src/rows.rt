@@ -1,28 +1,60 @@
 // The files of rows.
 use crate::lines::text_of;
-use crate::runs::answers;
+use crate::played::Played;
+use crate::runs::answer;
 use crate::texts::Texts;
 use std::io;
 use std::process::ExitCode;
 use std::rt::Files;
 use test_rows::{Row, Tally, read_file};
 
-/// Compares what came of a row with its last field, whose names are spelled out.
+/// Compares what comes of a row, by the run that the rows before it played, with its last field, whose names are spelled out.
 fn compare(
     rt: &(impl Print + AllocGlobal),
     texts: &Texts,
+    played: &mut Option<Played>,
     tally: &mut Tally,
     row: &Row,
-    came: &str,
 ) -> io::Result<()> {
+    let came = answer(rt.alloc(), texts, played, row)?;
     let wanted = texts.whole(text_of(row.wanted()))?;
-    if wanted.as_str() == came {
-        return tally.compare(rt, row, row.wanted());
+    if wanted == came {
+        tally.compare(rt, row, row.wanted())
+    } else {
+        tally.compare(rt, row, came.as_bytes())
     }
-    tally.compare(rt, row, came.as_bytes())
 }
 
-/// Compares the file of this name. Whether all of its rows agreed.
+/// Compares rows, the first of which follow this run.
+fn compare_on(
+    rt: &(impl Print + AllocGlobal),
+    texts: &Texts,
+    played: &mut Option<Played>,
+    tally: &mut Tally,
+    rows: &[Row],
+) -> io::Result<()> {
+    for row in rows {
+        compare(rt, texts, played, tally, row)?;
+    }
+    Ok(())
+}
+
+/// Compares rows. Whether all of them agreed.
+fn compare_rows(
+    rt: &(impl Print + AllocGlobal),
+    texts: &Texts,
+    name: &str,
+    rows: &[Row],
+) -> io::Result<bool> {
+    let mut tally = Tally::new(rt.alloc(), name)?;
+    let mut played = None;
+    let told = compare_on(rt, texts, &mut played, &mut tally, rows);
+    drop(played);
+    told?;
+    tally.end(rt)
+}
+
+/// Compares the rows of the file of this name. Whether all of them agreed.
 fn compare_file<R: Files + Print + AllocGlobal>(
     rt: &R,
     texts: &Texts,
@@ -30,22 +62,23 @@ fn compare_file<R: Files + Print + AllocGlobal>(
 ) -> io::Result<bool> {
     let file = format!(in rt.alloc(); "{name}.rows")?;
     let rows = read_file(rt, file.as_str())?;
-    let answers = answers(rt.alloc(), texts, rows.as_slice())?;
-    let mut tally = Tally::new(rt.alloc(), name)?;
-    for (row, came) in rows.iter().zip(answers.iter()) {
-        compare(rt, texts, &mut tally, row, came.as_str())?;
-    }
-    tally.end(rt)
+    compare_rows(rt, texts, name, rows.as_slice())
+}
+
+/// The texts with names.
+fn read_texts<R: Files + AllocGlobal>(rt: &R) -> io::Result<Texts> {
+    let rows = read_file(rt, "texts.rows")?;
+    Ok(Texts::of(rt.alloc(), rows.as_slice())?)
 }
 
 /// Compares all files.
 pub(crate) fn compare_all<R: Files + Print + AllocGlobal>(rt: &R) -> io::Result<ExitCode> {
-    let mut texts = Texts::new(rt.alloc());
-    texts.add_all(read_file(rt, "texts.rows")?.as_slice())?;
+    let texts = read_texts(rt)?;
     let setups = compare_file(rt, &texts, "setups")?;
     let runs = compare_file(rt, &texts, "runs")?;
     if setups && runs {
-        return Ok(ExitCode::SUCCESS);
+        Ok(ExitCode::SUCCESS)
+    } else {
+        Ok(ExitCode::FAILURE)
     }
-    Ok(ExitCode::FAILURE)
 }

@@ -89,7 +89,7 @@ fn step(alloc: Global, played: &mut Played, row: &Row) -> Result<String, AllocEr
 }
 
 /// What comes of a row, by the run that the rows before it played.
-fn answer(
+pub(crate) fn answer(
     alloc: Global,
     texts: &Texts,
     played: &mut Option<Played>,
@@ -102,28 +102,4 @@ fn answer(
         Some(run) => step(alloc, run, row),
         None => String::from_str(alloc, "no run"),
     }
-}
-
-/// What comes of each row, from this run on.
-fn answers_on(
-    alloc: Global,
-    texts: &Texts,
-    played: &mut Option<Played>,
-    rows: &[Row],
-) -> Result<Vec<String>, AllocError> {
-    let mut answers = Vec::new(alloc);
-    for row in rows {
-        answers.push(answer(alloc, texts, played, row)?)?;
-    }
-    Ok(answers)
-}
-
-/// What comes of each row.
-pub(crate) fn answers(
-    alloc: Global,
-    texts: &Texts,
-    rows: &[Row],
-) -> Result<Vec<String>, AllocError> {
-    let mut played = None;
-    answers_on(alloc, texts, &mut played, rows)
 }

@@ -1,6 +1,6 @@
 // How fast shadowed rules are listed.
 use crate::report::{Measurement, since, used};
-use crate::tables::{MOST, one_shadows_all, rising};
+use crate::tables::{Kind, MOST, one_shadows_all};
 use slpf_rules::Table;
 use slpf_shadow::shadowed;
 use std::io;
@@ -24,7 +24,7 @@ fn list<R: Print + CpuClock + AllocGlobal>(rt: &R, table: &Table, what: &str) ->
 
 /// Measures tables of one net a rule: where none is shadowed, and where the first shadows all others.
 pub(crate) fn measure<R: Print + CpuClock + AllocGlobal>(rt: &R) -> io::Result<()> {
-    list(rt, &rising(rt.alloc(), MOST)?, "of one net each")?;
+    list(rt, &Kind::Nets.table(rt.alloc(), MOST)?, "of one net each")?;
     list(
         rt,
         &one_shadows_all(rt.alloc(), MOST)?,

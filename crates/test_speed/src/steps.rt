@@ -3,7 +3,7 @@ use crate::played::Played;
 use crate::refusals::{why_no_setup, why_not_taken};
 use crate::report::{say_records, since, used};
 use crate::setups::setup;
-use flow_core::FlowError;
+use flow_core::{FlowError, Setup, SetupError};
 use std::rt::Files;
 use std::time::CpuClock;
 use std::{fs, io};
@@ -47,6 +47,23 @@ fn measure_run(
     }
 }
 
+/// Measures the run of these playbooks.
+fn measure_setup(
+    rt: &(impl Print + CpuClock + AllocGlobal),
+    what: &str,
+    setup: Setup,
+    most: u32,
+) -> io::Result<()> {
+    let mut played = Played::idle(rt.alloc(), setup, 1);
+    measure_run(rt, what, &mut played, most)
+}
+
+/// Says why there is no setup.
+fn say_why(rt: &(impl Print + AllocGlobal), error: SetupError) -> io::Result<()> {
+    let why = why_no_setup(rt.alloc(), error)?;
+    println!(rt; "{why}")
+}
+
 /// Measures the run of the playbook in a file.
 fn measure_file<R: Files + Print + CpuClock + AllocGlobal>(
     rt: &R,
@@ -56,14 +73,8 @@ fn measure_file<R: Files + Print + CpuClock + AllocGlobal>(
 ) -> io::Result<()> {
     let text = fs::read_to_string(rt, file)?;
     match setup(rt.alloc(), text.as_str(), "", "") {
-        Ok(setup) => {
-            let mut played = Played::idle(rt.alloc(), setup, 1);
-            measure_run(rt, what, &mut played, most)
-        }
-        Err(error) => {
-            let why = why_no_setup(rt.alloc(), error)?;
-            println!(rt; "{why}")
-        }
+        Ok(setup) => measure_setup(rt, what, setup, most),
+        Err(error) => say_why(rt, error),
     }
 }
 

@@ -2,6 +2,7 @@
 ghost use Rattle.std.specs.Prelude.{IsTrue};
 ghost use Rattle.oc2_msg_targets.specs.Ranges.{FlowInRange};
 ghost use Rattle.oc2_msg_targets.specs.Targets.{has_part};
+ghost use Rattle.oc2_msg.specs.Ranges.{InRange};
 
 use crate::commands::{connection, deny, deny_flow, net, net6, wide_net};
 use oc2_msg::Command;
@@ -30,6 +31,16 @@ pub(crate) fn shared_port(number: u32) -> u16 {
     1_000 + (number % 64) as u16
 }
 
+/// Gives a table a command. The command and its response are dropped by name, which is one call each.
+fn tell(table: &mut Table, command: Command) -> Result<(), AllocError>
+    requires { InRange command }
+{
+    let response = table.answer(&command, 0);
+    drop(command);
+    drop(response?);
+    Ok(())
+}
+
 impl Kind {
     /// What the rule of this number, from 0 on, speaks of.
     fn flow(self, number: u32) -> Flow
@@ -44,36 +55,27 @@ impl Kind {
         }
     }
 
+    /// Adds so many denies to a table, as the next numbers.
+    fn add(self, table: &mut Table, rules: u32) -> Result<(), AllocError> {
+        for number in 0..rules {
+            tell(table, deny_flow(self.flow(number), None))?;
+        }
+        Ok(())
+    }
+
     /// A table of so many denies, whose numbers rise.
     pub(crate) fn table(self, alloc: Global, rules: u32) -> Result<Table, AllocError> {
         let mut table = Table::new(alloc);
-        for number in 0..rules {
-            table.answer(&deny_flow(self.flow(number), None), 0)?;
-        }
+        self.add(&mut table, rules)?;
         Ok(table)
     }
-}
-
-/// Denies of so many nets, the next numbers.
-fn add_denies(table: &mut Table, rules: u32) -> Result<(), AllocError> {
-    for number in 0..rules {
-        table.answer(&deny(net(number), None), 0)?;
-    }
-    Ok(())
-}
-
-/// A table of denies of so many nets, whose numbers rise.
-pub(crate) fn rising(alloc: Global, rules: u32) -> Result<Table, AllocError> {
-    let mut table = Table::new(alloc);
-    add_denies(&mut table, rules)?;
-    Ok(table)
 }
 
 /// A table of so many rules, at least one: a deny of 10.0.0.0/8, and behind it denies of nets in that.
 pub(crate) fn one_shadows_all(alloc: Global, rules: u32) -> Result<Table, AllocError> {
     let mut table = Table::new(alloc);
-    table.answer(&deny(wide_net(), None), 0)?;
-    add_denies(&mut table, rules.saturating_sub(1))?;
+    tell(&mut table, deny(wide_net(), None))?;
+    Kind::Nets.add(&mut table, rules.saturating_sub(1))?;
     Ok(table)
 }
 
@@ -81,7 +83,7 @@ pub(crate) fn one_shadows_all(alloc: Global, rules: u32) -> Result<Table, AllocE
 pub(crate) fn falling(alloc: Global, rules: u32) -> Result<Table, AllocError> {
     let mut table = Table::new(alloc);
     for number in 0..rules {
-        table.answer(&deny(net(number), Some(rules - number)), 0)?;
+        tell(&mut table, deny(net(number), Some(rules - number)))?;
     }
     Ok(table)
 }
@@ -90,7 +92,7 @@ pub(crate) fn falling(alloc: Global, rules: u32) -> Result<Table, AllocError> {
 pub(crate) fn delete_falling(table: &mut Table, rules: u32) -> Result<(), AllocError> {
     for gone in 0..rules {
         let number = rules - gone;
-        table.answer(&Command::Delete { number }, 0)?;
+        tell(table, Command::Delete { number })?;
     }
     Ok(())
 }

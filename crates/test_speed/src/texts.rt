@@ -17,14 +17,6 @@ pub(crate) struct Texts {
 }
 
 impl Texts {
-    /// No texts.
-    pub(crate) fn new(alloc: Global) -> Texts {
-        Texts {
-            alloc,
-            parts: Vec::new(alloc),
-        }
-    }
-
     /// Takes a row of a name and a text. A row without a name goes on with the text of the row before.
     fn add(&mut self, row: &Row) -> Result<(), AllocError> {
         if row.text(0).is_empty() {
@@ -39,12 +31,16 @@ impl Texts {
         Ok(())
     }
 
-    /// Takes these rows.
-    pub(crate) fn add_all(&mut self, rows: &[Row]) -> Result<(), AllocError> {
+    /// The texts of these rows.
+    pub(crate) fn of(alloc: Global, rows: &[Row]) -> Result<Texts, AllocError> {
+        let mut texts = Texts {
+            alloc,
+            parts: Vec::new(alloc),
+        };
         for row in rows {
-            self.add(row)?;
+            texts.add(row)?;
         }
-        Ok(())
+        Ok(texts)
     }
 
     /// The text with its names and those of their texts spelled out: each name wherever it stands, in the order of the rows.
