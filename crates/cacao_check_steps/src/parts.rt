@@ -22,7 +22,7 @@ pub struct Parts {
 impl Drop for Parts {
     fn drop(self) {
         let Self {
-            condition: _,
+            condition,
             subject: _,
             contents: _,
             completion: _,
@@ -31,5 +31,7 @@ impl Drop for Parts {
             heads: _,
             called: _,
         } = self;
+        // (by its name, and not at the end: so it is one call here, too)
+        drop(condition);
     }
 }

@@ -23,10 +23,15 @@ pub enum Played {
 }
 
 /// A site on which engines are played.
-#[derive(Drop)]
 pub struct EnginePlay {
     alloc: Global,
     site: MemorySite,
+}
+
+impl Drop for EnginePlay {
+    fn drop(self) {
+        let Self { alloc: _, site: _ } = self;
+    }
 }
 
 /// A plan with ample room, in which the device call of this number fails, from 0.
@@ -100,9 +105,9 @@ impl EnginePlay {
     /// The site after a crash that is picked so, without failures: 0 leaves what a read gives, 1 what was synced, and others something
     /// between.
     pub fn crash(self, choice: u64) -> Result<EnginePlay, AllocError> {
-        let alloc = self.alloc;
-        let plan = plan(alloc, None)?;
-        let site = self.site.crash_with(choice, plan)?;
+        let plan = plan(self.alloc, None)?;
+        let Self { alloc, site } = self;
+        let site = site.crash_with(choice, plan)?;
         Ok(EnginePlay { alloc, site })
     }
 

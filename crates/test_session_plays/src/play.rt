@@ -57,10 +57,15 @@ pub struct Files {
 }
 
 /// A site on which sessions are played.
-#[derive(Drop)]
 pub struct Play {
     pub(crate) alloc: Global,
     pub(crate) site: MemorySite,
+}
+
+impl Drop for Play {
+    fn drop(self) {
+        let Self { alloc: _, site: _ } = self;
+    }
 }
 
 /// Plays a session of this setup, with these answers.
@@ -109,9 +114,9 @@ impl Play {
 
     /// The site after a crash that is picked so: 0 leaves what a read gives, 1 what was synced, and others something between.
     pub fn crash(self, choice: u64, outside: Outside) -> Result<Play, AllocError> {
-        let alloc = self.alloc;
-        let plan = plan(alloc, outside)?;
-        let site = self.site.crash_with(choice, plan)?;
+        let plan = plan(self.alloc, outside)?;
+        let Self { alloc, site } = self;
+        let site = site.crash_with(choice, plan)?;
         Ok(Play { alloc, site })
     }
 
