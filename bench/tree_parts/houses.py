@@ -5,7 +5,7 @@ promises wherever they stand. Whoever adds a house names it here, and draws it i
 """
 
 HOUSES = {
-    "base": [],
+    "base": ["base_texts"],
     "cacao_site": ["cacao_site", "cacao_site_log", "cacao_site_memory", "cacao_site_files"],
     "cacao_json": ["cacao_json"],
     "cacao_ids": ["cacao_ids"],

@@ -7,7 +7,7 @@ use Rattle.cacao_json.specs.declared.tree.Tree.{Tree}
 use Rattle.cacao_json.specs.declared.error.JsonError.{JsonError}
 use Rattle.cacao_json.specs.declared.error.JsonError.TheVariants.{NotJson, RepeatedName, NotWhole, Memory}
 use Rattle.cacao_json.specs.Tree.{data_of}
-use Rattle.cacao_json.specs.Counts.{colons, members, numbers, first_broken}
+use Rattle.cacao_json_counts.specs.Counts.{colons, members, numbers, first_broken}
 use Rattle.cacao_json.specs.Reading.{reading, tree}
 use Rattle.cacao_json.specs.Refusals.{RefusesText, if_whole, if_read, answer, IsAnswerOrMemory}
 use Rattle.cacao_json.proofs.Readings.{HasTree-from_tree}

@@ -8,7 +8,7 @@ use Rattle.json.specs.Json as json
 use Rattle.json.specs.Tree.{json_tokens, items_tokens, members_tokens}
 use Rattle.serde_json.specs.Data.{Data, Items, Members, no_members, member, put}
 use Rattle.serde_json.specs.Read.{read, of_json}
-use Rattle.cacao_json.specs.Counts.{colons, members, members_of_items, members_of_pairs, numbers, numbers_of_items, numbers_of_pairs}
+use Rattle.cacao_json_counts.specs.Counts.{colons, members, members_of_items, members_of_pairs, numbers, numbers_of_items, numbers_of_pairs}
 use Rattle.cacao_json.specs.Straight.{keys_in}
 use Rattle.cacao_json.proofs.Keys.{keys_in-append}
 use Rattle.cacao_json.proofs.Colons.{keys_in-tokens, length-tokens}

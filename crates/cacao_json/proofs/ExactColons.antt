@@ -7,7 +7,7 @@ use Rattle.json.specs.Word.{is_operator, is_space, word}
 use Rattle.json.specs.Lex.{Lexeme, token, comma, colon, Class, quote, backslash, operator, space, other, operator_lexeme, string_token, Mode, between, in_word, in_string, in_escape, lex_byte, lex, Place, fresh, after_value, after_comma, after_key, begins_colon, punctuate, place_token, if_allowed, may_begin, may_close, tokens}
 use Rattle.json.specs.Json as json
 use Rattle.json.specs.Tree.{json_tokens, items_tokens, members_tokens}
-use Rattle.cacao_json.specs.Counts.{Position, Outside, Inside, Escaped, colons_from, colons}
+use Rattle.cacao_json_counts.specs.Counts.{Position, Outside, Inside, Escaped, colons_from, colons}
 use Rattle.cacao_json.specs.Straight.{keys_in}
 use Rattle.cacao_json.proofs.Words.{is_good, is_safe, safe_byte, is_word-word}
 use Rattle.cacao_json.proofs.Keys.{colons_in, if_good, owed}

@@ -2,7 +2,7 @@
 use Rattle.std.proofs.Common.{◌≡◌, ℕ, suc, ◌+◌, ◌-◌, ◌<◌, List, [], ◌∷◌, ◌++◌, length, Bool, true, false, Option, Some, None, option_map, refl, sym, ap, ◌∙◌, arith, length-append}
 use Rattle.std.specs.Prelude.{if◌then◌else◌}
 use Rattle.serde_json.specs.Data.{Num}
-use Rattle.cacao_json.specs.Counts.{is_whole, first_broken}
+use Rattle.cacao_json_counts.specs.Counts.{is_whole, first_broken}
 
 -- of all numbers the rest is left, and the others are whole
 pub record IsLeft (count left : ℕ) (all rest : List Num) : Type 0 where

@@ -9,7 +9,6 @@ pub mod Words
 pub mod Walk
 pub mod Keys
 pub mod Colons
-pub mod Strings
 pub mod Bounds
 pub mod Readings
 pub mod Answers

@@ -7,7 +7,7 @@ use Rattle.std.specs.Str.{bytes_eq}
 use Rattle.std.proofs.lemmas.Cmp.{nat_list_cmp_total}
 use Rattle.serde_json.specs.Data.{Num, Data, null, boolean, number, string, array, object, Items, no_items, item, Members, no_members, member, put, depth, items_depth, members_depth}
 use Rattle.serde_json.specs.Find.{get_member}
-use Rattle.cacao_json.specs.Counts.{is_whole, first_broken, numbers, numbers_of_items, numbers_of_pairs}
+use Rattle.cacao_json_counts.specs.Counts.{is_whole, first_broken, numbers, numbers_of_items, numbers_of_pairs}
 use Rattle.cacao_json.specs.Profile.{IsBelow, IsFormed, AreFormed, AreFormedMembers}
 use Rattle.cacao_json.specs.Tree.{item_last, without}
 use Rattle.cacao_json.specs.Laws.{FormedIfWhole, PutKeepsProfile, RemovalKeepsProfile, PushKeepsProfile, MembersHaveProfile}

@@ -5,7 +5,7 @@ use Rattle.std.specs.Str.{is_utf8}
 use Rattle.std.proofs.lemmas.Bool.{eqb-true, and_parts}
 use Rattle.serde_json.specs.Data.{Data}
 use Rattle.serde_json.specs.Read.{read}
-use Rattle.cacao_json.specs.Counts.{colons, members, numbers, first_broken, TakesWhole}
+use Rattle.cacao_json_counts.specs.Counts.{colons, members, numbers, first_broken, TakesWhole}
 use Rattle.cacao_json.specs.Reading.{reading, kept, tree}
 use Rattle.cacao_json.proofs.Bounds.{members-read, numbers-read}
 

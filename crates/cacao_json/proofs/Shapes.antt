@@ -10,7 +10,7 @@ use Rattle.json.specs.Tree.{json_tokens, items_tokens, members_tokens}
 use Rattle.serde_json.specs.Data.{Data, null, boolean, number, string, array, object, Items, no_items, item, Members, no_members, member, put}
 use Rattle.serde_json.specs.Read.{read, of_json}
 use Rattle.serde_json.proofs.Nesting.{depth-read}
-use Rattle.cacao_json.specs.Counts.{is_whole, first_broken, numbers, numbers_of_items, numbers_of_pairs}
+use Rattle.cacao_json_counts.specs.Counts.{is_whole, first_broken, numbers, numbers_of_items, numbers_of_pairs}
 use Rattle.cacao_json.specs.Reading.{tree}
 use Rattle.cacao_json.specs.Profile.{IsBelow, IsSorted, AreSorted, AreSortedMembers, IsFormed, AreFormed, AreFormedMembers, IsTree}
 use Rattle.cacao_json.proofs.LeftToTake.{first_broken_parts}

@@ -17,7 +17,7 @@ use Rattle.serde_json.specs.Data.{Data, Items, no_items, item, Members, member, 
 use Rattle.serde_json.specs.Read.{read}
 use Rattle.cacao_json.specs.declared.tree.Tree.{Tree}
 use Rattle.cacao_json.specs.declared.tree.Pair.{Pair}
-use Rattle.cacao_json.specs.Counts.{members, members_of_items, members_of_pairs}
+use Rattle.cacao_json_counts.specs.Counts.{members, members_of_items, members_of_pairs}
 use Rattle.cacao_json.specs.Profile.{IsBelow, AreSortedMembers, IsFormed, AreFormed}
 use Rattle.cacao_json.specs.Reading.{tree}
 use Rattle.cacao_json.specs.Straight.{keys_in, entries_data}

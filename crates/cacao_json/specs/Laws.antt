@@ -3,7 +3,7 @@ use Rattle.std.specs.Prelude.{◌≡◌, ◌<◌, ◌↔◌, ℕ, List, Some, No
 use Rattle.std.specs.Str.{IsUtf8}
 use Rattle.serde_json.specs.Data.{Data, array, object, Items, Members, put, depth}
 use Rattle.serde_json.specs.Find.{get}
-use Rattle.cacao_json.specs.Counts.{numbers, first_broken}
+use Rattle.cacao_json_counts.specs.Counts.{numbers, first_broken}
 use Rattle.cacao_json.specs.Profile.{IsSorted, IsFormed, IsTree}
 use Rattle.cacao_json.specs.Tree.{item_last, without}
 

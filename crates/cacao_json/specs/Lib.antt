@@ -2,10 +2,10 @@ pub mod Size
 pub mod Code
 pub mod Reading
 pub mod Tree
-pub mod Counts
 pub mod Refusals
 pub mod Profile
 pub mod Places
 pub mod Falls
 pub mod Laws
 pub mod Straight
+pub use Rattle.cacao_json_counts.specs.Counts

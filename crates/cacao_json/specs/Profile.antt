@@ -6,7 +6,7 @@ use Rattle.std.specs.Cmp.Lexicographic.{slice_cmp}
 use Rattle.std.specs.Str.{IsUtf8}
 use Rattle.serde_json.specs.Data.{Data, null, boolean, number, string, array, object, Items, no_items, item, Members, no_members, member, depth}
 use Rattle.serde_json.specs.Read.{max_depth}
-use Rattle.cacao_json.specs.Counts.{is_whole}
+use Rattle.cacao_json_counts.specs.Counts.{is_whole}
 
 -- the name is less than the first, byte by byte, a prefix first
 abbrev pub IsBelow : List ℕ → Members → Type 0

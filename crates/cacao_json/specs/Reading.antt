@@ -3,7 +3,7 @@ use Rattle.std.specs.Prelude.{◌==◌, ◌&&◌, ℕ, List, Option, Some, None,
 use Rattle.std.specs.Str.{is_utf8}
 use Rattle.serde_json.specs.Data.{Data}
 use Rattle.serde_json.specs.Read.{read}
-use Rattle.cacao_json.specs.Counts.{colons, members, numbers, first_broken}
+use Rattle.cacao_json_counts.specs.Counts.{colons, members, numbers, first_broken}
 
 -- what `serde_json` reads, if the bytes are UTF-8
 abbrev pub reading : List ℕ → Option Data

@@ -2,7 +2,7 @@
 use Rattle.std.specs.Prelude.{◌≡◌, ◌<◌, ℕ, List, Option, Some, None, Result, Ok, Err, ⊤, nat_lt, if◌then◌else◌}
 use Rattle.serde_json.specs.Data.{Data}
 use Rattle.cacao_json.specs.Reading.{reading}
-use Rattle.cacao_json.specs.Counts.{colons, members, numbers, first_broken}
+use Rattle.cacao_json_counts.specs.Counts.{colons, members, numbers, first_broken}
 use Rattle.cacao_json.specs.Tree.{data_of}
 use Rattle.cacao_json.specs.declared.tree.Tree.{Tree}
 use Rattle.cacao_json.specs.declared.error.JsonError.{JsonError}

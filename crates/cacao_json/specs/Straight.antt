@@ -5,7 +5,7 @@ use Rattle.fast_float.specs.Text.{Parts}
 use Rattle.serde_json.specs.Data.{Members}
 use Rattle.serde_json.specs.Find.{of_integer}
 use Rattle.serde_json.specs.Read.{number_of, number_from}
-use Rattle.cacao_json.specs.Counts.{is_whole}
+use Rattle.cacao_json_counts.specs.Counts.{is_whole}
 use Rattle.cacao_json.specs.declared.tree.Tree.{Tree}
 use Rattle.cacao_json.specs.Tree.{data_of, members_of}
 

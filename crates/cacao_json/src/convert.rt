@@ -4,9 +4,9 @@ ghost use Rattle.serde_json.specs.View.{view, items_view, members_view};
 ghost use Rattle.cacao_json.specs.Profile.{IsFormed, AreFormed, AreFormedMembers};
 ghost use Rattle.cacao_json.specs.Tree.{data_of};
 
-use crate::text::Text;
 use crate::tree::{Items, Pair, Pairs, Tree};
 use crate::whole::whole_number;
+use base_texts::Text;
 use serde_json::{Map, Value};
 use std::alloc::{AllocError, Global};
 

@@ -5,8 +5,8 @@ ghost use Rattle.cacao_json.specs.Tree.{data_of};
 ghost use Rattle.cacao_json.specs.Size.{size};
 
 use crate::place::place_of;
-use crate::text::Text;
 use crate::tree::Tree;
+use base_texts::Text;
 
 /// The value of the member with this name. `None` where there is none, or where the tree is no object.
 pub fn member<'a>(tree: &'a Tree, name: &str) -> Option<&'a Tree>

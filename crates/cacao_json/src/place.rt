@@ -1,5 +1,5 @@
 // Where a name stands among members.
-ghost use Rattle.std.specs.Prelude.{length};
+ghost use Rattle.std.specs.Prelude.{◌≤◌, length};
 ghost use Rattle.std.specs.Bool.{OnTrue};
 ghost use Rattle.cacao_json.specs.Profile.{AreSortedMembers};
 ghost use Rattle.cacao_json.specs.Places.{IsPlace, AreBefore};
@@ -8,12 +8,25 @@ ghost use Rattle.cacao_json.specs.Tree.{pairs_data};
 use crate::tree::Pair;
 use std::cmp::Ordering;
 
+/// The most members before which a name is put in its place at the end of many.
+pub const MOVED: usize = 8;
+
 /// The place of the member with this name; in `Err`, the place where it would go.
 pub fn place_of(pairs: &[Pair], name: &str) -> Result<usize, usize>
     requires { AreSortedMembers (pairs_data pairs.now) }
     ensures { IsPlace name.now pairs.now result }
 {
-    let mut low = 0;
+    place_from(pairs, 0, name)
+}
+
+/// The same, where the name is greater than those before `start`.
+fn place_from(pairs: &[Pair], start: usize, name: &str) -> Result<usize, usize>
+    requires sorted { AreSortedMembers (pairs_data pairs.now) }
+    requires within { start ≤ length pairs.now }
+    requires before { AreBefore name.now pairs.now start }
+    ensures { IsPlace name.now pairs.now result }
+{
+    let mut low = start;
     let mut high = pairs.len();
     while low < high {
         let middle = low + (high - low) / 2;
@@ -26,24 +39,29 @@ pub fn place_of(pairs: &[Pair], name: &str) -> Result<usize, usize>
     Err(low)
 }
 
-/// The same, found at once where the name is greater than all that are there.
+/// The same as `place_of`, found soon where the name is greater than all that are there, or than all but a few.
 pub fn place_to_add(pairs: &[Pair], name: &str) -> Result<usize, usize>
     requires { AreSortedMembers (pairs_data pairs.now) }
     ensures { IsPlace name.now pairs.now result }
 {
-    if is_behind(pairs, name) {
-        Err(pairs.len())
+    let count = pairs.len();
+    if is_behind(pairs, count, name) {
+        return Err(count);
+    }
+    let start = count.saturating_sub(MOVED);
+    if is_behind(pairs, start, name) {
+        place_from(pairs, start, name)
     } else {
         place_of(pairs, name)
     }
 }
 
-/// Whether the name is greater than all that are there.
-pub fn is_behind(pairs: &[Pair], name: &str) -> bool
-    requires { AreSortedMembers (pairs_data pairs.now) }
-    ensures { OnTrue result (AreBefore name.now pairs.now (length pairs.now)) }
+/// Whether the name is greater than the first `count`.
+pub fn is_behind(pairs: &[Pair], count: usize, name: &str) -> bool
+    requires sorted { AreSortedMembers (pairs_data pairs.now) }
+    requires within { count ≤ length pairs.now }
+    ensures { OnTrue result (AreBefore name.now pairs.now count) }
 {
-    let count = pairs.len();
     if count == 0 {
         return true;
     }

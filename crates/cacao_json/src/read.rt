@@ -7,11 +7,11 @@ ghost use Rattle.cacao_json.specs.Tree.{data_of};
 ghost use Rattle.cacao_json.specs.Profile.{IsTree};
 
 use crate::convert::tree_of;
-use crate::count::{count_colons, left_after_members};
 use crate::error::JsonError;
 use crate::straight::{straight_tree, straight_tree_with};
 use crate::tree::Tree;
 use crate::whole::left_after_numbers;
+use cacao_json_counts::{count_colons, left_after_members};
 use json::Scratch;
 use serde_json::{Category, Value};
 use std::alloc::{AllocError, Global};

@@ -4,17 +4,17 @@ ghost use Rattle.std.specs.Prelude.{◌≡◌, ℕ, ◌+◌, ◌<◌, ◌≤◌,
 ghost use Rattle.json.specs.Json.{value, items, members};
 ghost use Rattle.serde_json.specs.Data.{no_members};
 ghost use Rattle.serde_json.specs.Read.{of_json, of_items, of_members, converted};
-ghost use Rattle.cacao_json.specs.Counts.{members as members_in, members_of_items, members_of_pairs};
+ghost use Rattle.cacao_json_counts.specs.Counts.{members as members_in, members_of_items, members_of_pairs};
 ghost use Rattle.cacao_json.specs.Profile.{IsFormed, AreFormed, AreFormedMembers};
 ghost use Rattle.cacao_json.specs.Reading.{tree};
 ghost use Rattle.cacao_json.specs.Straight.{keys_in, entries_data};
 ghost use Rattle.cacao_json.specs.Tree.{data_of};
 
 use crate::rooms::Rooms;
-use crate::text::Text;
 use crate::tree::{Items, Pairs, Tree};
 use crate::whole::whole_text;
 use crate::wide::{add_new, pairs_of_map, widened};
+use base_texts::Text;
 use json::{Invalid, Reader, Scratch, Token};
 use std::alloc::{AllocError, AllocFailed, Global};
 use std::collections::BTreeMap;
@@ -23,7 +23,7 @@ use std::str;
 /// How deep arrays and objects may nest.
 const MAX_DEPTH: usize = 127;
 
-/// The members of an object from which on a name that is out of order is not put in its place, with those behind it
+/// The members of an object from which on a name that stands before many is not put in its place, with those behind it
 /// moved, but all go into a map.
 const WIDE: usize = 64;
 

@@ -1,14 +1,14 @@
 // The tree of a JSON text.
 ghost use Rattle.std.specs.Prelude.{◌≡◌, ◌+◌, map, is_ok, option_map, if◌then◌else◌, IfOk, OnOk};
-ghost use Rattle.cacao_json.specs.Counts.{members, members_of_pairs};
+ghost use Rattle.cacao_json_counts.specs.Counts.{members, members_of_pairs};
 ghost use Rattle.serde_json.specs.Data.{no_items, no_members, put};
 ghost use Rattle.serde_json.specs.Find.{get_member};
 ghost use Rattle.cacao_json.specs.Tree.{data_of, pair_data, items_of, members_of, item_last, without};
 ghost use Rattle.cacao_json.specs.Profile.{IsSorted, AreSorted, AreSortedMembers};
 
-use crate::place::{is_behind, place_of, place_to_add};
+use crate::place::{MOVED, is_behind, place_of, place_to_add};
 use crate::straight::Halt;
-use crate::text::Text;
+use base_texts::Text;
 use std::alloc::{AllocError, Global};
 use std::marker::Model;
 
@@ -185,9 +185,10 @@ impl Pairs {
         }
     }
 
-    /// Whether there are at least this many members, and the name is not greater than all of theirs.
+    /// Whether there are at least this many members, and the name is not greater than all of theirs but a few.
     pub(crate) fn is_wide(&self, wide: usize, name: &str) -> bool {
-        self.pairs.len() >= wide && !is_behind(&self.pairs, name)
+        let count = self.pairs.len();
+        count >= wide && !is_behind(&self.pairs, count.saturating_sub(MOVED), name)
     }
 
     /// One member more, in its place. `Err`: its name was there, or there was no memory.

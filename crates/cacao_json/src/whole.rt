@@ -2,7 +2,7 @@
 ghost use Rattle.std.specs.Prelude.{◌≡◌, ◌==◌, ◌<◌, length, slice_index, IfSome, IfNone, IsTrue, true, false};
 ghost use Rattle.serde_json.specs.View.{view, number_view, items_view, members_view};
 ghost use Rattle.serde_json.specs.Find.{of_integer};
-ghost use Rattle.cacao_json.specs.Counts.{is_whole, numbers, numbers_of_items, numbers_of_pairs, TakesWhole};
+ghost use Rattle.cacao_json_counts.specs.Counts.{is_whole, numbers, numbers_of_items, numbers_of_pairs, TakesWhole};
 ghost use Rattle.cacao_json.specs.Straight.{WritesWhole, PartsWriteWhole};
 
 use fast_float::Numeral;

@@ -1,14 +1,14 @@
 // The members of a wide object, in a map until all are there.
 ghost use Rattle.std.specs.Prelude.{◌≡◌, ◌+◌, IfOk, OnOk};
 ghost use Rattle.serde_json.specs.Data.{put};
-ghost use Rattle.cacao_json.specs.Counts.{members, members_of_pairs};
+ghost use Rattle.cacao_json_counts.specs.Counts.{members, members_of_pairs};
 ghost use Rattle.cacao_json.specs.Profile.{AreFormedMembers};
 ghost use Rattle.cacao_json.specs.Straight.{entries_data};
 ghost use Rattle.cacao_json.specs.Tree.{data_of};
 
 use crate::straight::Halt;
-use crate::text::Text;
 use crate::tree::{Pair, Pairs, Tree};
+use base_texts::Text;
 use std::alloc::{AllocError, Global};
 use std::collections::BTreeMap;
 

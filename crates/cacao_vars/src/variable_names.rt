@@ -7,6 +7,7 @@ ghost use Rattle.std.specs.Ordering.{nat_cmp, as_partial_cmp};
 ghost use Rattle.std.proofs.Common.{refl};
 ghost use Rattle.cacao_vars.specs.Names.{IsName, is_name_character};
 
+use base_texts::Text;
 use std::alloc::{AllocError, Global};
 use std::cmp::Ordering;
 use std::marker::Model;
@@ -15,19 +16,18 @@ use std::marker::Model;
 /// It is seen as the list of its bytes, and its order is theirs.
 #[derive(Drop)]
 pub struct Name {
-    text: String,
+    text: Text,
 }
 
 impl Model for Name {
     ghost use Rattle.std.specs.Prelude.{List, ℕ};
-    ghost use Rattle.std.specs.String.{string_bytes};
     ghost use Rattle.cacao_vars.specs.Names.{IsName};
 
     ghost Value = { List ℕ };
 
-    ghost view = { λ name. string_bytes name.text };
+    ghost view = { λ name. name.text };
 
-    ghost invariant = { λ name. IsName (string_bytes name.text) };
+    ghost invariant = { λ name. IsName name.text };
 }
 
 // A letter, a digit, `_` or `-`.
@@ -73,7 +73,7 @@ impl Name {
         if !is_name(text.as_bytes()) {
             return Ok(None);
         }
-        let text = String::from_str(alloc, text)?;
+        let text = Text::from_str(alloc, text)?;
         Ok(Some(Name { text }))
     }
 
@@ -82,7 +82,7 @@ impl Name {
         requires { IsName text.now }
         ensures { IfOk result (λ name. name ≡ text.now) }
     {
-        let text = String::from_str(alloc, text)?;
+        let text = Text::from_str(alloc, text)?;
         Ok(Name { text })
     }
 
@@ -91,7 +91,7 @@ impl Name {
         ensures text { result.now ≡ self.now }
         ensures grammar { IsName self.now }
     {
-        self.text.as_str()
+        self.text.text()
     }
 }
 

@@ -6,6 +6,7 @@ ghost use Rattle.std.specs.Ordering.{nat_cmp, as_partial_cmp};
 ghost use Rattle.std.specs.String.{string_bytes};
 ghost use Rattle.std.proofs.Common.{refl};
 
+use base_texts::Text;
 use std::alloc::{AllocError, Global};
 use std::cmp::Ordering;
 use std::marker::Model;
@@ -13,16 +14,15 @@ use std::marker::Model;
 /// A text, seen as the list of its bytes in UTF-8. Its order is that of the bytes.
 #[derive(Drop)]
 pub struct Word {
-    text: String,
+    text: Text,
 }
 
 impl Model for Word {
     ghost use Rattle.std.specs.Prelude.{List, ℕ};
-    ghost use Rattle.std.specs.String.{string_bytes};
 
     ghost Value = { List ℕ };
 
-    ghost view = { λ word. string_bytes word.text };
+    ghost view = { λ word. word.text };
 }
 
 impl Word {
@@ -30,7 +30,7 @@ impl Word {
     pub fn new(alloc: Global, text: &str) -> Result<Word, AllocError>
         ensures { IfOk result (λ word. word ≡ text.now) }
     {
-        let text = String::from_str(alloc, text)?;
+        let text = Text::from_str(alloc, text)?;
         Ok(Word { text })
     }
 
@@ -38,22 +38,15 @@ impl Word {
     pub fn from_string(text: String) -> Word
         ensures { result ≡ string_bytes text }
     {
+        let text = Text::from_string(text);
         Word { text }
-    }
-
-    /// Gives the text back. It takes no memory.
-    pub fn into_string(self) -> String
-        ensures { string_bytes result ≡ self }
-    {
-        let Word { text } = self;
-        text
     }
 
     /// The whole text.
     pub fn text(&self) -> &str
         ensures { result.now ≡ self.now }
     {
-        self.text.as_str()
+        self.text.text()
     }
 }
 

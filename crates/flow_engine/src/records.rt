@@ -60,17 +60,18 @@ fn awaited_filter(flow: &Flow, issue: u32) -> Option<u8>
 }
 
 /// The Reply of an issue with what was read.
-fn reply_with(issue: u32, moment: u64, read: Answer) -> Record
-    ensures { result ≡ entry.Reply issue moment read.status read.rule read.text }
+fn reply_with(alloc: Global, issue: u32, moment: u64, read: Answer) -> Result<Record, AllocError>
+    ensures { IfOk result (λ made. made ≡ entry.Reply issue moment read.status read.rule read.text) }
 {
     let Answer { status, rule, text } = read;
-    Record::Reply {
+    let text = text.into_string(alloc)?;
+    Ok(Record::Reply {
         issue,
         moment,
         status,
         rule,
-        text: Bytes::from_vec(text.into_string().into_bytes()),
-    }
+        text: Bytes::from_vec(text.into_bytes()),
+    })
 }
 
 impl Engine {
@@ -170,18 +171,19 @@ impl Engine {
     }
 
     /// The Reply of a parcel's issue with what its bytes read as.
-    fn reply_record(&self, parcel: &Parcel, read: Answer, moment: u64) -> Record
+    fn reply_record(&self, parcel: &Parcel, read: Answer, moment: u64) -> Result<Record, AllocError>
         requires to { IsReplyTo self.now.history parcel.now read }
         requires in_range { AnswerInRange read }
         requires in_time { is_in_time self.now.history.seen moment ≡ true }
-        ensures is { IsReply self.now.history parcel.now moment result }
-        ensures comes { IsComing self.now.history result }
+        ensures is { IfOk result (IsReply self.now.history parcel.now moment) }
+        ensures comes { IfOk result (IsComing self.now.history) }
     {
         self.stand();
         runs_are_sane();
         waiting_can_end();
         moves_are_in_range();
-        reply_with(parcel.issue, moment, read)
+        let next = reply_with(self.alloc, parcel.issue, moment, read)?;
+        Ok(next)
     }
 
     /// The Expire of an issue may come next. The call does nothing.
@@ -290,7 +292,7 @@ impl Engine {
         let Some(read) = found else {
             return Ok(false);
         };
-        let next = self.reply_record(parcel, read, moment);
+        let next = self.reply_record(parcel, read, moment)?;
         self.append(site, next)?;
         Ok(true)
     }

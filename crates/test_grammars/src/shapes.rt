@@ -21,7 +21,7 @@ pub(crate) fn edited(
 fn broken(alloc: Global, step: Option<Text>, rule: u8) -> Result<String, AllocError> {
     match step {
         Some(key) => {
-            let key = key.into_string();
+            let key = key.into_string(alloc)?;
             format!(in alloc; "{rule} {key}")
         }
         None => format!(in alloc; "{rule}"),

@@ -44,14 +44,29 @@ fn wide(alloc: Global, last: &str) -> Result<String, AllocError> {
     Ok(all)
 }
 
+/// An object of 100 members, of which the first, `z`, is -1, and the names of the others rise behind it from `n100` to `n198` as
+/// their values do from 0, and then this text.
+fn late(alloc: Global, last: &str) -> Result<String, AllocError> {
+    let mut all = String::from_str(alloc, "{\"z\":-1,")?;
+    for n in 0..99u32 {
+        let name = 100 + n;
+        write!(all, "\"n{name}\":{n},")?;
+    }
+    all.push_str(last)?;
+    Ok(all)
+}
+
 /// The text that a field stands for: behind `REPEAT` stand numbers and words, each word as many times as the number before it; behind `WIDE`
-/// stands the end of an object with 100 members. Each other field is its text.
+/// and `LATE` stands the end of an object with 100 members. Each other field is its text.
 pub(crate) fn spelled(alloc: Global, field: &str) -> Result<String, AllocError> {
     if let Some(words) = field.strip_prefix("REPEAT ") {
         return repeated(alloc, words);
     }
     if let Some(last) = field.strip_prefix("WIDE ") {
         return wide(alloc, last);
+    }
+    if let Some(last) = field.strip_prefix("LATE ") {
+        return late(alloc, last);
     }
     String::from_str(alloc, field)
 }

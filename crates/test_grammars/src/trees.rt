@@ -197,7 +197,7 @@ fn copied(alloc: Global, text: &str) -> Result<String, AllocError> {
     let one = Text::from_str(alloc, text)?;
     let copy = one.clone()?;
     if copy == one {
-        return Ok(copy.into_string());
+        return copy.into_string(alloc);
     }
     word(alloc, "another copy")
 }

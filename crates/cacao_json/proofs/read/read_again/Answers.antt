@@ -1,6 +1,6 @@
 use Rattle.std.proofs.Common.{◌≡◌, ◌-◌, length, Some, option_map, sym, ap, ◌∙◌, arith}
 use Rattle.serde_json.specs.View.{view}
-use Rattle.cacao_json.specs.Counts.{numbers}
+use Rattle.cacao_json_counts.specs.Counts.{numbers}
 use Rattle.cacao_json.proofs.LeftToTake.{first_broken_below}
 use Rattle.cacao_json.proofs.Readings.{numbers-reading, all_taken, tree-from_reading}
 use Rattle.cacao_json.proofs.Shapes.{IsTree-from_tree}

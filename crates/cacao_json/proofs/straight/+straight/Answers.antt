@@ -8,7 +8,7 @@ use Rattle.serde_json.specs.Data.{number, array, object, put}
 use Rattle.serde_json.specs.Find.{of_integer}
 use Rattle.serde_json.specs.Read.{of_json, of_items, of_members, converted}
 use Rattle.cacao_json.proofs.TokenSteps.{converted-array, converted-object, item_read, items_over, member_read, members_over}
-use Rattle.cacao_json.specs.Counts.{members as members_in, members_of_items}
+use Rattle.cacao_json_counts.specs.Counts.{members as members_in, members_of_items}
 use Rattle.cacao_json.specs.Profile.{AreFormed, AreFormedMembers}
 use Rattle.cacao_json.specs.Straight.{keys_in, entries_data}
 use Rattle.cacao_json.specs.Tree.{data_of}

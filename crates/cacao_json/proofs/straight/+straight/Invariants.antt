@@ -2,7 +2,7 @@ use Rattle.std.proofs.Common.{◌≡◌, ℕ, ◌+◌, ◌*◌, ◌≤◌, lengt
 use Rattle.json.specs.Json.{items, members, value, parse_map}
 use Rattle.serde_json.specs.Data.{no_members}
 use Rattle.serde_json.specs.Read.{of_items, of_members, converted}
-use Rattle.cacao_json.specs.Counts.{members_of_items, members_of_pairs}
+use Rattle.cacao_json_counts.specs.Counts.{members_of_items, members_of_pairs}
 use Rattle.cacao_json.specs.Profile.{AreFormed, AreFormedMembers}
 use Rattle.cacao_json.specs.Straight.{keys_in, entries_data}
 use Rattle.cacao_json.proofs.Trees.{data_items}

@@ -2,7 +2,7 @@ use Rattle.std.proofs.Common.{◌≡◌, ◌+◌, [], arith, rules}
 use Rattle.json.specs.Lex.{tokens}
 use Rattle.json.specs.Json.{value}
 use Rattle.cacao_json.proofs.TokenSteps.{whole_read}
-use Rattle.cacao_json.specs.Counts.{members}
+use Rattle.cacao_json_counts.specs.Counts.{members}
 use Rattle.cacao_json.specs.Straight.{keys_in}
 use Rattle.cacao_json.specs.Tree.{data_of}
 use Rattle.cacao_json.proofs.StraightLemmas.{tree-from_keys}

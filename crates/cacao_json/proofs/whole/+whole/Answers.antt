@@ -4,7 +4,7 @@ use Rattle.serde_json.specs.Data.{Num}
 use Rattle.serde_json.specs.View.{view, items_view, members_view}
 use Rattle.serde_json.specs.declared.value.Value.{Value}
 use Rattle.serde_json.proofs.Views.{Entry}
-use Rattle.cacao_json.specs.Counts.{first_broken, numbers, numbers_of_items, numbers_of_pairs}
+use Rattle.cacao_json_counts.specs.Counts.{first_broken, numbers, numbers_of_items, numbers_of_pairs}
 use Rattle.cacao_json.proofs.LeftToTake.{IsLeft, is_left_step, is_left_stop}
 use Rattle.cacao_json.proofs.whole.+whole.Goals as goal
 

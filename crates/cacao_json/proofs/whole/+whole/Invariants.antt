@@ -1,6 +1,6 @@
 use Rattle.std.proofs.Common.{drop}
 use Rattle.serde_json.specs.View.{items_view, members_view}
-use Rattle.cacao_json.specs.Counts.{numbers_of_items, numbers_of_pairs}
+use Rattle.cacao_json_counts.specs.Counts.{numbers_of_items, numbers_of_pairs}
 use Rattle.cacao_json.proofs.LeftToTake.{IsLeft}
 use Rattle.cacao_json.proofs.whole.+whole.Given as goal
 

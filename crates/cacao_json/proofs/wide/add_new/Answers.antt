@@ -1,5 +1,5 @@
 use Rattle.std.proofs.Common.{sym, ap, ◌∙◌}
-use Rattle.cacao_json.specs.Counts.{members_of_pairs}
+use Rattle.cacao_json_counts.specs.Counts.{members_of_pairs}
 use Rattle.cacao_json.specs.Straight.{entries_data}
 use Rattle.cacao_json.proofs.StraightLemmas.{entries-insert_entry, counted-insert_entry, none_there}
 use Rattle.cacao_json.proofs.wide.add_new.Goals as goal

@@ -1,7 +1,7 @@
 use Rattle.std.proofs.Common.{◌+◌, ◌≤◌, length, IsUtf8, sym, ap, subst, ◌∙◌}
 use Rattle.serde_json.specs.Data.{put}
 use Rattle.cacao_json.specs.declared.tree.Pair.{Pair}
-use Rattle.cacao_json.specs.Counts.{members, members_of_pairs}
+use Rattle.cacao_json_counts.specs.Counts.{members, members_of_pairs}
 use Rattle.cacao_json.specs.Tree.{data_of, pairs_data}
 use Rattle.cacao_json.specs.Profile.{AreSortedMembers}
 use Rattle.cacao_json.proofs.Places.{inserted_there}

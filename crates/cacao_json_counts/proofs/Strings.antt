@@ -4,7 +4,7 @@ use Rattle.std.specs.Prelude.{if◌then◌else◌}
 use Rattle.std.proofs.lemmas.Bool.{eqb-true}
 use Rattle.std.proofs.lemmas.List.{drop-drop, drop_more, drop_all, get_or-drop}
 use Rattle.memchr.specs.Find.{Passes, Nowhere, NoneBefore, is_byte2}
-use Rattle.cacao_json.specs.Counts.{Outside, Inside, Escaped, colons_from}
+use Rattle.cacao_json_counts.specs.Counts.{Outside, Inside, Escaped, colons_from}
 
 -- a byte that ends a string or takes the next one along
 abbrev pub IsStop : List ℕ → ℕ → Type 0

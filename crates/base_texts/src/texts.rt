@@ -5,22 +5,41 @@ ghost use Rattle.std.specs.Cmp.Lexicographic.{pointwise, slice_cmp, nat_list_eq_
 ghost use Rattle.std.specs.Ordering.{nat_cmp, as_partial_cmp};
 ghost use Rattle.std.proofs.Common.{refl};
 
+use arrayvec::ArrayString;
 use std::alloc::{AllocError, Global};
 use std::cmp::Ordering;
 use std::marker::Model;
 
-/// A text in UTF-8. Contracts see it as its bytes. Its order is that of the bytes.
-#[derive(Debug, Drop)]
+/// The most bytes that a text has room for in itself.
+const SHORT: usize = 16;
+
+/// A text in UTF-8, which takes memory of its own only where it is long. Contracts see it as its bytes. Its order is
+/// that of the bytes.
+#[derive(Debug)]
 pub struct Text {
-    text: String,
+    held: Held,
+}
+
+/// Where the bytes are.
+#[derive(Debug, Drop)]
+enum Held {
+    Short(ArrayString<SHORT>),
+    Long(String),
+}
+
+impl Drop for Text {
+    fn drop(self) {
+        let Self { held: _ } = self;
+    }
 }
 
 impl Model for Text {
-    ghost use Rattle.std.specs.Prelude.{List, ℕ, string_bytes};
+    ghost use Rattle.std.specs.Prelude.{List, ℕ};
+    ghost use Rattle.base_texts.specs.Texts.{held_bytes};
 
     ghost Value = { List ℕ };
 
-    ghost view = { λ t. string_bytes t.text };
+    ghost view = { λ t. held_bytes t.held };
 }
 
 impl Text {
@@ -28,30 +47,41 @@ impl Text {
     pub fn from_str(alloc: Global, text: &str) -> Result<Text, AllocError>
         ensures { IfOk result (λ t. t ≡ text.now) }
     {
-        let text = String::from_str(alloc, text)?;
-        Ok(Text { text })
+        let held = match ArrayString::from(text) {
+            Ok(text) => Held::Short(text),
+            Err(_) => Held::Long(String::from_str(alloc, text)?),
+        };
+        Ok(Text { held })
     }
 
     /// The text itself, with no copy.
     pub fn from_string(text: String) -> Text
         ensures { result ≡ string_bytes text }
     {
-        Text { text }
+        Text {
+            held: Held::Long(text),
+        }
     }
 
     /// The text, with no copy.
     pub fn text(&self) -> &str
         ensures { result.now ≡ self.now }
     {
-        self.text.as_str()
+        match &self.held {
+            Held::Short(text) => text.as_str(),
+            Held::Long(text) => text.as_str(),
+        }
     }
 
-    /// The string, with no copy.
-    pub fn into_string(self) -> String
-        ensures { string_bytes result ≡ self }
+    /// The string, a copy only where the text is short.
+    pub fn into_string(self, alloc: Global) -> Result<String, AllocError>
+        ensures { IfOk result (λ s. string_bytes s ≡ self) }
     {
-        let Text { text } = self;
-        text
+        let Text { held } = self;
+        match held {
+            Held::Short(text) => String::from_str(alloc, text.as_str()),
+            Held::Long(text) => Ok(text),
+        }
     }
 }
 
@@ -59,8 +89,11 @@ impl Clone for Text {
     ghost is_clone = { λ text copy. copy ≡ text };
 
     fn clone(&self) -> Result<Text, AllocError> {
-        let text = self.text.clone()?;
-        Ok(Text { text })
+        let held = match &self.held {
+            Held::Short(text) => Held::Short(*text),
+            Held::Long(text) => Held::Long(text.clone()?),
+        };
+        Ok(Text { held })
     }
 }
 
@@ -70,7 +103,7 @@ impl PartialEq for Text {
     ghost laws = { Cmp.partial_equiv_from_equiv nat_list_eq_equiv };
 
     fn eq(&self, other: &Text) -> bool {
-        self.text == other.text
+        self.text() == other.text()
     }
 }
 
@@ -98,6 +131,6 @@ impl Ord for Text {
     ghost matches_eq = { texts_ties };
 
     fn cmp(&self, other: &Text) -> Ordering {
-        self.text.cmp(&other.text)
+        self.text().cmp(other.text())
     }
 }

@@ -1,8 +1,8 @@
 use Rattle.std.proofs.Common.{ℕ, ◌+◌, ◌-◌, ◌<◌, ◌≤◌, List, length, drop, take, sym, subst, ◌∙◌, arith}
 use Rattle.std.proofs.lemmas.List.{take_rest, length-drop}
 use Rattle.memchr.specs.Find.{Nowhere, NoneBefore}
-use Rattle.cacao_json.proofs.Strings.{IsStop, plain_to_end, quote_ends, backslash_goes_on, backslash_ends, none_behind, other_stop}
-use Rattle.cacao_json.proofs.count.string_end.Goals as goal
+use Rattle.cacao_json_counts.proofs.Strings.{IsStop, plain_to_end, quote_ends, backslash_goes_on, backslash_ends, none_behind, other_stop}
+use Rattle.cacao_json_counts.proofs.count.string_end.Goals as goal
 
 -- the stop that was found, in what is left
 abbrev Found : List ℕ → ℕ → Type 0

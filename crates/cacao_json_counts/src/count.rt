@@ -1,15 +1,14 @@
 // The counts that tell a repeated name. A count starts at what the text holds at most and goes down, one for each
-// thing that is met, so that no sum of the counts of parts has to be bounded: the colons for the members here, and in
-// `whole.rt` the bytes for the numbers.
+// thing that is met, so that no sum of the counts of parts has to be bounded.
 ghost use Rattle.std.specs.Prelude.{◌≡◌, ◌+◌, ◌-◌, ◌<◌, ◌≤◌, length, drop, get_or};
-ghost use Rattle.cacao_json.specs.Counts.{Outside, Inside, colon_at, colons_from, colons, members, members_of_items, members_of_pairs};
+ghost use Rattle.cacao_json_counts.specs.Counts.{Outside, Inside, colon_at, colons_from, colons, members, members_of_items, members_of_pairs};
 ghost use Rattle.serde_json.specs.View.{view, items_view, members_view};
 
 use memchr::memchr2;
 use serde_json::{Map, Value};
 
-/// The colons outside strings.
-pub(crate) fn count_colons(bytes: &[u8]) -> usize
+/// The colons outside strings of a text, bytes of any kind. It takes no memory.
+pub fn count_colons(bytes: &[u8]) -> usize
     ensures value { result ≡ colons bytes.now }
     ensures bound { result ≤ length bytes.now }
 {
@@ -61,9 +60,9 @@ fn string_end(bytes: &[u8], begun: usize) -> usize
     bytes.len()
 }
 
-/// What is left of the count when one is taken for each member at all levels of the value.
+/// What is left of the count, 0 at least, when one is taken for each member at all levels of the value.
 #[cycle(left)]
-pub(crate) fn left_after_members(value: &Value, count: usize) -> usize
+pub fn left_after_members(value: &Value, count: usize) -> usize
     ensures { result ≡ count - members (view value.now) }
 {
     match value {

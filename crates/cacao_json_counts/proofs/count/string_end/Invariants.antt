@@ -1,6 +1,6 @@
 use Rattle.std.proofs.Common.{◌≡◌, ◌-◌, ◌≤◌, drop, length}
-use Rattle.cacao_json.specs.Counts.{Inside, colons_from}
-use Rattle.cacao_json.proofs.count.string_end.Given as goal
+use Rattle.cacao_json_counts.specs.Counts.{Inside, colons_from}
+use Rattle.cacao_json_counts.proofs.count.string_end.Given as goal
 
 abbrev pub invariant-loop-plain : goal.invariant-loop-plain
 invariant-loop-plain l = (l.begun ≤ l.place) × (l.place ≤ length l.bytes) × (colons_from Inside (drop l.begun l.bytes) ≡ colons_from Inside (drop l.place l.bytes))

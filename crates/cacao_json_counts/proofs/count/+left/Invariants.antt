@@ -1,7 +1,7 @@
 use Rattle.std.proofs.Common.{◌≡◌, ◌-◌, drop}
 use Rattle.serde_json.specs.View.{items_view, members_view}
-use Rattle.cacao_json.specs.Counts.{members_of_items, members_of_pairs}
-use Rattle.cacao_json.proofs.count.+left.Given as goal
+use Rattle.cacao_json_counts.specs.Counts.{members_of_items, members_of_pairs}
+use Rattle.cacao_json_counts.proofs.count.+left.Given as goal
 
 abbrev pub invariant-left_after_items-loop-value : goal.invariant-left_after_items-loop-value
 invariant-left_after_items-loop-value l = l.left - members_of_items (items_view (drop l.value-index l.value-items)) ≡ l.count - members_of_items (items_view l.value-items)
