@@ -1,122 +1,121 @@
 // Entries appended to a journal, with what the calls require.
-ghost use Rattle.std.specs.Prelude.{◌≡◌, ◌<◌, ◌≤◌, false, length};
+ghost use Rattle.std.specs.Prelude.{◌≡◌, ◌<◌, ◌≤◌, IfOk, false, length};
 ghost use Rattle.cacao_site.specs.DiskCalls.{AllLeft};
 ghost use Rattle.run_journal.specs.Layout.{Stands};
 
 use cacao_site::{Bytes, Disk};
 use run_journal::{Journal, JournalError};
-use std::alloc::Global;
+use std::alloc::{AllocError, Global};
 
-/// Opens file 0 and appends one entry, where the file has none.
-pub(crate) fn append_one<D: Disk>(
-    alloc: Global,
-    disk: &mut D,
-    item: Bytes,
-) -> Result<u32, JournalError>
-    requires { length item ≤ 100 }
-{
-    let mut journal = Journal::open_on(alloc, disk, 0)?;
-    journal.reserve(100)?;
-    if journal.is_prepared() {
-        return Ok(journal.count());
-    }
-    append_first(disk, journal, item)
+/// What is appended behind a first entry.
+#[derive(Clone, Copy)]
+pub(crate) enum Second<'a> {
+    Nothing,
+    Entry(&'a [u8]),
+    /// An entry, where the append of the first met a fault of the disk.
+    BehindAFault(&'a [u8]),
 }
 
-/// Appends the first entry of a journal.
-fn append_first<D: Disk>(
-    disk: &mut D,
-    mut journal: Journal,
-    item: Bytes,
-) -> Result<u32, JournalError>
-    requires file { journal.file ≡ 0 }
-    requires prepared { journal.prepared ≡ false }
-    requires size { length item ≤ 100 }
-    requires spare { 100 < journal.spare }
-    requires stands { AllLeft 0 (D.view disk.old).disk (λ image. Stands image journal.items) }
-    requires short { AllLeft 0 (D.view disk.old).disk (λ image. length image ≤ 9) }
+/// An entry of these bytes; one without bytes where there are more than 100.
+fn entry(alloc: Global, bytes: &[u8]) -> Result<Bytes, AllocError>
+    ensures { IfOk result (λ bytes. length bytes ≤ 100) }
 {
-    journal.prepare(disk)?;
-    journal.append(disk, item)?;
+    if bytes.len() > 100 {
+        return Bytes::from_slice(alloc, b"");
+    }
+    Bytes::from_slice(alloc, bytes)
+}
+
+/// Opens file 0 and appends entries, where the file has none; how many it then has.
+pub(crate) fn append<D: Disk>(
+    alloc: Global,
+    disk: &mut D,
+    first: &[u8],
+    second: Second<'_>,
+) -> Result<u32, JournalError> {
+    let mut journal = Journal::open_on(alloc, disk, 0)?;
+    journal.reserve(100)?;
+    if !journal.is_prepared() {
+        append_to_blank(alloc, disk, &mut journal, first, second)?;
+    }
     Ok(journal.count())
 }
 
-/// Opens file 0 and appends two entries, where the file has none.
-pub(crate) fn two_entries<D: Disk>(
+/// Prepares a blank journal and appends entries.
+fn append_to_blank<D: Disk>(
     alloc: Global,
     disk: &mut D,
-    first: Bytes,
-    second: Bytes,
-) -> Result<u32, JournalError>
-    requires first { length first ≤ 100 }
-    requires second { length second ≤ 100 }
+    journal: &mut Journal,
+    first: &[u8],
+    second: Second<'_>,
+) -> Result<(), JournalError>
+    requires file { journal.old.file ≡ 0 }
+    requires prepared { journal.old.prepared ≡ false }
+    requires spare { 100 < journal.old.spare }
+    requires stands { AllLeft 0 (D.view disk.old).disk (λ image. Stands image journal.old.items) }
+    requires short { AllLeft 0 (D.view disk.old).disk (λ image. length image ≤ 9) }
 {
-    let mut journal = Journal::open_on(alloc, disk, 0)?;
-    journal.reserve(100)?;
-    if journal.is_prepared() {
-        return Ok(journal.count());
+    match second {
+        Second::Nothing => append_one(alloc, disk, journal, first),
+        Second::Entry(second) => append_two(alloc, disk, journal, first, second),
+        Second::BehindAFault(second) => append_after_a_fault(alloc, disk, journal, first, second),
     }
-    append_two(disk, journal, first, second)
+}
+
+/// Prepares a blank journal and appends its first entry.
+fn append_one<D: Disk>(
+    alloc: Global,
+    disk: &mut D,
+    journal: &mut Journal,
+    first: &[u8],
+) -> Result<(), JournalError>
+    requires file { journal.old.file ≡ 0 }
+    requires prepared { journal.old.prepared ≡ false }
+    requires spare { 100 < journal.old.spare }
+    requires stands { AllLeft 0 (D.view disk.old).disk (λ image. Stands image journal.old.items) }
+    requires short { AllLeft 0 (D.view disk.old).disk (λ image. length image ≤ 9) }
+{
+    journal.prepare(disk)?;
+    journal.append(disk, entry(alloc, first)?)
 }
 
 /// Prepares a blank journal and appends two entries.
 fn append_two<D: Disk>(
-    disk: &mut D,
-    mut journal: Journal,
-    first: Bytes,
-    second: Bytes,
-) -> Result<u32, JournalError>
-    requires file { journal.file ≡ 0 }
-    requires prepared { journal.prepared ≡ false }
-    requires first { length first ≤ 100 }
-    requires second { length second ≤ 100 }
-    requires spare { 100 < journal.spare }
-    requires stands { AllLeft 0 (D.view disk.old).disk (λ image. Stands image journal.items) }
-    requires short { AllLeft 0 (D.view disk.old).disk (λ image. length image ≤ 9) }
-{
-    journal.prepare(disk)?;
-    journal.append(disk, first)?;
-    journal.reserve(100)?;
-    journal.append(disk, second)?;
-    Ok(journal.count())
-}
-
-/// Opens file 0, where it has no entry, and tells what an append answers behind one that met a fault.
-pub(crate) fn behind_a_fault<D: Disk>(
     alloc: Global,
     disk: &mut D,
-    first: Bytes,
-    second: Bytes,
+    journal: &mut Journal,
+    first: &[u8],
+    second: &[u8],
 ) -> Result<(), JournalError>
-    requires first { length first ≤ 100 }
-    requires second { length second ≤ 100 }
-{
-    let mut journal = Journal::open_on(alloc, disk, 0)?;
-    journal.reserve(100)?;
-    if journal.is_prepared() {
-        return Ok(());
-    }
-    append_after_a_fault(disk, journal, first, second)
-}
-
-/// What a second append answers where the first met a fault of the disk.
-fn append_after_a_fault<D: Disk>(
-    disk: &mut D,
-    mut journal: Journal,
-    first: Bytes,
-    second: Bytes,
-) -> Result<(), JournalError>
-    requires file { journal.file ≡ 0 }
-    requires prepared { journal.prepared ≡ false }
-    requires first { length first ≤ 100 }
-    requires second { length second ≤ 100 }
-    requires spare { 100 < journal.spare }
-    requires stands { AllLeft 0 (D.view disk.old).disk (λ image. Stands image journal.items) }
+    requires file { journal.old.file ≡ 0 }
+    requires prepared { journal.old.prepared ≡ false }
+    requires spare { 100 < journal.old.spare }
+    requires stands { AllLeft 0 (D.view disk.old).disk (λ image. Stands image journal.old.items) }
     requires short { AllLeft 0 (D.view disk.old).disk (λ image. length image ≤ 9) }
 {
     journal.prepare(disk)?;
-    match journal.append(disk, first) {
-        Err(JournalError::Disk) => journal.append(disk, second),
+    journal.append(disk, entry(alloc, first)?)?;
+    journal.reserve(100)?;
+    journal.append(disk, entry(alloc, second)?)
+}
+
+/// Appends a second entry where the append of the first met a fault of the disk.
+fn append_after_a_fault<D: Disk>(
+    alloc: Global,
+    disk: &mut D,
+    journal: &mut Journal,
+    first: &[u8],
+    second: &[u8],
+) -> Result<(), JournalError>
+    requires file { journal.old.file ≡ 0 }
+    requires prepared { journal.old.prepared ≡ false }
+    requires spare { 100 < journal.old.spare }
+    requires stands { AllLeft 0 (D.view disk.old).disk (λ image. Stands image journal.old.items) }
+    requires short { AllLeft 0 (D.view disk.old).disk (λ image. length image ≤ 9) }
+{
+    journal.prepare(disk)?;
+    match journal.append(disk, entry(alloc, first)?) {
+        Err(JournalError::Disk) => journal.append(disk, entry(alloc, second)?),
         _ => Ok(()),
     }
 }

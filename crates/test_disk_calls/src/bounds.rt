@@ -13,6 +13,5 @@ pub(crate) fn bounded(
     if least <= low as u64 && high as u64 <= most {
         return text(alloc, "within");
     }
-    let found = format!(in alloc; "{low} to {high}")?;
-    text(alloc, found.as_str())
+    Ok(format!(in alloc; "{low} to {high}")?.into_bytes())
 }

@@ -17,8 +17,7 @@ use test_site_calls::{number, parcel_answer, small};
 
 /// What a filter refuses with.
 fn refused(alloc: Global, error: ActError) -> Result<Vec<u8>, AllocError> {
-    let error = format!(in alloc; "{error}")?;
-    text(alloc, error.as_str())
+    Ok(format!(in alloc; "{error}")?.into_bytes())
 }
 
 /// The parcel of a command of run 7 to filter 1; none where its bytes are more than 1,000.
@@ -57,23 +56,22 @@ fn hand<S: Site>(
     }
 }
 
-/// Hands commands to filter 1 in order: `acted` or `answered` for each.
+/// Hands commands to filter 1 in order, and adds `acted` or `answered` for each.
 fn hand_all<S: Site>(
     alloc: Global,
+    answer: &mut String,
     filter: &mut Actuator,
     site: &mut S,
     commands: &[Command],
-) -> Result<Vec<u8>, ActError>
+) -> Result<(), ActError>
     requires agent { filter.old.agent ≡ 1 }
     requires ready { IsReady filter.old (S.view site.old) }
 {
-    let mut answer = Vec::new(alloc);
     for command in commands {
         let acted = hand(alloc, filter, site, command)?;
-        let word = if acted { "acted " } else { "answered " };
-        answer.extend_from_slice(word.as_bytes())?;
+        answer.push_str(if acted { "acted " } else { "answered " })?;
     }
-    Ok(answer)
+    Ok(())
 }
 
 /// The command in the fields of a row: the issue, the moment and the bytes.
@@ -85,53 +83,60 @@ fn command(alloc: Global, row: &Row) -> Result<Command, AllocError> {
     })
 }
 
+/// Adds whether a filter has acts of these runs.
+fn put_runs(
+    answer: &mut String,
+    filter: &Actuator,
+    run: u64,
+    other: u64,
+) -> Result<(), AllocError> {
+    let has_run = filter.has_run(run);
+    let has_other = filter.has_run(other);
+    write!(answer, "; run {run} {has_run}, run {other} {has_other}")
+}
+
 /// Hands filter 1 these commands; then how many acts and rules it has, and whether it has acts of these runs.
 fn play_open<S: Site>(
     alloc: Global,
+    answer: &mut String,
     filter: &mut Actuator,
     site: &mut S,
     commands: &[Command],
-    run: u64,
-    other: u64,
-) -> Result<Vec<u8>, ActError>
+    runs: (u64, u64),
+) -> Result<(), ActError>
     requires agent { filter.old.agent ≡ 1 }
     requires ready { IsReady filter.old (S.view site.old) }
 {
-    let mut answer = hand_all(alloc, filter, site, commands)?;
-    let held = held(alloc, filter)?;
-    answer.extend_from_slice(held.as_slice())?;
-    let has_run = filter.has_run(run);
-    let has_other = filter.has_run(other);
-    let runs = format!(in alloc; "; run {run} {has_run}, run {other} {has_other}")?;
-    answer.extend_from_slice(runs.as_bytes())?;
-    Ok(answer)
+    hand_all(alloc, answer, filter, site, commands)?;
+    put_held(answer, filter)?;
+    Ok(put_runs(answer, filter, runs.0, runs.1)?)
 }
 
 /// Opens the file of filter 1 and hands it these commands; then how many acts and rules it has, and whether it has acts of these runs.
 fn play<S: Site>(
     alloc: Global,
+    answer: &mut String,
     site: &mut S,
     commands: &[Command],
-    run: u64,
-    other: u64,
-) -> Result<Vec<u8>, ActError> {
+    runs: (u64, u64),
+) -> Result<(), ActError> {
     let mut filter = Actuator::open_on(alloc, site, 1)?;
-    play_open(alloc, &mut filter, site, commands, run, other)
+    play_open(alloc, answer, &mut filter, site, commands, runs)
 }
 
-/// How many acts and rules a filter has.
-fn held(alloc: Global, filter: &Actuator) -> Result<Vec<u8>, AllocError> {
+/// Adds how many acts and rules a filter has.
+fn put_held(answer: &mut String, filter: &Actuator) -> Result<(), AllocError> {
     let acts = filter.count();
     let rules = filter.table().rules().len();
-    let held = format!(in alloc; "acts {acts}, rules {rules}")?;
-    text(alloc, held.as_str())
+    write!(answer, "acts {acts}, rules {rules}")
 }
 
 /// What the file of filter 1 opens with.
 fn open_held(alloc: Global, site: &mut MemorySite) -> Result<Vec<u8>, ActError> {
+    let mut held = String::new(alloc);
     let filter = Actuator::open_on(alloc, site, 1)?;
-    match held(alloc, &filter) {
-        Ok(held) => Ok(held),
+    match put_held(&mut held, &filter) {
+        Ok(()) => Ok(held.into_bytes()),
         Err(_) => Err(ActError::Memory),
     }
 }
@@ -200,106 +205,123 @@ fn taken<S: Site>(alloc: Global, site: &mut S) -> Result<Vec<u8>, AllocError> {
     }
 }
 
-/// What came of a command on a site where a call fails, and behind a crash.
-#[derive(Drop)]
-struct Crashed {
-    /// What the filter answered before the crash.
-    first: &'static str,
-    /// The parcel that is then taken.
-    reply: Vec<u8>,
-    /// How many acts the filter opens with behind the crash.
-    acts: u32,
-    /// Whether the same command acts there exactly where there is no act.
-    once: bool,
-    /// The parcel that is then taken.
-    reply_again: Vec<u8>,
-    /// The one behind it.
-    last: Vec<u8>,
+/// Adds the parcel that is taken next.
+fn put_taken<S: Site>(alloc: Global, answer: &mut Vec<u8>, site: &mut S) -> Result<(), AllocError> {
+    answer.extend_from_slice(b"; ")?;
+    let taken = taken(alloc, site)?;
+    answer.extend_from_slice(taken.as_slice())
 }
 
-impl Crashed {
-    /// All but the count of acts is the same.
-    fn is_like(&self, other: &Crashed) -> bool {
-        self.first == other.first
-            && self.reply == other.reply
-            && self.once == other.once
-            && self.reply_again == other.reply_again
-            && self.last == other.last
+/// A command that is handed to filter 1 again behind a crash, and between which bounds the count of acts is to lie there.
+#[derive(Clone, Copy)]
+struct Crash<'a> {
+    command: &'a Command,
+    least: u64,
+    most: u64,
+}
+
+impl Crash<'_> {
+    /// Adds what the filter answers before the crash, and the parcel that is then taken.
+    fn put_before(
+        &self,
+        alloc: Global,
+        answer: &mut Vec<u8>,
+        site: &mut MemorySite,
+    ) -> Result<(), AllocError> {
+        let word = word(open_and_hand(alloc, site, self.command));
+        answer.extend_from_slice(word.as_bytes())?;
+        put_taken(alloc, answer, site)
     }
-}
 
-/// What came of a command before a crash, with what comes of it behind the crash.
-fn behind_crash(
-    alloc: Global,
-    site: &mut MemorySite,
-    command: &Command,
-    first: &'static str,
-    reply: Vec<u8>,
-) -> Result<Crashed, ActError> {
-    let acts = count(alloc, site)?;
-    let once = open_and_hand(alloc, site, command) == Ok(acts == 0);
-    Ok(Crashed {
-        first,
-        reply,
-        acts,
-        once,
-        reply_again: taken(alloc, site)?,
-        last: taken(alloc, site)?,
-    })
-}
+    /// Adds how many acts the filter opens with behind the crash, and whether the same command acts there exactly where there is no act.
+    fn put_acts(
+        &self,
+        alloc: Global,
+        answer: &mut Vec<u8>,
+        acts: u32,
+        once: bool,
+    ) -> Result<(), AllocError> {
+        answer.extend_from_slice(b"; acts ")?;
+        let bounded = bounded(alloc, acts, acts, self.least, self.most)?;
+        answer.extend_from_slice(bounded.as_slice())?;
+        let once = if once { "; once" } else { "; not once" };
+        answer.extend_from_slice(once.as_bytes())
+    }
 
-/// Lets this device call fail, and then the site crash, and hands the command again to the filter that is opened after it.
-fn crash(alloc: Global, call: u32, choice: u64, command: &Command) -> Result<Crashed, ActError> {
-    let mut site = MemorySite::new(alloc, failing_plan(alloc, call)?)?;
-    let first = word(open_and_hand(alloc, &mut site, command));
-    let reply = taken(alloc, &mut site)?;
-    let mut site = site.crash_with(choice, small_plan(alloc, Vec::new(alloc)))?;
-    behind_crash(alloc, &mut site, command, first, reply)
-}
+    /// Adds what comes of the command behind the crash, and the two parcels that are then taken.
+    fn put_behind(
+        &self,
+        alloc: Global,
+        answer: &mut Vec<u8>,
+        site: &mut MemorySite,
+    ) -> Result<(), ActError> {
+        let acts = count(alloc, site)?;
+        let once = open_and_hand(alloc, site, self.command) == Ok(acts == 0);
+        self.put_acts(alloc, answer, acts, once)?;
+        put_taken(alloc, answer, site)?;
+        Ok(put_taken(alloc, answer, site)?)
+    }
 
-/// The answer to a command on a site where this call fails: what came of it, alike behind each crash of a list of choices, and whether the count
-/// of acts lies within these bounds.
-fn crashes(
-    alloc: Global,
-    call: u32,
-    choices: &str,
-    command: &Command,
-    bounds: (u64, u64),
-) -> Result<Vec<u8>, ActError> {
-    let one = crash(alloc, call, 0, command)?;
-    let mut least = one.acts;
-    let mut most = one.acts;
-    for choice in choices.split(',') {
-        let choice = choice.parse::<u64>().unwrap_or(0);
-        let came = crash(alloc, call, choice, command)?;
-        if !came.is_like(&one) {
-            return Ok(text(alloc, "not all alike")?);
+    /// Lets this device call fail, and then the site crash, and hands the command again to the filter that is opened after it; adds what
+    /// came of that.
+    fn play(
+        &self,
+        alloc: Global,
+        answer: &mut Vec<u8>,
+        call: u32,
+        choice: u64,
+    ) -> Result<(), ActError> {
+        let mut site = MemorySite::new(alloc, failing_plan(alloc, call)?)?;
+        self.put_before(alloc, answer, &mut site)?;
+        let mut site = site.crash_with(choice, small_plan(alloc, Vec::new(alloc)))?;
+        self.put_behind(alloc, answer, &mut site)
+    }
+
+    /// Whether the same comes of it where the choice is one of these.
+    fn is_alike(
+        &self,
+        alloc: Global,
+        one: &[u8],
+        call: u32,
+        choices: &str,
+    ) -> Result<bool, ActError> {
+        for choice in choices.split(',') {
+            let choice = choice.parse::<u64>().unwrap_or(0);
+            let mut came = Vec::new(alloc);
+            self.play(alloc, &mut came, call, choice)?;
+            if came.as_slice() != one {
+                return Ok(false);
+            }
         }
-        least = least.min(came.acts);
-        most = most.max(came.acts);
+        Ok(true)
     }
-    let acts = bounded(alloc, least, most, bounds.0, bounds.1)?;
-    Ok(told(alloc, &one, acts.as_slice())?)
+
+    /// What comes of it, alike behind each crash of a list of choices.
+    fn played(&self, alloc: Global, call: u32, choices: &str) -> Result<Vec<u8>, ActError> {
+        let mut one = Vec::new(alloc);
+        self.play(alloc, &mut one, call, 0)?;
+        if self.is_alike(alloc, one.as_slice(), call, choices)? {
+            Ok(one)
+        } else {
+            Ok(text(alloc, "not all alike")?)
+        }
+    }
 }
 
-/// What came of such crashes, as a text.
-fn told(alloc: Global, came: &Crashed, acts: &[u8]) -> Result<Vec<u8>, AllocError> {
-    let first = came.first;
-    let mut answer = text(alloc, first)?;
-    answer.extend_from_slice(b"; ")?;
-    answer.extend_from_slice(came.reply.as_slice())?;
-    answer.extend_from_slice(b"; acts ")?;
-    answer.extend_from_slice(acts)?;
-    let once = if came.once {
-        "; once; "
-    } else {
-        "; not once; "
+/// The answer to a row `crashes_filter`.
+fn crashes_answer(alloc: Global, row: &Row) -> Result<Vec<u8>, AllocError> {
+    let command = Command {
+        issue: 0,
+        moment: 5,
+        bytes: Bytes::from_slice(alloc, row.bytes(3))?,
     };
-    answer.extend_from_slice(once.as_bytes())?;
-    answer.extend_from_slice(came.reply_again.as_slice())?;
-    answer.extend_from_slice(b"; ")?;
-    answer.extend_from_slice(came.last.as_slice())?;
-    Ok(answer)
+    let crash = Crash {
+        command: &command,
+        least: number(row, 4),
+        most: number(row, 5),
+    };
+    let call = number(row, 1).min(100) as u32;
+    answered(alloc, crash.played(alloc, call, row.text(2)))
 }
 
 /// What a filter answered, or what it refused with.
@@ -311,43 +333,41 @@ fn answered(alloc: Global, came: Result<Vec<u8>, ActError>) -> Result<Vec<u8>, A
 }
 
 impl Disks {
-    /// The answer to a row about filter 1 of the site; none where it is no such row.
+    /// The answer to a row about filter 1 of the site, or else of the site or the shelf.
     ///
     /// `command ISSUE MOMENT BYTES` lets a command of run 7 wait, and tells how many wait; `hand RUN RUN` hands them to the filter, and tells
     /// whether each acted or was answered, what the filter then holds, and whether it has acts of these runs. `changed AT BYTE` is what
     /// the bytes open with where this one is another. `crashes_filter CALL CHOICES BYTES LEAST MOST` hands a command to a filter where this call
     /// fails, and again behind each crash that is picked so, where the count of acts is to lie between the two.
-    pub(crate) fn filter_answer(&mut self, row: &Row) -> Result<Option<Vec<u8>>, AllocError> {
-        let answer = match row.text(0) {
-            "command" => {
-                self.commands.push(command(self.alloc, row)?)?;
-                whole(self.alloc, self.commands.len() as u64)?
-            }
-            "hand" => self.hand(number(row, 1), number(row, 2))?,
-            "changed" => self.changed(number(row, 1), small(row, 2))?,
-            "crashes_filter" => {
-                let call = number(row, 1).min(100) as u32;
-                let command = Command {
-                    issue: 0,
-                    moment: 5,
-                    bytes: Bytes::from_slice(self.alloc, row.bytes(3))?,
-                };
-                let bounds = (number(row, 4), number(row, 5));
-                answered(
-                    self.alloc,
-                    crashes(self.alloc, call, row.text(2), &command, bounds),
-                )?
-            }
-            _ => return Ok(None),
-        };
-        Ok(Some(answer))
+    pub(crate) fn filter_answer(&mut self, row: &Row) -> Result<Vec<u8>, AllocError> {
+        match row.text(0) {
+            "command" => self.add_command(row),
+            "hand" => self.hand((number(row, 1), number(row, 2))),
+            "changed" => self.changed(number(row, 1), small(row, 2)),
+            "crashes_filter" => crashes_answer(self.alloc, row),
+            _ => self.site_answer(row),
+        }
+    }
+
+    fn add_command(&mut self, row: &Row) -> Result<Vec<u8>, AllocError> {
+        self.commands.push(command(self.alloc, row)?)?;
+        whole(self.alloc, self.commands.len() as u64)
     }
 
     /// Hands the commands that wait to the filter.
-    fn hand(&mut self, run: u64, other: u64) -> Result<Vec<u8>, AllocError> {
+    fn hand(&mut self, runs: (u64, u64)) -> Result<Vec<u8>, AllocError> {
+        let mut answer = String::new(self.alloc);
         let commands = mem::replace(&mut self.commands, Vec::new(self.alloc));
-        let came = play(self.alloc, &mut self.site, commands.as_slice(), run, other);
-        answered(self.alloc, came)
+        match play(
+            self.alloc,
+            &mut answer,
+            &mut self.site,
+            commands.as_slice(),
+            runs,
+        ) {
+            Ok(()) => Ok(answer.into_bytes()),
+            Err(error) => refused(self.alloc, error),
+        }
     }
 
     /// What the bytes open with where one is another.

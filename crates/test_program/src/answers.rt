@@ -50,17 +50,21 @@ pub(crate) fn commands(program: &Program) -> u32 {
     count
 }
 
+/// Whether a line begins with this number and the moment 0.
+fn is_numbered(alloc: Global, line: &str, number: u32) -> Result<bool, AllocError> {
+    let front = format!(in alloc; "{number} 0 ")?;
+    Ok(line.starts_with(front.as_str()))
+}
+
 /// The status, how many lines begin with their number from 0 and the moment 0, and each other line.
 pub(crate) fn records(alloc: Global, answer: &Answer) -> Result<String, AllocError> {
     let mut count = 0u32;
     let mut others = String::new(alloc);
     for line in answer.text().lines() {
-        let front = format!(in alloc; "{count} 0 ")?;
-        if line.starts_with(front.as_str()) {
+        if is_numbered(alloc, line, count)? {
             count = count.saturating_add(1);
         } else {
-            others.push_str(line)?;
-            others.push_str("\n")?;
+            writeln!(others, "{line}")?;
         }
     }
     format!(in alloc; "{}: {count} records\n{others}", answer.status)

@@ -34,63 +34,55 @@
 //     rehearsed POSITIONS ANSWER           the records, acts and rules that a rehearsal counts, called as a library
 //     rehearsal POSITIONS BYTES            the text of its playbook
 use crate::answers::{records, shown};
-use crate::loops::{answer_cuts, count_fronts, count_levels};
+use crate::loops::{answer_cuts, answer_with, count_fronts, count_levels};
+use crate::played::{Came, Plays};
 use crate::player::Player;
 use std::alloc::{AllocError, Global};
 use test_program_plays::{Answer, Rehearsed, count_rehearsed, text_rehearsed};
 use test_rows::Row;
 
-/// What came of a row.
-#[derive(Drop)]
-pub(crate) enum Came {
-    /// It asks nothing.
-    Done,
-    Said(Vec<u8>),
-    NotUnderstood,
-}
-
-/// That of a row which asks nothing.
-fn done(is_done: bool) -> Came {
-    if is_done {
-        Came::Done
+/// What came of a row which asks nothing.
+fn done(is_done: Result<bool, AllocError>) -> Result<Came, AllocError> {
+    if is_done? {
+        Ok(Came::Done)
     } else {
-        Came::NotUnderstood
+        Ok(Came::NotUnderstood)
     }
 }
 
 /// That of a text.
-fn said(text: Option<String>) -> Came {
-    match text {
-        Some(text) => Came::Said(text.into_bytes()),
-        None => Came::NotUnderstood,
+fn said(text: Result<Option<String>, AllocError>) -> Result<Came, AllocError> {
+    match text? {
+        Some(text) => Ok(Came::Said(text.into_bytes())),
+        None => Ok(Came::NotUnderstood),
     }
 }
 
 /// That of a number.
 fn count(alloc: Global, number: usize) -> Result<Came, AllocError> {
-    Ok(said(Some(format!(in alloc; "{number}")?)))
+    Ok(Came::Said(format!(in alloc; "{number}")?.into_bytes()))
 }
 
 /// The status and what was said.
-fn whole(alloc: Global, answer: Option<Answer>) -> Result<Came, AllocError> {
-    match answer {
-        Some(answer) => Ok(said(Some(shown(alloc, &answer)?))),
+fn whole(alloc: Global, answer: Result<Option<Answer>, AllocError>) -> Result<Came, AllocError> {
+    match answer? {
+        Some(answer) => Ok(Came::Said(shown(alloc, &answer)?.into_bytes())),
         None => Ok(Came::NotUnderstood),
     }
 }
 
 /// The status alone.
-fn status(alloc: Global, answer: Option<Answer>) -> Result<Came, AllocError> {
-    match answer {
+fn status(alloc: Global, answer: Result<Option<Answer>, AllocError>) -> Result<Came, AllocError> {
+    match answer? {
         Some(answer) => count(alloc, usize::from(answer.status)),
         None => Ok(Came::NotUnderstood),
     }
 }
 
 /// The status, the number of records, and the other lines.
-fn counted(alloc: Global, answer: Option<Answer>) -> Result<Came, AllocError> {
-    match answer {
-        Some(answer) => Ok(said(Some(records(alloc, &answer)?))),
+fn counted(alloc: Global, answer: Result<Option<Answer>, AllocError>) -> Result<Came, AllocError> {
+    match answer? {
+        Some(answer) => Ok(Came::Said(records(alloc, &answer)?.into_bytes())),
         None => Ok(Came::NotUnderstood),
     }
 }
@@ -120,43 +112,25 @@ fn rehearsal(alloc: Global, row: &Row, is_text: bool) -> Result<Came, AllocError
                 acts,
                 rules,
             },
-        ) => Ok(said(Some(format!(in alloc; "{records} {acts} {rules}")?))),
+        ) => Ok(Came::Said(format!(in alloc; "{records} {acts} {rules}")?.into_bytes())),
         None => Ok(Came::NotUnderstood),
     }
 }
 
-/// Plays a row that changes what the program is called on.
-fn prepare(player: &mut Player, row: &Row) -> Result<Option<Came>, AllocError> {
-    let is_done = match row.text(0) {
-        "site" => player.begin(row)?,
-        "text" => player.name_text(row)?,
-        "book" => player.name_book(row)?,
-        "file" => player.add(row)?,
-        "fill" => player.fill(row)?,
-        "crash" => player.crash(row)?,
-        "link" => player.link(row)?,
-        "peers" => player.fail_peers(row)?,
-        "fail" => player.fail_read(row),
-        _ => return Ok(None),
-    };
-    Ok(Some(done(is_done)))
-}
-
-/// Plays a row that calls the program.
-fn call(player: &mut Player, row: &Row) -> Result<Option<Came>, AllocError> {
+/// Plays a row that calls the program, asks what the calls have left, or asks for a rehearsal.
+fn call(player: &mut Player, row: &Row) -> Result<Came, AllocError> {
     let alloc = player.alloc;
-    let came = match row.text(0) {
-        "call" => whole(alloc, player.call(row)?)?,
-        "anew" => whole(alloc, player.call_anew(row)?)?,
-        "with" => whole(alloc, player.call_with(row)?)?,
-        "status" => status(alloc, player.call(row)?)?,
-        "records" => counted(alloc, player.call(row)?)?,
-        "fronts" => said(count_fronts(player, row)?),
-        "cuts" => said(answer_cuts(player, row)?),
-        "levels" => said(count_levels(player, row)?),
-        _ => return Ok(None),
-    };
-    Ok(Some(came))
+    match row.text(0) {
+        "call" => whole(alloc, player.call(row)),
+        "anew" => whole(alloc, player.call_anew(row)),
+        "with" => said(answer_with(player, row)),
+        "status" => status(alloc, player.call(row)),
+        "records" => counted(alloc, player.call(row)),
+        "fronts" => said(count_fronts(player, row)),
+        "cuts" => said(answer_cuts(player, row)),
+        "levels" => said(count_levels(player, row)),
+        _ => look(player, row),
+    }
 }
 
 /// Plays a row that asks what the calls have left, or for a rehearsal.
@@ -168,20 +142,26 @@ fn look(player: &mut Player, row: &Row) -> Result<Came, AllocError> {
         "lines" => count(alloc, player.program.line_count()),
         "sent" => Ok(Came::Said(player.program.sent().to_vec(alloc)?)),
         "commands" => count(alloc, player.commands() as usize),
-        "parcel" => Ok(said(player.parcel(row)?)),
+        "parcel" => said(player.parcel(row)),
         "rehearsal" => rehearsal(alloc, row, true),
         "rehearsed" => rehearsal(alloc, row, false),
         _ => Ok(Came::NotUnderstood),
     }
 }
 
-/// Plays a row.
-pub(crate) fn play(player: &mut Player, row: &Row) -> Result<Came, AllocError> {
-    if let Some(came) = prepare(player, row)? {
-        return Ok(came);
+impl Plays for Player {
+    fn play(&mut self, row: &Row) -> Result<Came, AllocError> {
+        match row.text(0) {
+            "site" => done(self.begin(row)),
+            "text" => done(self.name_text(row)),
+            "book" => done(self.name_book(row)),
+            "file" => done(self.add(row)),
+            "fill" => done(self.fill(row)),
+            "crash" => done(self.crash(row)),
+            "link" => done(self.link(row)),
+            "peers" => done(self.fail_peers(row)),
+            "fail" => done(Ok(self.fail_read(row))),
+            _ => call(self, row),
+        }
     }
-    if let Some(came) = call(player, row)? {
-        return Ok(came);
-    }
-    look(player, row)
 }

@@ -7,17 +7,17 @@ mod kinds;
 mod loops;
 mod pieces;
 mod plans;
+mod played;
 mod player;
 mod texts;
 mod view_calls;
 mod views;
 
-use kinds::{Came, play};
+use played::play_file;
 use player::Player;
 use std::io;
 use std::process::ExitCode;
 use std::rt::Files;
-use test_rows::{Row, Tally, read_file};
 use views::play_views;
 
 /// The files of rows. The texts that the first one names stand for all.
@@ -37,44 +37,21 @@ const FILES: [&str; 13] = [
     "limits.txt",
 ];
 
-/// Plays a row, and compares what came of it.
-fn play_row(
-    rt: &(impl Print + AllocGlobal),
-    player: &mut Player,
-    tally: &mut Tally,
-    row: &Row,
-) -> io::Result<()> {
-    match play(player, row)? {
-        Came::Done => Ok(()),
-        Came::Said(said) => tally.compare(rt, row, said.as_slice()),
-        Came::NotUnderstood => tally.compare(rt, row, b"the row is not understood"),
+/// Plays all files on this player; true where all rows agreed.
+fn play_on(rt: &(impl Print + Files + AllocGlobal), player: &mut Player) -> io::Result<bool> {
+    let mut agreed = true;
+    for name in FILES {
+        if !play_file(rt, player, name)? {
+            agreed = false;
+        }
     }
-}
-
-/// Plays a file; true where all rows agreed.
-fn play_file(
-    rt: &(impl Print + Files + AllocGlobal),
-    player: &mut Player,
-    name: &str,
-) -> io::Result<bool> {
-    let rows = read_file(rt, name)?;
-    let mut tally = Tally::new(rt.alloc(), name)?;
-    for row in &rows {
-        play_row(rt, player, &mut tally, row)?;
-    }
-    tally.end(rt)
+    Ok(agreed)
 }
 
 /// Plays all files; true where all rows agreed.
 fn play_all(rt: &(impl Print + Files + AllocGlobal)) -> io::Result<bool> {
     let mut player = Player::new(rt.alloc())?;
-    let mut agreed = true;
-    for name in FILES {
-        if !play_file(rt, &mut player, name)? {
-            agreed = false;
-        }
-    }
-    Ok(agreed)
+    play_on(rt, &mut player)
 }
 
 fn main(rt: HostRuntime) -> io::Result<ExitCode> {

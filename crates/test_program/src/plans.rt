@@ -47,40 +47,25 @@ fn weather(words: &str) -> Option<[Weather; 9]> {
     Some(weather)
 }
 
-/// The same site with what a field says.
-fn changed(outside: Outside, field: &str) -> Option<Outside> {
+/// Lets a site do what a field says; nothing where the field says nothing of a site.
+fn change(outside: &mut Outside, field: &str) -> Option<()> {
     let (name, value) = field.split_once(' ')?;
-    let changed = match name {
-        "room" => Outside {
-            room: number(value)?,
-            ..outside
-        },
-        "calls" => Outside {
-            calls: small_number(value)?,
-            ..outside
-        },
-        "failing" => Outside {
-            failing: Some(small_number(value)?),
-            ..outside
-        },
-        "stop" => Outside {
-            stop_clock: number(value)?,
-            ..outside
-        },
-        "weather" => Outside {
-            weather: weather(value)?,
-            ..outside
-        },
+    match name {
+        "room" => outside.room = number(value)?,
+        "calls" => outside.calls = small_number(value)?,
+        "failing" => outside.failing = Some(small_number(value)?),
+        "stop" => outside.stop_clock = number(value)?,
+        "weather" => outside.weather = weather(value)?,
         _ => return None,
-    };
-    Some(changed)
+    }
+    Some(())
 }
 
 /// What the fields of a row from this number on say.
 pub(crate) fn outside(row: &Row, first: usize) -> Option<Outside> {
     let mut outside = fair();
     for field in first..row.count() {
-        outside = changed(outside, row.text(field))?;
+        change(&mut outside, row.text(field))?;
     }
     Some(outside)
 }

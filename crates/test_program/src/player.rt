@@ -182,18 +182,6 @@ impl Player {
         self.call(row)
     }
 
-    /// Calls the program with the words of field 2, on a new shelf and a new site with the same files, and with one of the name in field
-    /// 1 and the bytes of the fields behind the words.
-    pub(crate) fn call_with(&mut self, row: &Row) -> Result<Option<Answer>, AllocError> {
-        let last = row.count().saturating_sub(1);
-        let Some(bytes) = joined(self.alloc, &self.texts, row, 3, last)? else {
-            return Ok(None);
-        };
-        let mut program = self.scene.program()?;
-        program.add(row.text(1), bytes.as_slice())?;
-        Ok(Some(program.call(row.text(2))?))
-    }
-
     /// Whether the bytes of a file of the disk are the text of this name.
     pub(crate) fn is_same(&mut self, row: &Row) -> Result<Option<bool>, AllocError> {
         let Some(number) = disk_file(row, 1) else {

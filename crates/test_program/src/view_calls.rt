@@ -106,15 +106,16 @@ fn told(alloc: Global, status: u8, site: &MemorySite) -> Result<Vec<u8>, AllocEr
     Ok(came)
 }
 
-/// The status of a call with these words, and behind it the lines that it said.
+/// The status of a call with the words of a line, and behind it the lines that it said.
 // (it promises nothing, so that what a call does is proved once and not in each function that plays one)
 fn called(
     alloc: Global,
-    words: &[String],
+    line: &str,
     shelf: &mut MemoryShelf,
     site: &mut MemorySite,
 ) -> Result<Vec<u8>, AllocError> {
-    let status = view(alloc, words, shelf, site);
+    let words = words(alloc, line)?;
+    let status = view(alloc, words.as_slice(), shelf, site);
     told(alloc, status, site)
 }
 
@@ -127,10 +128,9 @@ pub(crate) fn answer(
     read: Option<i128>,
     call: Option<i128>,
 ) -> Result<Vec<u8>, AllocError> {
-    let words = words(alloc, line)?;
     let mut shelf = shelf_of(alloc, files, read)?;
     let mut site = site(alloc, failing(alloc, call)?)?;
-    called(alloc, words.as_slice(), &mut shelf, &mut site)
+    called(alloc, line, &mut shelf, &mut site)
 }
 
 /// The same where the disk has this engine's file, and the shelf that one as `e.journal`.
@@ -142,8 +142,7 @@ pub(crate) fn answer_about(
     read: Option<i128>,
     call: Option<i128>,
 ) -> Result<Vec<u8>, AllocError> {
-    let words = words(alloc, line)?;
     let mut shelf = shelf_with(alloc, named, read)?;
     let mut site = site_with(alloc, disk, call)?;
-    called(alloc, words.as_slice(), &mut shelf, &mut site)
+    called(alloc, line, &mut shelf, &mut site)
 }

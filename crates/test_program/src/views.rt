@@ -2,25 +2,28 @@
 // the number of the call of `say` that fails, if one does, and in the last field the status and the lines that are to come. Those of
 // logs have the engine's files beside the words, those of books all playbooks on the shelf; both have beside that number that of the
 // read that fails.
+use crate::played::{Came, Plays, play_file};
 use crate::view_calls::{answer, answer_about};
+use std::alloc::{AllocError, Global};
 use std::io;
 use std::rt::Files;
-use test_rows::{Row, Tally, read_file};
+use test_rows::{Row, read_file};
 
-/// Plays a row of words, and compares what came of it.
-fn play_word(rt: &(impl Print + AllocGlobal), tally: &mut Tally, row: &Row) -> io::Result<()> {
-    let came = answer(rt.alloc(), row.text(0), &[], None, row.whole(1))?;
-    tally.compare(rt, row, came.as_slice())
+/// Rows of words.
+#[derive(Clone, Copy)]
+struct Words {
+    alloc: Global,
+}
+
+impl Plays for Words {
+    fn play(&mut self, row: &Row) -> Result<Came, AllocError> {
+        Ok(Came::Said(answer(self.alloc, row.text(0), &[], None, row.whole(1))?))
+    }
 }
 
 /// Plays the rows of words; true where all agreed.
 fn play_words(rt: &(impl Print + Files + AllocGlobal)) -> io::Result<bool> {
-    let rows = read_file(rt, "view_words.txt")?;
-    let mut tally = Tally::new(rt.alloc(), "view_words.txt")?;
-    for row in &rows {
-        play_word(rt, &mut tally, row)?;
-    }
-    tally.end(rt)
+    play_file(rt, &mut Words { alloc: rt.alloc() }, "view_words.txt")
 }
 
 /// The bytes of the file of this name; None where there is none.
@@ -33,57 +36,54 @@ fn find<'r>(files: &'r [Row], name: &str) -> Option<&'r [u8]> {
     None
 }
 
-/// Plays a row of logs over these engine's files, and compares what came of it.
-fn play_log(
-    rt: &(impl Print + AllocGlobal),
-    journals: &[Row],
-    tally: &mut Tally,
-    row: &Row,
-) -> io::Result<()> {
-    let disk = find(journals, row.text(1));
-    let named = find(journals, row.text(2));
-    let came = answer_about(
-        rt.alloc(),
-        row.text(0),
-        disk,
-        named,
-        row.whole(3),
-        row.whole(4),
-    )?;
-    tally.compare(rt, row, came.as_slice())
+/// Rows of logs over these engine's files.
+#[derive(Clone, Copy)]
+struct Logs<'a> {
+    alloc: Global,
+    journals: &'a [Row],
+}
+
+impl Plays for Logs<'_> {
+    fn play(&mut self, row: &Row) -> Result<Came, AllocError> {
+        let disk = find(self.journals, row.text(1));
+        let named = find(self.journals, row.text(2));
+        let (read, call) = (row.whole(3), row.whole(4));
+        Ok(Came::Said(answer_about(self.alloc, row.text(0), disk, named, read, call)?))
+    }
 }
 
 /// Plays the rows of logs; true where all agreed.
 fn play_logs(rt: &(impl Print + Files + AllocGlobal)) -> io::Result<bool> {
     let journals = read_file(rt, "view_journals.txt")?;
-    let rows = read_file(rt, "view_logs.txt")?;
-    let mut tally = Tally::new(rt.alloc(), "view_logs.txt")?;
-    for row in &rows {
-        play_log(rt, journals.as_slice(), &mut tally, row)?;
-    }
-    tally.end(rt)
+    let mut logs = Logs {
+        alloc: rt.alloc(),
+        journals: journals.as_slice(),
+    };
+    play_file(rt, &mut logs, "view_logs.txt")
 }
 
-/// Plays a row of books over these playbooks, and compares what came of it.
-fn play_book(
-    rt: &(impl Print + AllocGlobal),
-    books: &[Row],
-    tally: &mut Tally,
-    row: &Row,
-) -> io::Result<()> {
-    let came = answer(rt.alloc(), row.text(0), books, row.whole(1), row.whole(2))?;
-    tally.compare(rt, row, came.as_slice())
+/// Rows of books over these playbooks.
+#[derive(Clone, Copy)]
+struct Books<'a> {
+    alloc: Global,
+    books: &'a [Row],
+}
+
+impl Plays for Books<'_> {
+    fn play(&mut self, row: &Row) -> Result<Came, AllocError> {
+        let (read, call) = (row.whole(1), row.whole(2));
+        Ok(Came::Said(answer(self.alloc, row.text(0), self.books, read, call)?))
+    }
 }
 
 /// Plays the rows of this file over the playbooks of this list; true where all agreed.
 fn play_books(rt: &(impl Print + Files + AllocGlobal), list: &str, name: &str) -> io::Result<bool> {
-    let books = read_file(rt, list)?;
-    let rows = read_file(rt, name)?;
-    let mut tally = Tally::new(rt.alloc(), name)?;
-    for row in &rows {
-        play_book(rt, books.as_slice(), &mut tally, row)?;
-    }
-    tally.end(rt)
+    let playbooks = read_file(rt, list)?;
+    let mut books = Books {
+        alloc: rt.alloc(),
+        books: playbooks.as_slice(),
+    };
+    play_file(rt, &mut books, name)
 }
 
 /// Plays all rows of the program that only looks; true where all agreed.

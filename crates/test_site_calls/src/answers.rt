@@ -10,6 +10,11 @@ pub fn text(alloc: Global, text: &str) -> Result<Vec<u8>, AllocError> {
     Vec::from_slice(alloc, text.as_bytes())
 }
 
+/// What is answered to a row where there is no call of its name.
+pub fn no_such_row(alloc: Global) -> Result<Vec<u8>, AllocError> {
+    text(alloc, "no such row")
+}
+
 /// `ok` or `failed`.
 pub fn done(alloc: Global, done: Result<(), Failed>) -> Result<Vec<u8>, AllocError> {
     match done {
@@ -20,8 +25,7 @@ pub fn done(alloc: Global, done: Result<(), Failed>) -> Result<Vec<u8>, AllocErr
 
 /// A number in decimal.
 pub fn whole(alloc: Global, number: u64) -> Result<Vec<u8>, AllocError> {
-    let digits = format!(in alloc; "{number}")?;
-    text(alloc, digits.as_str())
+    Ok(format!(in alloc; "{number}")?.into_bytes())
 }
 
 /// A number, or `failed`.
@@ -32,19 +36,23 @@ pub fn counted(alloc: Global, number: Result<u64, Failed>) -> Result<Vec<u8>, Al
     }
 }
 
+/// Puts bytes behind their count; of more than 400 that are alike, the one.
+fn put_bytes(answer: &mut Vec<u8>, bytes: &[u8]) -> Result<(), AllocError> {
+    let Some(first) = bytes.first() else {
+        return Ok(());
+    };
+    if bytes.len() > 400 && bytes.iter().all(|byte| byte == first) {
+        answer.extend_from_slice(b" of ")?;
+        return answer.extend_from_slice(&bytes[..1]);
+    }
+    answer.extend_from_slice(b" ")?;
+    answer.extend_from_slice(bytes)
+}
+
 /// How many bytes there are, and then the bytes; of more than 400 that are alike, the one.
 pub fn listed(alloc: Global, bytes: &[u8]) -> Result<Vec<u8>, AllocError> {
     let mut answer = whole(alloc, bytes.len() as u64)?;
-    let Some(first) = bytes.first() else {
-        return Ok(answer);
-    };
-    answer.push(b' ')?;
-    if bytes.len() > 400 && bytes.iter().all(|byte| byte == first) {
-        answer.extend_from_slice(b"of ")?;
-        answer.push(*first)?;
-        return Ok(answer);
-    }
-    answer.extend_from_slice(bytes)?;
+    put_bytes(&mut answer, bytes)?;
     Ok(answer)
 }
 

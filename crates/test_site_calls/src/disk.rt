@@ -1,7 +1,7 @@
 // The calls of a disk.
 ghost use Rattle.std.specs.Prelude.{◌≤◌};
 
-use crate::answers::{FILLER, counted, done, read_into, text};
+use crate::answers::{FILLER, counted, done, no_such_row, read_into, text, whole};
 use crate::composed::{sync_often, write_and_sync};
 use crate::fields::{number, small};
 use crate::many::{read_blocks, write_pieces};
@@ -12,28 +12,27 @@ use test_rows::Row;
 /// The most bytes of a file of a disk.
 pub(crate) const MOST: u64 = 67_108_864;
 
-/// The answer to a row that is a call of a disk, by the name of the call and the number of a file, 0 to 16; none where it is no such row.
+/// The answer to a row that is a call of a disk, by the name of the call and the number of a file, 0 to 16; `no such row` where it is none.
 ///
 /// `length FILE`, `read FILE AT COUNT`, `write FILE AT BYTES`, `sync FILE`; `write_and_sync FILE AT BYTES` and `sync_often FILE TIMES`;
 /// `front_unlike FILE FRONT BYTES OTHERS` tells whether a file begins so and has neither these bytes nor the others; `write_pieces FILE
 /// COUNT` and `read_blocks FILE COUNT` are many calls (`many`).
-pub fn disk_answer<D: Disk>(
+pub(crate) fn disk_answer<D: Disk>(
     alloc: Global,
     disk: &mut D,
     row: &Row,
-) -> Result<Option<Vec<u8>>, AllocError> {
+) -> Result<Vec<u8>, AllocError> {
     let file = small(row, 1);
     if file > 16 {
-        return Ok(None);
+        return no_such_row(alloc);
     }
-    let answer = match row.text(0) {
-        "length" => counted(alloc, disk.length(file))?,
-        "read" => read(alloc, disk, file, number(row, 2), number(row, 3))?,
-        "write" => write(alloc, disk, file, number(row, 2), row.bytes(3))?,
-        "sync" => done(alloc, disk.sync(file))?,
-        _ => return composed_answer(alloc, disk, file, row),
-    };
-    Ok(Some(answer))
+    match row.text(0) {
+        "length" => counted(alloc, disk.length(file)),
+        "read" => read(alloc, disk, file, number(row, 2), number(row, 3)),
+        "write" => write(alloc, disk, file, number(row, 2), row.bytes(3)),
+        "sync" => done(alloc, disk.sync(file)),
+        _ => composed_answer(alloc, disk, file, row),
+    }
 }
 
 /// The answer to a row that is several calls.
@@ -42,21 +41,20 @@ fn composed_answer<D: Disk>(
     disk: &mut D,
     file: u8,
     row: &Row,
-) -> Result<Option<Vec<u8>>, AllocError>
+) -> Result<Vec<u8>, AllocError>
     requires { file ≤ 16 }
 {
-    let answer = match row.text(0) {
-        "write_and_sync" => write_durably(alloc, disk, file, number(row, 2), row.bytes(3))?,
+    match row.text(0) {
+        "write_and_sync" => write_durably(alloc, disk, file, number(row, 2), row.bytes(3)),
         "sync_often" => {
             sync_often(disk, file, small(row, 2));
-            text(alloc, "ok")?
+            text(alloc, "ok")
         }
-        "front_unlike" => front_unlike(alloc, disk, file, row)?,
-        "write_pieces" => done(alloc, write_pieces(disk, file, number(row, 2)))?,
-        "read_blocks" => counted(alloc, read_blocks(disk, file, number(row, 2)))?,
-        _ => return Ok(None),
-    };
-    Ok(Some(answer))
+        "front_unlike" => front_unlike(alloc, disk, file, row),
+        "write_pieces" => done(alloc, write_pieces(disk, file, number(row, 2))),
+        "read_blocks" => counted(alloc, read_blocks(disk, file, number(row, 2))),
+        _ => no_such_row(alloc),
+    }
 }
 
 /// Reads at most 4,096 bytes.
@@ -107,18 +105,18 @@ fn write_durably<D: Disk>(
     done(alloc, write_and_sync(disk, file, at, bytes))
 }
 
-/// The front of a file, at most 16 bytes.
-fn front<D: Disk>(alloc: Global, disk: &mut D, file: u8) -> Result<Option<Vec<u8>>, AllocError>
-    requires { file ≤ 16 }
-{
-    let mut block = [0u8; 16];
-    match disk.read(file, 0, &mut block) {
-        Ok(count) => Ok(Some(block[..(count as usize).min(16)].to_vec(alloc)?)),
-        Err(_) => Ok(None),
+/// How many bytes a front has, where it begins with those of field 2 and is neither those of field 3 nor those of field 4.
+fn unlike(alloc: Global, front: &[u8], row: &Row) -> Result<Vec<u8>, AllocError> {
+    if !front.starts_with(row.bytes(2)) {
+        return text(alloc, "begins otherwise");
     }
+    if front == row.bytes(3) || front == row.bytes(4) {
+        return text(alloc, "alike");
+    }
+    whole(alloc, front.len() as u64)
 }
 
-/// How many bytes the front of a file has, where it begins with those of field 2 and is neither those of field 3 nor those of field 4.
+/// The same of the front of a file, at most 16 bytes.
 fn front_unlike<D: Disk>(
     alloc: Global,
     disk: &mut D,
@@ -127,14 +125,9 @@ fn front_unlike<D: Disk>(
 ) -> Result<Vec<u8>, AllocError>
     requires { file ≤ 16 }
 {
-    let Some(front) = front(alloc, disk, file)? else {
-        return text(alloc, "failed");
-    };
-    if !front.starts_with(row.bytes(2)) {
-        return text(alloc, "begins otherwise");
+    let mut block = [0u8; 16];
+    match disk.read(file, 0, &mut block) {
+        Ok(count) => unlike(alloc, &block[..(count as usize).min(16)], row),
+        Err(_) => text(alloc, "failed"),
     }
-    if front.as_slice() == row.bytes(3) || front.as_slice() == row.bytes(4) {
-        return text(alloc, "alike");
-    }
-    counted(alloc, Ok(front.len() as u64))
 }

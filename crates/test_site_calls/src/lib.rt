@@ -12,8 +12,6 @@ mod shelf;
 mod site;
 
 pub use composed::sync_lent;
-pub use disk::disk_answer;
 pub use fields::{number, small};
-pub use rack::rack_answer;
-pub use shelf::shelf_answer;
+pub use shelf::outside_answer;
 pub use site::{parcel_answer, site_answer};

@@ -1,6 +1,7 @@
 // Rows that make one end of a wire, and those of calls on it.
-use crate::links::{call_list, pieces};
+use crate::links::{call_list, link_over_pieces};
 use crate::plans::{site, whole_link};
+use crate::played::Answers;
 use crate::slow::Slow;
 use crate::streams::{long_command, nothings};
 use crate::wires::Wires;
@@ -13,13 +14,6 @@ use test_site_calls::number;
 
 /// Ends of wires in memory.
 pub(crate) type Ends = Wires<MemorySite, Slow<MemoryLink>>;
-
-/// The link of a row `asks ROOM FAILING PIECE ..`.
-fn link_over_pieces(alloc: Global, row: &Row) -> Result<MemoryLink, AllocError> {
-    let failing = call_list(alloc, row.text(2))?;
-    let pieces = pieces(alloc, row)?;
-    MemoryLink::new(alloc, pieces, failing, number(row, 1).min(1_000_000))
-}
 
 /// The link of a row `slow ROOM FAILING MOST`, over which nothing comes.
 fn link_that_ends(alloc: Global, row: &Row) -> Result<MemoryLink, AllocError> {
@@ -41,7 +35,7 @@ fn link_of_nothings(alloc: Global, row: &Row) -> Result<MemoryLink, AllocError> 
     whole_link(alloc, lines, number(row, 2).min(4_000_000))
 }
 
-/// The link of a row that makes an end.
+/// The link of a row that makes an end, as `asks ROOM FAILING PIECE ..`.
 fn link(alloc: Global, row: &Row) -> Result<MemoryLink, AllocError> {
     match row.text(0) {
         "line" => link_of_line(alloc, row),
@@ -61,55 +55,42 @@ fn most(row: &Row) -> usize {
     }
 }
 
-/// Makes the end of a row.
-fn make(alloc: Global, ends: &mut Ends, row: &Row) -> Result<(), AllocError> {
+/// What comes of a row that makes an end.
+fn made(alloc: Global, ends: &mut Ends, row: &Row) -> Result<Vec<u8>, AllocError> {
     let link = Slow::new(link(alloc, row)?, most(row));
-    let site = site(alloc)?;
-    if row.text(0) == "asks" || row.text(0) == "slow" {
-        ends.ask(site, link)
-    } else {
-        ends.reply(site, link)
+    match row.text(0) {
+        "asks" | "slow" => ends.ask(site(alloc)?, link),
+        _ => ends.reply(site(alloc)?, link),
     }
 }
 
 /// The bytes that were sent, or how many, where there are many.
-fn sent(alloc: Global, link: Option<Slow<MemoryLink>>) -> Result<Vec<u8>, AllocError> {
-    let Some(link) = link else {
-        return text(alloc, "no wire");
-    };
-    let link = link.into_link();
-    let count = link.sent().len();
+fn sent(alloc: Global, bytes: &[u8]) -> Result<Vec<u8>, AllocError> {
+    let count = bytes.len();
     if count > 1_000 {
-        let line = format!(in alloc; "{count} bytes")?;
-        return Ok(line.into_bytes());
+        return Ok(format!(in alloc; "{count} bytes")?.into_bytes());
     }
-    Vec::from_slice(alloc, link.sent())
-}
-
-/// What comes of a row that makes an end.
-fn made(alloc: Global, ends: &mut Ends, row: &Row) -> Result<Vec<u8>, AllocError> {
-    make(alloc, ends, row)?;
-    text(alloc, "ok")
+    Vec::from_slice(alloc, bytes)
 }
 
 /// What comes of a row that gives an end up.
 fn given_up(alloc: Global, ends: &mut Ends) -> Result<Vec<u8>, AllocError> {
-    sent(alloc, ends.into_link())
-}
-
-/// What comes of a call on an end.
-fn called(alloc: Global, ends: &mut Ends, row: &Row) -> Result<Vec<u8>, AllocError> {
-    match ends.answer(row)? {
-        Some(answer) => Ok(answer),
-        None => text(alloc, "no such row"),
+    match ends.into_link() {
+        Some(link) => {
+            let link = link.into_link();
+            sent(alloc, link.sent())
+        }
+        None => text(alloc, "no wire"),
     }
 }
 
-/// What comes of a row; `no such row` where there is no call of that name.
-pub(crate) fn end_answer(alloc: Global, ends: &mut Ends, row: &Row) -> Result<Vec<u8>, AllocError> {
-    match row.text(0) {
-        "asks" | "slow" | "answers" | "line" | "rest" | "flood" => made(alloc, ends, row),
-        "sent" => given_up(alloc, ends),
-        _ => called(alloc, ends, row),
+impl Answers for Ends {
+    fn answer(&mut self, row: &Row) -> Result<Vec<u8>, AllocError> {
+        let alloc = self.alloc();
+        match row.text(0) {
+            "asks" | "slow" | "answers" | "line" | "rest" | "flood" => made(alloc, self, row),
+            "sent" => given_up(alloc, self),
+            _ => self.called(row),
+        }
     }
 }

@@ -7,11 +7,9 @@ use test_site_calls::answers::{text, whole};
 use test_site_calls::{number, small};
 
 /// `ok` or `failed`.
-fn done(alloc: Global, done: io::Result<()>) -> Result<Vec<u8>, AllocError> {
-    match done {
-        Ok(()) => text(alloc, "ok"),
-        Err(_) => text(alloc, "failed"),
-    }
+fn done(alloc: Global, done: io::Result<()>) -> Result<Option<Vec<u8>>, AllocError> {
+    let word = if done.is_ok() { "ok" } else { "failed" };
+    Ok(Some(text(alloc, word)?))
 }
 
 /// Takes the right to write a file.
@@ -46,16 +44,18 @@ pub(crate) fn folder_answer<R: Files>(
     row: &Row,
 ) -> Result<Option<Vec<u8>>, AllocError> {
     let name = row.text(1);
-    let came = match row.text(0) {
-        "file" => fs::write(rt, name, row.bytes(2)),
-        "long" => make_long(rt, alloc, name, number(row, 2), small(row, 3)),
-        "folder" => fs::create_dir(rt, name),
-        "rename" => fs::rename(rt, name, row.text(2)),
-        "protect" => protect(rt, name),
-        "remove" => fs::remove_file(rt, name),
-        "remove_folder" => fs::remove_dir(rt, name),
-        "size" => return Ok(Some(size(rt, alloc, name)?)),
-        _ => return Ok(None),
-    };
-    Ok(Some(done(alloc, came)?))
+    match row.text(0) {
+        "file" => done(alloc, fs::write(rt, name, row.bytes(2))),
+        "long" => done(
+            alloc,
+            make_long(rt, alloc, name, number(row, 2), small(row, 3)),
+        ),
+        "folder" => done(alloc, fs::create_dir(rt, name)),
+        "rename" => done(alloc, fs::rename(rt, name, row.text(2))),
+        "protect" => done(alloc, protect(rt, name)),
+        "remove" => done(alloc, fs::remove_file(rt, name)),
+        "remove_folder" => done(alloc, fs::remove_dir(rt, name)),
+        "size" => Ok(Some(size(rt, alloc, name)?)),
+        _ => Ok(None),
+    }
 }

@@ -3,7 +3,7 @@ use cacao_site::{Bytes, Parcel};
 use oc2_wire_lines::{first_line, is_carried, nothing_line, read_line, write_line};
 use std::alloc::{AllocError, Global};
 use test_rows::Row;
-use test_site_calls::answers::{text, whole};
+use test_site_calls::answers::{no_such_row, text, whole};
 use test_site_calls::number;
 
 /// The parcel of a row `CALL LETTER AGENT RUN ISSUE ..`, with these bytes.
@@ -26,18 +26,22 @@ fn written(alloc: Global, parcel: &Parcel) -> Result<Vec<u8>, AllocError> {
     Ok(line.into_vec())
 }
 
-/// The fields of the parcel that a line is; `nothing` where it is none.
-fn read(alloc: Global, back: bool, line: &[u8]) -> Result<Vec<u8>, AllocError> {
-    let Some(parcel) = read_line(alloc, back, line)? else {
-        return text(alloc, "nothing");
-    };
+/// The fields of a parcel.
+fn fields(alloc: Global, parcel: &Parcel) -> Result<Vec<u8>, AllocError> {
     let agent = parcel.agent;
     let run = parcel.run;
     let issue = parcel.issue;
-    let head = format!(in alloc; "agent {agent} run {run} issue {issue} ")?;
-    let mut answer = head.into_bytes();
+    let mut answer = format!(in alloc; "agent {agent} run {run} issue {issue} ")?.into_bytes();
     answer.extend_from_slice(parcel.bytes.as_slice())?;
     Ok(answer)
+}
+
+/// The fields of the parcel that a line is; `nothing` where it is none.
+fn read(alloc: Global, back: bool, line: &[u8]) -> Result<Vec<u8>, AllocError> {
+    match read_line(alloc, back, line)? {
+        Some(parcel) => fields(alloc, &parcel),
+        None => text(alloc, "nothing"),
+    }
 }
 
 /// The first line and what stands behind it; `no line` where there is none.
@@ -49,6 +53,12 @@ fn first(alloc: Global, bytes: &[u8]) -> Result<Vec<u8>, AllocError> {
     answer.extend_from_slice(b" and ")?;
     answer.extend_from_slice(rest)?;
     Ok(answer)
+}
+
+/// The line of the parcel of a row.
+fn write(alloc: Global, row: &Row) -> Result<Vec<u8>, AllocError> {
+    let parcel = parcel(row, Bytes::from_slice(alloc, row.bytes(5))?);
+    written(alloc, &parcel)
 }
 
 /// So many bytes that are alike.
@@ -75,18 +85,14 @@ fn long(alloc: Global, row: &Row) -> Result<Vec<u8>, AllocError> {
     line_size(alloc, &parcel(row, Bytes::from_vec(bytes)))
 }
 
-/// What comes of a call on lines; none where the row is no such call.
-pub(crate) fn line_answer(alloc: Global, row: &Row) -> Result<Option<Vec<u8>>, AllocError> {
-    let answer = match row.text(0) {
-        "write" => {
-            let parcel = parcel(row, Bytes::from_slice(alloc, row.bytes(5))?);
-            written(alloc, &parcel)?
-        }
-        "long" => long(alloc, row)?,
-        "read" => read(alloc, row.text(1) == "r", row.bytes(2))?,
-        "first" => first(alloc, row.bytes(1))?,
-        "nothing" => Vec::from_slice(alloc, nothing_line())?,
-        _ => return Ok(None),
-    };
-    Ok(Some(answer))
+/// What comes of a call on lines; `no such row` where the row is none.
+pub(crate) fn line_answer(alloc: Global, row: &Row) -> Result<Vec<u8>, AllocError> {
+    match row.text(0) {
+        "write" => write(alloc, row),
+        "long" => long(alloc, row),
+        "read" => read(alloc, row.text(1) == "r", row.bytes(2)),
+        "first" => first(alloc, row.bytes(1)),
+        "nothing" => Vec::from_slice(alloc, nothing_line()),
+        _ => no_such_row(alloc),
+    }
 }

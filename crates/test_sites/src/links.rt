@@ -1,5 +1,7 @@
 // Calls on a link and on peers in memory.
-
+use crate::lines::line_answer;
+use crate::plans::whole_link;
+use crate::played::Answers;
 use cacao_site::{Bytes, Failed};
 use cacao_site_memory::CallList;
 use oc2_wire_link::{Link, Peers};
@@ -15,15 +17,6 @@ pub(crate) struct Links {
     alloc: Global,
     link: Option<MemoryLink>,
     peers: Option<MemoryPeers>,
-}
-
-/// The link that comes of a start, or else of an accept.
-fn linked(peers: &mut MemoryPeers, starts: bool) -> Option<MemoryLink> {
-    if starts {
-        peers.start().ok()
-    } else {
-        peers.accept().ok()
-    }
 }
 
 /// What comes of a bind.
@@ -55,7 +48,7 @@ pub(crate) fn call_list(alloc: Global, field: &str) -> Result<CallList, AllocErr
 }
 
 /// The pieces of a row `link ROOM FAILING PIECE .. ANSWER`.
-pub(crate) fn pieces(alloc: Global, row: &Row) -> Result<Pieces, AllocError> {
+fn pieces(alloc: Global, row: &Row) -> Result<Pieces, AllocError> {
     let mut pieces = Vec::new(alloc);
     for field in 3..row.count().saturating_sub(1) {
         pieces.push(Bytes::from_slice(alloc, row.bytes(field))?)?;
@@ -63,17 +56,17 @@ pub(crate) fn pieces(alloc: Global, row: &Row) -> Result<Pieces, AllocError> {
     Ok(Pieces::from_vec(pieces))
 }
 
+/// The link of such a row.
+pub(crate) fn link_over_pieces(alloc: Global, row: &Row) -> Result<MemoryLink, AllocError> {
+    let failing = call_list(alloc, row.text(2))?;
+    let pieces = pieces(alloc, row)?;
+    MemoryLink::new(alloc, pieces, failing, number(row, 1).min(1_000_000))
+}
+
 /// A link over which one piece comes, that of this number.
 fn numbered_link(alloc: Global, number: u64) -> Result<MemoryLink, AllocError> {
     let piece = format!(in alloc; "link {number}")?;
-    let mut pieces = Vec::new(alloc);
-    pieces.push(Bytes::from_vec(piece.into_bytes()))?;
-    MemoryLink::new(
-        alloc,
-        Pieces::from_vec(pieces),
-        CallList::from_vec(Vec::new(alloc)),
-        0,
-    )
+    whole_link(alloc, piece.into_bytes(), 0)
 }
 
 /// So many links, numbered from 0.
@@ -85,19 +78,24 @@ fn numbered_links(alloc: Global, count: u64) -> Result<MemoryLinks, AllocError> 
     Ok(MemoryLinks::from_vec(links))
 }
 
-/// What a link gives into a slice of so many bytes, and whether what lies behind changed.
-fn received(alloc: Global, link: &mut MemoryLink, size: u64) -> Result<Vec<u8>, AllocError> {
-    let mut buffer = vec![in alloc; b'.'; size.min(10_000) as usize]?;
-    let Ok(count) = link.receive(buffer.as_mut_slice()) else {
-        return text(alloc, "failed");
-    };
-    let count = (count as usize).min(buffer.len());
+/// The front of a buffer that has so many bytes, and whether what lies behind changed.
+fn filled(alloc: Global, buffer: &[u8], count: usize) -> Result<Vec<u8>, AllocError> {
+    let count = count.min(buffer.len());
     let mut answer = format!(in alloc; "{count} ")?.into_bytes();
-    answer.extend_from_slice(&buffer.as_slice()[..count])?;
-    if buffer.as_slice()[count..].iter().any(|byte| *byte != b'.') {
+    answer.extend_from_slice(&buffer[..count])?;
+    if buffer[count..].iter().any(|byte| *byte != b'.') {
         answer.extend_from_slice(b", and what lies behind changed")?;
     }
     Ok(answer)
+}
+
+/// What a link gives into a slice of so many bytes, and whether what lies behind changed.
+fn received(alloc: Global, link: &mut MemoryLink, size: u64) -> Result<Vec<u8>, AllocError> {
+    let mut buffer = vec![in alloc; b'.'; size.min(10_000) as usize]?;
+    match link.receive(buffer.as_mut_slice()) {
+        Ok(count) => filled(alloc, buffer.as_slice(), count as usize),
+        Err(_) => text(alloc, "failed"),
+    }
 }
 
 impl Links {
@@ -110,26 +108,9 @@ impl Links {
         }
     }
 
-    pub(crate) fn alloc(&self) -> Global {
-        self.alloc
-    }
-
-    /// What comes of a call on the link or the peers, or of a row that makes them.
-    pub(crate) fn answer(&mut self, row: &Row) -> Result<Vec<u8>, AllocError> {
-        match row.text(0) {
-            "link" => self.make_link(row),
-            "peers" => self.make_peers(row),
-            "send" | "receive" | "sent" => self.link_answer(row),
-            "start" | "accept" | "bind" | "close" => self.peers_answer(row),
-            _ => text(self.alloc, "no such row"),
-        }
-    }
-
     fn make_link(&mut self, row: &Row) -> Result<Vec<u8>, AllocError> {
-        let failing = call_list(self.alloc, row.text(2))?;
-        let pieces = pieces(self.alloc, row)?;
-        self.link = Some(MemoryLink::new(self.alloc, pieces, failing, number(row, 1))?);
-        text(self.alloc, "ok")
+        let link = link_over_pieces(self.alloc, row)?;
+        self.keep(Ok(link))
     }
 
     fn make_peers(&mut self, row: &Row) -> Result<Vec<u8>, AllocError> {
@@ -150,14 +131,14 @@ impl Links {
         }
     }
 
-    /// Keeps a link that the peers gave.
-    fn keep(&mut self, link: Option<MemoryLink>) -> Result<Vec<u8>, AllocError> {
+    /// Keeps a link.
+    fn keep(&mut self, link: Result<MemoryLink, Failed>) -> Result<Vec<u8>, AllocError> {
         match link {
-            Some(link) => {
+            Ok(link) => {
                 self.link = Some(link);
                 text(self.alloc, "ok")
             }
-            None => text(self.alloc, "failed"),
+            Err(_) => text(self.alloc, "failed"),
         }
     }
 
@@ -168,10 +149,27 @@ impl Links {
         match row.text(0) {
             "bind" => bound(self.alloc, peers),
             "close" => closed(self.alloc, peers, self.link.take()),
-            word => {
-                let link = linked(peers, word == "start");
+            "start" => {
+                let link = peers.start();
                 self.keep(link)
             }
+            _ => {
+                let link = peers.accept();
+                self.keep(link)
+            }
+        }
+    }
+}
+
+impl Answers for Links {
+    /// What comes of a call on the link or the peers, or of a row that makes them, or else of a call on lines.
+    fn answer(&mut self, row: &Row) -> Result<Vec<u8>, AllocError> {
+        match row.text(0) {
+            "link" => self.make_link(row),
+            "peers" => self.make_peers(row),
+            "send" | "receive" | "sent" => self.link_answer(row),
+            "start" | "accept" | "bind" | "close" => self.peers_answer(row),
+            _ => line_answer(self.alloc, row),
         }
     }
 }

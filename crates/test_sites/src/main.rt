@@ -10,6 +10,7 @@ mod lines;
 mod links;
 mod outside;
 mod plans;
+mod played;
 mod site_rows;
 mod slow;
 mod streams;

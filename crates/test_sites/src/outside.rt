@@ -1,5 +1,6 @@
 // The outside over the system, called by rows.
 use crate::folder::folder_answer;
+use crate::played::Answers;
 use cacao_site_files::{FileShelf, FileSite};
 use std::alloc::{AllocError, Global};
 use std::fs::File;
@@ -8,7 +9,7 @@ use std::mem;
 use std::rt::Files;
 use test_rows::Row;
 use test_site_calls::answers::text;
-use test_site_calls::{disk_answer, rack_answer, shelf_answer, site_answer};
+use test_site_calls::outside_answer;
 
 /// The names that a shelf reads at one moment.
 static TOGETHER: [&str; 2] = ["one", "two"];
@@ -35,47 +36,44 @@ impl<'a, R: Files<File = File> + Print> Outside<'a, R> {
         }
     }
 
-    /// The answer to a row; `no such row` where there is no call of that name.
-    pub(crate) fn answer(&mut self, row: &Row) -> Result<Vec<u8>, AllocError> {
-        if self.is_made(row) {
-            return text(self.alloc, "ok");
-        }
-        if let Some(answer) = folder_answer(self.rt, self.alloc, row)? {
-            return Ok(answer);
-        }
-        match self.call_answer(row)? {
-            Some(answer) => Ok(answer),
-            None => text(self.alloc, "no such row"),
-        }
+    /// Takes this site in the place of the present one.
+    fn put_site(&mut self, site: FileSite<'a, R>) -> Result<Vec<u8>, AllocError> {
+        self.site = site;
+        text(self.alloc, "ok")
     }
 
-    /// Makes a site or the shelf anew, and answers whether the row asks for that.
-    ///
+    /// Takes this shelf in the place of the present one.
+    fn put_shelf(&mut self, shelf: FileShelf<'a, R>) -> Result<Vec<u8>, AllocError> {
+        self.shelf = shelf;
+        text(self.alloc, "ok")
+    }
+
+    /// Exchanges the present site and the other one.
+    fn swap(&mut self) -> Result<Vec<u8>, AllocError> {
+        mem::swap(&mut self.site, &mut self.other);
+        text(self.alloc, "ok")
+    }
+
+    /// The answer of the folder, or else of the site or the shelf.
+    fn call_answer(&mut self, row: &Row) -> Result<Vec<u8>, AllocError> {
+        match folder_answer(self.rt, self.alloc, row)? {
+            Some(answer) => Ok(answer),
+            None => outside_answer(self.alloc, &mut self.site, &mut self.shelf, row),
+        }
+    }
+}
+
+impl<'a, R: Files<File = File> + Print> Answers for Outside<'a, R> {
     /// `site` makes a site that writes, `reader` one that reads, in the place of the present one; `swap` exchanges the present one and another.
     /// `together` makes a shelf that reads the files `one` and `two` at one moment, `shelf` one that does not.
-    fn is_made(&mut self, row: &Row) -> bool {
+    fn answer(&mut self, row: &Row) -> Result<Vec<u8>, AllocError> {
         match row.text(0) {
-            "site" => self.site = FileSite::writing(self.rt, self.alloc),
-            "reader" => self.site = FileSite::reading(self.rt, self.alloc),
-            "swap" => mem::swap(&mut self.site, &mut self.other),
-            "together" => self.shelf = FileShelf::of_one_moment(self.rt, &TOGETHER),
-            "shelf" => self.shelf = FileShelf::new(self.rt),
-            _ => return false,
+            "site" => self.put_site(FileSite::writing(self.rt, self.alloc)),
+            "reader" => self.put_site(FileSite::reading(self.rt, self.alloc)),
+            "swap" => self.swap(),
+            "together" => self.put_shelf(FileShelf::of_one_moment(self.rt, &TOGETHER)),
+            "shelf" => self.put_shelf(FileShelf::new(self.rt)),
+            _ => self.call_answer(row),
         }
-        true
-    }
-
-    /// The answer of the site or the shelf; none where the row calls neither.
-    fn call_answer(&mut self, row: &Row) -> Result<Option<Vec<u8>>, AllocError> {
-        if let Some(answer) = disk_answer(self.alloc, &mut self.site, row)? {
-            return Ok(Some(answer));
-        }
-        if let Some(answer) = rack_answer(self.alloc, &mut self.site, row)? {
-            return Ok(Some(answer));
-        }
-        if let Some(answer) = site_answer(self.alloc, &mut self.site, row)? {
-            return Ok(Some(answer));
-        }
-        shelf_answer(self.alloc, &mut self.shelf, row)
     }
 }

@@ -5,8 +5,8 @@ use oc2_wire_link::Link;
 use oc2_wire_site::{LinkState, WireSite};
 use std::alloc::{AllocError, Global};
 use test_rows::Row;
-use test_site_calls::answers::{text, whole};
-use test_site_calls::{disk_answer, number, site_answer, small};
+use test_site_calls::answers::{no_such_row, text, whole};
+use test_site_calls::{number, site_answer, small};
 
 /// A wire, where there is one.
 #[derive(Drop)]
@@ -65,22 +65,29 @@ impl<S: Site + Drop, K: Link + Drop> Wires<S, K> {
         Wires { alloc, wire: None }
     }
 
-    /// Makes the end that asks, over this site and this link.
-    pub(crate) fn ask(&mut self, site: S, link: K) -> Result<(), AllocError> {
-        match WireSite::asking(self.alloc, site, link) {
-            Ok(wire) => self.wire = Some(wire),
-            Err(_) => return Err(AllocError),
+    pub(crate) fn alloc(&self) -> Global {
+        self.alloc
+    }
+
+    /// Keeps an end that was made, if memory sufficed.
+    fn keep(&mut self, made: Result<WireSite<S, K>, K>) -> Result<Vec<u8>, AllocError> {
+        match made {
+            Ok(wire) => {
+                self.wire = Some(wire);
+                text(self.alloc, "ok")
+            }
+            Err(_) => Err(AllocError),
         }
-        Ok(())
+    }
+
+    /// Makes the end that asks, over this site and this link.
+    pub(crate) fn ask(&mut self, site: S, link: K) -> Result<Vec<u8>, AllocError> {
+        self.keep(WireSite::asking(self.alloc, site, link))
     }
 
     /// Makes the end that answers, over this site and this link.
-    pub(crate) fn reply(&mut self, site: S, link: K) -> Result<(), AllocError> {
-        match WireSite::answering(self.alloc, site, link) {
-            Ok(wire) => self.wire = Some(wire),
-            Err(_) => return Err(AllocError),
-        }
-        Ok(())
+    pub(crate) fn reply(&mut self, site: S, link: K) -> Result<Vec<u8>, AllocError> {
+        self.keep(WireSite::answering(self.alloc, site, link))
     }
 
     /// The link of the wire, which is given up.
@@ -91,28 +98,23 @@ impl<S: Site + Drop, K: Link + Drop> Wires<S, K> {
         }
     }
 
-    /// What comes of a call on the wire; none where it is no such row.
-    pub(crate) fn answer(&mut self, row: &Row) -> Result<Option<Vec<u8>>, AllocError> {
+    /// What comes of a call on the wire; `no such row` where there is no wire, or no call of that name.
+    pub(crate) fn called(&mut self, row: &Row) -> Result<Vec<u8>, AllocError> {
         match &mut self.wire {
             Some(wire) => call_answer(self.alloc, wire, row),
-            None => Ok(None),
+            None => no_such_row(self.alloc),
         }
     }
 }
 
-/// Puts the parcel of a row, or marks the wire; false where it is no such row.
-fn put_of<S: Site, K: Link>(
+/// Puts a parcel, and tells the state behind it.
+fn put<S: Site, K: Link>(
     alloc: Global,
     wire: &mut WireSite<S, K>,
-    row: &Row,
-) -> Result<bool, AllocError> {
-    match row.text(0) {
-        "reply" => wire.put(parcel(alloc, true, count(row, 1), row.bytes(2))?),
-        "command" => wire.put(any_command(alloc, row)?),
-        "mark" => wire.mark(),
-        word => return Ok(word == "state"),
-    }
-    Ok(true)
+    parcel: Parcel,
+) -> Result<Vec<u8>, AllocError> {
+    wire.put(parcel);
+    state(alloc, wire)
 }
 
 /// What comes of a call of a wire, a site or a disk.
@@ -120,15 +122,20 @@ fn call_answer<S: Site, K: Link>(
     alloc: Global,
     wire: &mut WireSite<S, K>,
     row: &Row,
-) -> Result<Option<Vec<u8>>, AllocError> {
-    if put_of(alloc, wire, row)? {
-        return Ok(Some(state(alloc, wire)?));
+) -> Result<Vec<u8>, AllocError> {
+    match row.text(0) {
+        "reply" => put(
+            alloc,
+            wire,
+            parcel(alloc, true, count(row, 1), row.bytes(2))?,
+        ),
+        "command" => put(alloc, wire, any_command(alloc, row)?),
+        "mark" => {
+            wire.mark();
+            state(alloc, wire)
+        }
+        "state" => state(alloc, wire),
+        "size" => size(alloc, wire),
+        _ => site_answer(alloc, wire, row),
     }
-    if row.text(0) == "size" {
-        return Ok(Some(size(alloc, wire)?));
-    }
-    if let Some(answer) = site_answer(alloc, wire, row)? {
-        return Ok(Some(answer));
-    }
-    disk_answer(alloc, wire, row)
 }
