@@ -21,12 +21,18 @@ pub(crate) fn are_single(acts: &[KeptAct]) -> bool {
     true
 }
 
+/// Adds a copy of a file.
+fn add_copy(alloc: Global, files: &mut Vec<Bytes>, file: &Bytes) -> Result<(), AllocError> {
+    files.push(file.copy(alloc)?)?;
+    Ok(())
+}
+
 /// The files of the run with this journal.
 fn files_of(alloc: Global, journal: &Bytes, filters: &[Bytes]) -> Result<Files17, AllocError> {
     let mut files = Vec::new(alloc);
-    files.push(journal.copy(alloc)?)?;
+    add_copy(alloc, &mut files, journal)?;
     for filter in filters {
-        files.push(filter.copy(alloc)?)?;
+        add_copy(alloc, &mut files, filter)?;
     }
     Ok(Files17::from_vec(files))
 }

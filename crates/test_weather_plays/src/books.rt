@@ -14,8 +14,9 @@ const FRONT: &str =
 "agent_definitions":{"net-address--01":{"type":"net-address"},"net-address--02":{"type":"net-address"}}"#;
 
 /// Two agents are bound to filter 1, and two to filter 2.
-const BIND: &str =
-    r#"{"agents":{"net-address--01":1,"net-address--02":2,"net-address--03":1,"net-address--04":2}}"#;
+const BIND: &str = r#"{"agents":{
+"net-address--00000000-0000-4000-8000-000000000001":1,"net-address--00000000-0000-4000-8000-000000000002":2,
+"net-address--00000000-0000-4000-8000-000000000003":1,"net-address--00000000-0000-4000-8000-000000000004":2}}"#;
 
 /// Texts of playbooks, by number from 0.
 #[derive(Drop)]
@@ -34,16 +35,11 @@ fn bytes_of(alloc: Global, text: &str) -> Result<Bytes, AllocError>
     Bytes::from_slice(alloc, text.as_bytes())
 }
 
-/// The setup of a playbook; nothing where it is not accepted.
-fn setup_of(alloc: Global, text: &str) -> Result<Option<Setup>, AllocError> {
-    let bind = spelled_out(alloc, BIND)?;
-    let bind = bytes_of(alloc, bind.as_str())?;
+/// The setup of a playbook.
+fn read(alloc: Global, text: &str) -> Result<Setup, SetupError> {
+    let bind = bytes_of(alloc, BIND)?;
     let texts = [bytes_of(alloc, text)?];
-    match Setup::read(alloc, &texts, &bind) {
-        Ok(setup) => Ok(Some(setup)),
-        Err(SetupError::Memory) => Err(AllocError),
-        Err(_) => Ok(None),
-    }
+    Setup::read(alloc, &texts, &bind)
 }
 
 impl Books {
@@ -70,9 +66,13 @@ impl Books {
 
     /// The setup of a playbook with both filters bound; nothing where there is no such playbook, or it is not accepted.
     pub(crate) fn setup(&self, number: usize) -> Result<Option<Setup>, AllocError> {
-        match self.texts.get(number) {
-            Some(text) => setup_of(self.alloc, text.as_str()),
-            None => Ok(None),
+        let Some(text) = self.texts.get(number) else {
+            return Ok(None);
+        };
+        match read(self.alloc, text.as_str()) {
+            Ok(setup) => Ok(Some(setup)),
+            Err(SetupError::Memory) => Err(AllocError),
+            Err(_) => Ok(None),
         }
     }
 }

@@ -1,7 +1,6 @@
 // One call of a fleet.
 use crate::books::Books;
 use cacao_site_memory::MemorySite;
-use flow_core::Setup;
 use flow_fleet::{FleetClose, FleetError, FleetRuns, fleet};
 use std::alloc::{AllocError, Global};
 
@@ -21,12 +20,17 @@ pub(crate) enum Came {
     Refused(FleetError),
 }
 
-/// One run more; false where that can't be.
-fn add(runs: &mut FleetRuns, number: u64, setup: Option<Setup>) -> Result<bool, AllocError> {
-    match setup {
-        Some(setup) => runs.push(number, setup),
-        None => Ok(false),
+/// Adds these runs; false where one of them can't be added.
+fn add_all(all: &mut FleetRuns, books: &Books, runs: &[Run]) -> Result<bool, AllocError> {
+    for run in runs {
+        let Some(setup) = books.setup(run.book)? else {
+            return Ok(false);
+        };
+        if !all.push(run.number, setup)? {
+            return Ok(false);
+        }
     }
+    Ok(true)
 }
 
 /// The runs of a fleet; nothing where there are none such.
@@ -38,12 +42,11 @@ fn runs_of(alloc: Global, books: &Books, runs: &[Run]) -> Result<Option<FleetRun
         return Ok(None);
     };
     let mut all = FleetRuns::new(alloc, first.number, setup)?;
-    for run in others {
-        if !add(&mut all, run.number, books.setup(run.book)?)? {
-            return Ok(None);
-        }
+    if add_all(&mut all, books, others)? {
+        Ok(Some(all))
+    } else {
+        Ok(None)
     }
-    Ok(Some(all))
 }
 
 /// Calls a fleet of these runs, by place; 0 records stand for 1.

@@ -3,10 +3,11 @@ ghost use Rattle.std.specs.Prelude.{◌≤◌};
 
 use crate::books::Books;
 use crate::calls::Run;
+use crate::counts::add;
 use cacao_site::{Bytes, Disk, RunView};
 use cacao_site_memory::MemorySite;
 use flow_engine::{Engine, EngineError};
-use run_journal::{ImageError, read_image};
+use run_journal::{Entry, ImageError, read_image};
 use run_records::{Act, Record, read_act, read_record};
 use std::alloc::{AllocError, Global};
 
@@ -18,13 +19,25 @@ pub(crate) struct KeptAct {
 }
 
 /// The journals of runs, by place, with their engines and records; the files of filters 1 to 16, and all acts.
-#[derive(Drop)]
 pub(crate) struct Look {
     pub(crate) journals: Vec<Bytes>,
     pub(crate) engines: Vec<Engine>,
     pub(crate) records: Vec<Vec<Record>>,
     pub(crate) filters: Vec<Bytes>,
     pub(crate) acts: Vec<KeptAct>,
+}
+
+// (by hand, and not by derive: so a drop is one call in the proofs of all who own one)
+impl Drop for Look {
+    fn drop(self) {
+        let Self {
+            journals: _,
+            engines: _,
+            records: _,
+            filters: _,
+            acts: _,
+        } = self;
+    }
 }
 
 /// The file of the run at a place.
@@ -37,75 +50,61 @@ fn file_of(place: u8) -> u8
     16 + place.min(15)
 }
 
-/// The bytes of a file; nothing where a call failed, or it has a million or more.
-fn bytes_of(alloc: Global, site: &mut MemorySite, file: u8) -> Result<Option<Bytes>, AllocError>
+/// Reads a file to its end; false where a call failed, or it has a million bytes or more.
+fn read_file(site: &mut MemorySite, file: u8, bytes: &mut Vec<u8>) -> Result<bool, AllocError>
     requires { file ≤ 31 }
 {
-    let mut bytes = Vec::new(alloc);
     let mut buffer = [0u8; 4096];
     for block in 0..256u64 {
         let Ok(read) = site.read(file, block * 4096, &mut buffer) else {
-            return Ok(None);
+            return Ok(false);
         };
         bytes.extend_from_slice(&buffer[..read as usize])?;
         if read < 4096 {
-            return Ok(Some(Bytes::from_vec(bytes)));
+            return Ok(true);
         }
     }
-    Ok(None)
+    Ok(false)
 }
 
-/// Opens the engine of a run over its file; nothing where it refuses.
-fn open(
+/// Adds the bytes of a file; false where it can't be read.
+fn add_file(
     alloc: Global,
-    books: &Books,
-    run: Run,
-    place: u8,
+    files: &mut Vec<Bytes>,
+    file: u8,
     site: &mut MemorySite,
-) -> Result<Option<Engine>, AllocError>
-    requires { place ≤ 15 }
+) -> Result<bool, AllocError>
+    requires { file ≤ 31 }
 {
-    let Some(setup) = books.setup(run.book)? else {
-        return Ok(None);
-    };
-    let mut view = RunView::new(site, place);
-    match Engine::open_on(alloc, &mut view, setup, run.number) {
-        Ok(engine) => Ok(Some(engine)),
-        Err(EngineError::Memory) => Err(AllocError),
-        Err(_) => Ok(None),
-    }
+    let mut bytes = Vec::new(alloc);
+    let is_read = read_file(site, file, &mut bytes)?;
+    files.push(Bytes::from_vec(bytes))?;
+    Ok(is_read)
 }
 
-/// The records of a journal; nothing where it has none such.
-fn records_of(alloc: Global, bytes: &[u8]) -> Result<Option<Vec<Record>>, AllocError> {
-    let entries = match read_image(alloc, bytes) {
-        Ok(entries) => entries,
-        Err(ImageError::Memory) => return Err(AllocError),
-        Err(_) => return Ok(None),
-    };
-    let mut records = Vec::new(alloc);
-    for entry in entries.as_slice() {
+/// Adds the records of entries; false where one is none.
+fn add_records(
+    alloc: Global,
+    records: &mut Vec<Record>,
+    entries: &[Entry],
+) -> Result<bool, AllocError> {
+    for entry in entries {
         match read_record(alloc, entry.bytes.as_slice())? {
             Some(record) => records.push(record)?,
-            None => return Ok(None),
+            None => return Ok(false),
         }
     }
-    Ok(Some(records))
+    Ok(true)
 }
 
-/// Adds the acts of a filter; false where its file has none such.
+/// Adds the acts of a filter's entries; false where one is none.
 fn add_acts(
     alloc: Global,
     acts: &mut Vec<KeptAct>,
     agent: u8,
-    bytes: &[u8],
+    entries: &[Entry],
 ) -> Result<bool, AllocError> {
-    let entries = match read_image(alloc, bytes) {
-        Ok(entries) => entries,
-        Err(ImageError::Memory) => return Err(AllocError),
-        Err(_) => return Ok(false),
-    };
-    for entry in entries.as_slice() {
+    for entry in entries {
         match read_act(alloc, entry.bytes.as_slice())? {
             Some(act) => acts.push(KeptAct { agent, act })?,
             None => return Ok(false),
@@ -116,13 +115,56 @@ fn add_acts(
 
 impl Look {
     /// Nothing was looked at.
-    fn new(alloc: Global) -> Look {
+    pub(crate) fn new(alloc: Global) -> Look {
         Look {
             journals: Vec::new(alloc),
             engines: Vec::new(alloc),
             records: Vec::new(alloc),
             filters: Vec::new(alloc),
             acts: Vec::new(alloc),
+        }
+    }
+
+    /// Adds the records of the last journal; false where it has none such.
+    fn add_journal(&mut self, alloc: Global) -> Result<bool, AllocError> {
+        let Some(journal) = self.journals.last() else {
+            return Ok(false);
+        };
+        match read_image(alloc, journal.as_slice()) {
+            Ok(entries) => {
+                self.records.push(Vec::new(alloc))?;
+                match self.records.last_mut() {
+                    Some(records) => add_records(alloc, records, entries.as_slice()),
+                    None => Ok(false),
+                }
+            }
+            Err(ImageError::Memory) => Err(AllocError),
+            Err(_) => Ok(false),
+        }
+    }
+
+    /// Opens the engine of a run over its file; false where it refuses.
+    fn add_engine(
+        &mut self,
+        alloc: Global,
+        books: &Books,
+        run: Run,
+        place: u8,
+        site: &mut MemorySite,
+    ) -> Result<bool, AllocError>
+        requires { place ≤ 15 }
+    {
+        let Some(setup) = books.setup(run.book)? else {
+            return Ok(false);
+        };
+        let mut view = RunView::new(site, place);
+        match Engine::open_on(alloc, &mut view, setup, run.number) {
+            Ok(engine) => {
+                self.engines.push(engine)?;
+                Ok(true)
+            }
+            Err(EngineError::Memory) => Err(AllocError),
+            Err(_) => Ok(false),
         }
     }
 
@@ -137,19 +179,12 @@ impl Look {
     ) -> Result<bool, AllocError>
         requires { place ≤ 15 }
     {
-        let Some(bytes) = bytes_of(alloc, site, file_of(place))? else {
+        if !add_file(alloc, &mut self.journals, file_of(place), site)?
+            || !self.add_journal(alloc)?
+        {
             return Ok(false);
-        };
-        let Some(records) = records_of(alloc, bytes.as_slice())? else {
-            return Ok(false);
-        };
-        let Some(engine) = open(alloc, books, run, place, site)? else {
-            return Ok(false);
-        };
-        self.journals.push(bytes)?;
-        self.records.push(records)?;
-        self.engines.push(engine)?;
-        Ok(true)
+        }
+        self.add_engine(alloc, books, run, place, site)
     }
 
     /// Looks at the file of a filter; false where it is none.
@@ -161,33 +196,38 @@ impl Look {
     ) -> Result<bool, AllocError>
         requires { agent ≤ 16 }
     {
-        let Some(bytes) = bytes_of(alloc, site, agent)? else {
+        if !add_file(alloc, &mut self.filters, agent, site)? {
+            return Ok(false);
+        }
+        let Some(file) = self.filters.last() else {
             return Ok(false);
         };
-        let is_read = add_acts(alloc, &mut self.acts, agent, bytes.as_slice())?;
-        self.filters.push(bytes)?;
-        Ok(is_read)
+        match read_image(alloc, file.as_slice()) {
+            Ok(entries) => add_acts(alloc, &mut self.acts, agent, entries.as_slice()),
+            Err(ImageError::Memory) => Err(AllocError),
+            Err(_) => Ok(false),
+        }
     }
 
-    /// Looks at all files; nothing where one of them is damaged, or an engine refuses its journal.
-    pub(crate) fn at(
+    /// Looks at all files; false where one of them is damaged, or an engine refuses its journal.
+    pub(crate) fn add_all(
+        &mut self,
         alloc: Global,
         books: &Books,
         runs: &[Run],
         site: &mut MemorySite,
-    ) -> Result<Option<Look>, AllocError> {
-        let mut look = Look::new(alloc);
+    ) -> Result<bool, AllocError> {
         for place in 0..runs.len().min(16) as u8 {
-            if !look.add_run(alloc, books, runs[place as usize], place, site)? {
-                return Ok(None);
+            if !self.add_run(alloc, books, runs[place as usize], place, site)? {
+                return Ok(false);
             }
         }
         for agent in 1..17u8 {
-            if !look.add_filter(alloc, agent, site)? {
-                return Ok(None);
+            if !self.add_filter(alloc, agent, site)? {
+                return Ok(false);
             }
         }
-        Ok(Some(look))
+        Ok(true)
     }
 
     /// How many records the run at a place has.
@@ -196,6 +236,37 @@ impl Look {
             Some(engine) => engine.count(),
             None => 0,
         }
+    }
+
+    /// How many records each run has, by place.
+    pub(crate) fn counts(&self, alloc: Global) -> Result<Vec<u32>, AllocError> {
+        let mut counts = Vec::new(alloc);
+        for engine in self.engines.as_slice() {
+            counts.push(engine.count())?;
+        }
+        Ok(counts)
+    }
+
+    /// How many records all runs have.
+    pub(crate) fn all_records(&self) -> u64 {
+        let mut all = 0u64;
+        for engine in self.engines.as_slice() {
+            add(&mut all, u64::from(engine.count()));
+        }
+        all
+    }
+
+    /// How many records of all runs are Expires.
+    pub(crate) fn expired(&self) -> u64 {
+        let mut count = 0u64;
+        for records in self.records.as_slice() {
+            for record in records.as_slice() {
+                if let Record::Expire { .. } = record {
+                    add(&mut count, 1);
+                }
+            }
+        }
+        count
     }
 
     /// A record of the run at a place.

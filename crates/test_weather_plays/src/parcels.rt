@@ -6,7 +6,7 @@ use cacao_site_memory::MemorySite;
 use flow_engine::Engine;
 
 /// The place of the run of a number.
-fn place_of(runs: &[Run], number: u64) -> Option<usize> {
+pub(crate) fn place_of(runs: &[Run], number: u64) -> Option<usize> {
     for place in 0..runs.len() {
         if runs[place].number == number {
             return Some(place);

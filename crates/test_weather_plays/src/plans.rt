@@ -50,12 +50,11 @@ fn drawn_weather(draw: &mut Draw, rare: u64) -> Weather {
 /// The weather of the first forty parcels, fair in one of three cases.
 fn drawn_weathers(alloc: Global, draw: &mut Draw) -> Result<WeatherList, AllocError> {
     let mut weathers = Vec::new(alloc);
-    if draw.is_one_of(3) {
-        return Ok(WeatherList::from_vec(weathers));
-    }
-    let rare = draw.below(6).saturating_add(1);
-    for _ in 0..40u32 {
-        weathers.push(drawn_weather(draw, rare))?;
+    if !draw.is_one_of(3) {
+        let rare = draw.below(6).saturating_add(1);
+        for _ in 0..40u32 {
+            weathers.push(drawn_weather(draw, rare))?;
+        }
     }
     Ok(WeatherList::from_vec(weathers))
 }
@@ -66,12 +65,50 @@ fn drawn_call(draw: &mut Draw) -> u32 {
     call + 40
 }
 
-/// Two calls that fail.
-fn drawn_failing(alloc: Global, draw: &mut Draw) -> Result<CallList, AllocError> {
-    let mut calls = Vec::new(alloc);
-    calls.push(drawn_call(draw))?;
-    calls.push(drawn_call(draw))?;
-    Ok(CallList::from_vec(calls))
+/// Devices of a rack that is drawn by chance.
+#[derive(Clone, Copy)]
+struct Device {
+    /// Two calls that fail.
+    failing: Option<[u32; 2]>,
+    /// The number from which on all calls fail.
+    calls: u32,
+    /// The bytes that there is room for.
+    room: u64,
+}
+
+impl Device {
+    /// Devices that fail: two calls, all calls from a number on, and all that bring more bytes than there is room for, each in few cases.
+    fn drawn(draw: &mut Draw) -> Device {
+        let mut device = Device {
+            failing: None,
+            calls: CALLS,
+            room: ROOM,
+        };
+        if draw.is_one_of(4) {
+            let first = drawn_call(draw);
+            device.failing = Some([first, drawn_call(draw)]);
+        }
+        if draw.is_one_of(3) {
+            device.calls = drawn_call(draw);
+        }
+        if draw.is_one_of(10) {
+            device.room = draw.below(30_000);
+        }
+        device
+    }
+
+    /// Whether a call may fail.
+    fn may_fail(self) -> bool {
+        self.failing.is_some() || self.calls < CALLS || self.room < ROOM
+    }
+}
+
+/// The calls that fail.
+fn failing(alloc: Global, calls: Option<[u32; 2]>) -> Result<CallList, AllocError> {
+    match calls {
+        Some(calls) => Ok(CallList::from_vec(Vec::from_array(alloc, calls)?)),
+        None => Ok(CallList::from_vec(Vec::new(alloc))),
+    }
 }
 
 /// A rack that is drawn by chance.
@@ -82,34 +119,31 @@ pub(crate) struct Drawn {
     pub(crate) may_fail: bool,
 }
 
-/// Devices that fail: two calls, all calls from a number on, and all that bring more bytes than there is room for, each in few cases.
-fn drawn_device(alloc: Global, draw: &mut Draw) -> Result<Drawn, AllocError> {
-    let mut plan = fair_plan(alloc);
-    let mut may_fail = false;
-    if draw.is_one_of(4) {
-        plan.failing = drawn_failing(alloc, draw)?;
-        may_fail = true;
+/// A moment that is drawn in one of so many cases; this one in the others.
+fn drawn_or(draw: &mut Draw, count: u64, moment: u64) -> u64 {
+    if draw.is_one_of(count) {
+        return drawn_moment(draw);
     }
-    if draw.is_one_of(3) {
-        plan.calls = drawn_call(draw);
-        may_fail = true;
-    }
-    if draw.is_one_of(10) {
-        plan.room = draw.below(30_000);
-        may_fail = true;
-    }
-    Ok(Drawn { plan, may_fail })
+    moment
 }
 
 /// A rack that is drawn by chance: a device, the weather of its parcels, and a clock.
 pub(crate) fn drawn_plan(alloc: Global, draw: &mut Draw) -> Result<Drawn, AllocError> {
-    let mut drawn = drawn_device(alloc, draw)?;
-    drawn.plan.weather = drawn_weathers(alloc, draw)?;
-    if draw.is_one_of(8) {
-        drawn.plan.stop_clock = drawn_moment(draw);
-    }
-    if draw.is_one_of(4) {
-        drawn.plan.start = drawn_moment(draw);
-    }
-    Ok(drawn)
+    let device = Device::drawn(draw);
+    let weather = drawn_weathers(alloc, draw)?;
+    let stop_clock = drawn_or(draw, 8, LATE);
+    let start = drawn_or(draw, 4, 0);
+    let failing = failing(alloc, device.failing)?;
+    let plan = SitePlan {
+        room: device.room,
+        calls: device.calls,
+        start,
+        stop_clock,
+        failing,
+        weather,
+    };
+    Ok(Drawn {
+        plan,
+        may_fail: device.may_fail(),
+    })
 }

@@ -11,10 +11,19 @@ use std::marker::Model;
 const MOST: u32 = 50_000_000;
 
 /// A run, and how many of its records were gone through.
-#[derive(Drop)]
 pub(crate) struct Replay {
     flow: Flow,
     records: u32,
+}
+
+// (by hand, and not by derive: so a drop is one call in the proofs of all who own one)
+impl Drop for Replay {
+    fn drop(self) {
+        let Self {
+            flow: _,
+            records: _,
+        } = self;
+    }
 }
 
 impl Model for Replay {
@@ -90,5 +99,15 @@ impl Replay {
             Err(FlowError::Memory) => Err(AllocError),
             Err(_) => Ok(false),
         }
+    }
+
+    /// Takes the first of these records, up to a count; false where one of them may not come next.
+    pub(crate) fn take_first(&mut self, items: &[Record], count: u32) -> Result<bool, AllocError> {
+        for item in items {
+            if self.records < count && !self.take(item)? {
+                return Ok(false);
+            }
+        }
+        Ok(true)
     }
 }

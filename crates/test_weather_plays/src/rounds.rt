@@ -8,11 +8,10 @@ use crate::draw::Draw;
 use crate::looks::Look;
 use crate::parcels::are_kept;
 use crate::plans::{Drawn, LATE, drawn_plan, fair_plan};
-use crate::said::{Said, all_said, unsaid};
+use crate::said::{Said, add_all_said, unsaid};
 use crate::turns::came_in_turn;
 use cacao_site_memory::MemorySite;
 use flow_fleet::FleetClose;
-use run_records::Record;
 use std::alloc::{AllocError, Global};
 
 /// More records than a fleet has.
@@ -46,7 +45,6 @@ pub enum Found {
 }
 
 /// A fleet that is played.
-#[derive(Drop)]
 struct Round<'a> {
     alloc: Global,
     books: &'a Books,
@@ -58,6 +56,22 @@ struct Round<'a> {
     acts: u64,
     expired: u64,
     mishaps: u64,
+}
+
+// (by hand, and not by derive: so a drop is one call in the proofs of all who own one)
+impl Drop for Round<'_> {
+    fn drop(self) {
+        let Self {
+            alloc: _,
+            books: _,
+            draw: _,
+            runs: _,
+            had: _,
+            acts: _,
+            expired: _,
+            mishaps: _,
+        } = self;
+    }
 }
 
 /// Two to five runs with numbers of their own, of playbooks that are drawn.
@@ -75,19 +89,6 @@ fn drawn_runs(alloc: Global, books: &Books, draw: &mut Draw) -> Result<Vec<Run>,
         number = number.wrapping_add(step);
     }
     Ok(runs)
-}
-
-/// How many records of these journals are Expires.
-fn expired(look: &Look) -> u64 {
-    let mut count = 0u64;
-    for records in look.records.as_slice() {
-        for record in records.as_slice() {
-            if let Record::Expire { .. } = record {
-                add(&mut count, 1);
-            }
-        }
-    }
-    count
 }
 
 /// How many records these journals have.
@@ -137,10 +138,7 @@ impl<'a> Round<'a> {
     fn new(alloc: Global, books: &'a Books, seed: u64) -> Result<Round<'a>, AllocError> {
         let mut draw = Draw::new(seed);
         let runs = drawn_runs(alloc, books, &mut draw)?;
-        let mut had = Vec::new(alloc);
-        for _ in 0..runs.len() {
-            had.push(0u32)?;
-        }
+        let had = vec![in alloc; 0u32; runs.len()]?;
         Ok(Round {
             alloc,
             books,
@@ -169,31 +167,6 @@ impl<'a> Round<'a> {
         Ok(Made { ask, lines, came })
     }
 
-    /// What is wrong with the lines of a call; nothing where all is well.
-    fn wrong_lines(
-        &self,
-        look: &Look,
-        made: Made,
-        said: &[Said],
-    ) -> Result<Option<Found>, AllocError> {
-        match unsaid(look, self.had.as_slice(), said) {
-            Some(unsaid) if unsaid <= unsaid_most(made.came) => {}
-            _ => return Ok(Some(Found::Said)),
-        }
-        let runs = self.first(made.ask.many);
-        if !came_in_turn(
-            self.alloc,
-            self.books,
-            runs,
-            look,
-            self.had.as_slice(),
-            said,
-        )? {
-            return Ok(Some(Found::Turns));
-        }
-        Ok(None)
-    }
-
     /// What is wrong with the files and the parcels that a call left; nothing where all is well.
     fn wrong_files(&self, look: &Look, site: &MemorySite) -> Result<Option<Found>, AllocError> {
         if !all_agree(self.alloc, look)? {
@@ -205,34 +178,44 @@ impl<'a> Round<'a> {
         if !are_kept(look, self.runs.as_slice(), site) {
             return Ok(Some(Found::Parcels));
         }
-        if self.mishaps == 0 && expired(look) > 0 {
+        if self.mishaps == 0 && look.expired() > 0 {
             return Ok(Some(Found::Expired));
         }
         Ok(None)
     }
 
-    /// How many records the runs of a look have, by place.
-    fn counts_of(&self, look: &Look) -> Result<Vec<u32>, AllocError> {
-        let mut counts = Vec::new(self.alloc);
-        for place in 0..self.runs.len() {
-            counts.push(look.count(place))?;
-        }
-        Ok(counts)
-    }
-
     /// What is wrong with how a call ended; nothing where all is well.
-    fn wrong_close(&self, look: &Look, made: Made, counts: &[u32]) -> Option<Found> {
+    fn wrong_close(&self, look: &Look, made: Made) -> Option<Found> {
         let before = all_records(self.had.as_slice());
         let asked = Asked {
             most: made.ask.most,
             stop_clock: made.ask.stop_clock,
             may_fail: made.ask.may_fail,
-            appended: all_records(counts).saturating_sub(before),
+            appended: look.all_records().saturating_sub(before),
         };
         if fits(made.came, look, self.first(made.ask.many), asked) {
             return None;
         }
         Some(Found::Close)
+    }
+
+    /// What is wrong with these lines of a call, or with how it ended; nothing where all is well.
+    fn wrong_lines(
+        &self,
+        look: &Look,
+        made: Made,
+        said: &[Said],
+    ) -> Result<Option<Found>, AllocError> {
+        match unsaid(look, self.had.as_slice(), said) {
+            Some(unsaid) if unsaid <= unsaid_most(made.came) => {}
+            _ => return Ok(Some(Found::Said)),
+        }
+        let runs = self.first(made.ask.many);
+        let had = self.had.as_slice();
+        if !came_in_turn(self.alloc, self.books, runs, look, had, said)? {
+            return Ok(Some(Found::Turns));
+        }
+        Ok(self.wrong_close(look, made))
     }
 
     /// What is wrong with the lines and the end of a call; nothing where all is well.
@@ -241,18 +224,38 @@ impl<'a> Round<'a> {
         look: &Look,
         site: &MemorySite,
         made: Made,
-        counts: &[u32],
     ) -> Result<Option<Found>, AllocError> {
-        let Some(all) = all_said(self.alloc, look, self.runs.as_slice(), site)? else {
+        let mut all = Vec::new(self.alloc);
+        if !add_all_said(&mut all, look, self.runs.as_slice(), site)? {
             return Ok(Some(Found::Lines));
-        };
-        let Some(said) = all.as_slice().get(made.lines..) else {
-            return Ok(Some(Found::Lines));
-        };
-        if let Some(found) = self.wrong_lines(look, made, said)? {
-            return Ok(Some(found));
         }
-        Ok(self.wrong_close(look, made, counts))
+        match all.as_slice().get(made.lines..) {
+            Some(said) => self.wrong_lines(look, made, said),
+            None => Ok(Some(Found::Lines)),
+        }
+    }
+
+    /// Keeps what the files hold behind a call.
+    fn keep(&mut self, look: &Look) -> Result<(), AllocError> {
+        self.acts = look.acts.len() as u64;
+        self.expired = look.expired();
+        self.had = look.counts(self.alloc)?;
+        Ok(())
+    }
+
+    /// What is wrong behind a call that left this; nothing where all is well.
+    fn wrong_in(
+        &mut self,
+        look: &Look,
+        site: &MemorySite,
+        made: Made,
+    ) -> Result<Option<Found>, AllocError> {
+        let mut found = self.wrong_files(look, site)?;
+        if found.is_none() {
+            found = self.wrong_call(look, site, made)?;
+        }
+        self.keep(look)?;
+        Ok(found)
     }
 
     /// What is wrong behind a call; nothing where all is well.
@@ -260,18 +263,11 @@ impl<'a> Round<'a> {
         if let Came::NoRuns = made.came {
             return Ok(Some(Found::NoRuns));
         }
-        let Some(look) = Look::at(self.alloc, self.books, self.runs.as_slice(), site)? else {
+        let mut look = Look::new(self.alloc);
+        if !look.add_all(self.alloc, self.books, self.runs.as_slice(), site)? {
             return Ok(Some(Found::Files));
-        };
-        let counts = self.counts_of(&look)?;
-        self.acts = look.acts.len() as u64;
-        self.expired = expired(&look);
-        let mut found = self.wrong_files(&look, site)?;
-        if found.is_none() {
-            found = self.wrong_call(&look, site, made, counts.as_slice())?;
         }
-        self.had = counts;
-        Ok(found)
+        self.wrong_in(&look, site, made)
     }
 
     /// What is asked of a call that may be cut short.

@@ -1,9 +1,9 @@
 // The lines that fleets said.
 use crate::calls::Run;
 use crate::looks::Look;
+use crate::parcels::place_of;
 use cacao_site_memory::MemorySite;
-use flow_engine::Engine;
-use std::alloc::{AllocError, Global};
+use std::alloc::AllocError;
 use std::str::from_utf8;
 
 /// The record whose line was said: the place of its run, and its number.
@@ -13,61 +13,38 @@ pub(crate) struct Said {
     pub(crate) number: u32,
 }
 
-/// The place of the run whose number in decimal is this text.
-fn place_of(alloc: Global, runs: &[Run], text: &str) -> Result<Option<usize>, AllocError> {
-    for place in 0..runs.len() {
-        let number = runs[place].number;
-        let decimal = format!(in alloc; "{number}")?;
-        if decimal.as_str() == text {
-            return Ok(Some(place));
-        }
+/// The number whose decimal a text is: it has no sign, and no zero before other digits.
+fn decimal(text: &str) -> Option<u64> {
+    if text.starts_with("+") || text.starts_with("0") && text != "0" {
+        return None;
     }
-    Ok(None)
+    match text.parse::<u64>() {
+        Ok(number) => Some(number),
+        Err(_) => None,
+    }
 }
 
-/// Whether a text is the line of the record of this number.
-fn is_line_at(engine: &Engine, number: u32, text: &str) -> Result<bool, AllocError> {
-    if number >= engine.count() {
+/// The record that a line names by its first two words, the number of its run and its own, and the line behind the first.
+fn named<'a>(runs: &[Run], text: &'a str) -> Option<(Said, &'a str)> {
+    let (head, line) = text.split_once(' ')?;
+    let (word, _) = line.split_once(' ')?;
+    let place = place_of(runs, decimal(head)?)?;
+    match word.parse::<u32>() {
+        Ok(number) => Some((Said { place, number }, line)),
+        Err(_) => None,
+    }
+}
+
+/// Whether a text is the line of a record, without its run's number.
+fn is_line(look: &Look, said: Said, text: &str) -> Result<bool, AllocError> {
+    let Some(engine) = look.engines.get(said.place) else {
+        return Ok(false);
+    };
+    if said.number >= engine.count() {
         return Ok(false);
     }
-    let line = engine.line(number)?;
+    let line = engine.line(said.number)?;
     Ok(line.as_slice() == text.as_bytes())
-}
-
-/// The number of the record whose line a text is, by the text's first word.
-fn number_in(engine: &Engine, text: &str) -> Result<Option<u32>, AllocError> {
-    let Some((word, _)) = text.split_once(' ') else {
-        return Ok(None);
-    };
-    let Ok(number) = word.parse::<u32>() else {
-        return Ok(None);
-    };
-    if is_line_at(engine, number, text)? {
-        return Ok(Some(number));
-    }
-    Ok(None)
-}
-
-/// The record whose line a text is, behind its run's number and a space; nothing where there is none.
-fn said_in(
-    alloc: Global,
-    look: &Look,
-    runs: &[Run],
-    text: &str,
-) -> Result<Option<Said>, AllocError> {
-    let Some((head, rest)) = text.split_once(' ') else {
-        return Ok(None);
-    };
-    let Some(place) = place_of(alloc, runs, head)? else {
-        return Ok(None);
-    };
-    let Some(engine) = look.engines.get(place) else {
-        return Ok(None);
-    };
-    match number_in(engine, rest)? {
-        Some(number) => Ok(Some(Said { place, number })),
-        None => Ok(None),
-    }
 }
 
 /// The bytes of a line said; none where there is no line of that number.
@@ -78,35 +55,36 @@ fn line_bytes(site: &MemorySite, n: usize) -> &[u8] {
     site.line(n)
 }
 
-/// The record of a line that was said; nothing where it has none.
-fn said_at(
-    alloc: Global,
+/// Adds the record whose line was said; false where there is none.
+fn add_said(
+    all: &mut Vec<Said>,
     look: &Look,
     runs: &[Run],
-    site: &MemorySite,
-    n: usize,
-) -> Result<Option<Said>, AllocError> {
-    match from_utf8(line_bytes(site, n)) {
-        Ok(text) => said_in(alloc, look, runs, text),
-        Err(_) => Ok(None),
-    }
+    line: &[u8],
+) -> Result<bool, AllocError> {
+    let Ok(text) = from_utf8(line) else {
+        return Ok(false);
+    };
+    let Some((said, line)) = named(runs, text) else {
+        return Ok(false);
+    };
+    all.push(said)?;
+    is_line(look, said, line)
 }
 
-/// The records of all lines said, in order; nothing where a line has none.
-pub(crate) fn all_said(
-    alloc: Global,
+/// Adds the records of all lines said, in order; false where a line has none.
+pub(crate) fn add_all_said(
+    all: &mut Vec<Said>,
     look: &Look,
     runs: &[Run],
     site: &MemorySite,
-) -> Result<Option<Vec<Said>>, AllocError> {
-    let mut all = Vec::new(alloc);
+) -> Result<bool, AllocError> {
     for n in 0..site.line_count() {
-        match said_at(alloc, look, runs, site, n)? {
-            Some(said) => all.push(said)?,
-            None => return Ok(None),
+        if !add_said(all, look, runs, line_bytes(site, n))? {
+            return Ok(false);
         }
     }
-    Ok(Some(all))
+    Ok(true)
 }
 
 /// How many records of the run at a place these lines tell, where they are those from a number on, in order.

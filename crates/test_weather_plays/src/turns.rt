@@ -9,7 +9,6 @@ use run_records::Record;
 use std::alloc::{AllocError, Global};
 
 /// The runs of a call as they stood before a line, by place.
-#[derive(Drop)]
 struct Turns {
     runs: Vec<Replay>,
     /// The place from which the next move is looked for.
@@ -20,24 +19,16 @@ struct Turns {
     is_under_way: bool,
 }
 
-/// A run as it stood after so many of its records; nothing where they are no run.
-fn replayed(
-    alloc: Global,
-    books: &Books,
-    run: Run,
-    records: &[Record],
-    count: u32,
-) -> Result<Option<Replay>, AllocError> {
-    let Some(setup) = books.setup(run.book)? else {
-        return Ok(None);
-    };
-    let mut replay = Replay::idle(alloc, setup, run.number);
-    for record in records {
-        if replay.count() < count && !replay.take(record)? {
-            return Ok(None);
-        }
+// (by hand, and not by derive: so a drop is one call in the proofs of all who own one)
+impl Drop for Turns {
+    fn drop(self) {
+        let Self {
+            runs: _,
+            turn: _,
+            now: _,
+            is_under_way: _,
+        } = self;
     }
-    Ok(Some(replay))
 }
 
 /// The place that is so far behind another one, once around the circle of so many.
@@ -50,33 +41,52 @@ fn around(turn: usize, back: usize, count: usize) -> usize {
 }
 
 impl Turns {
-    /// The runs as a call found them; nothing where their records are no runs.
-    fn before(
+    /// No run.
+    fn new(alloc: Global) -> Turns {
+        Turns {
+            runs: Vec::new(alloc),
+            turn: 0,
+            now: 0,
+            is_under_way: false,
+        }
+    }
+
+    /// Adds a run as it stood after so many of its records; false where they are no run.
+    fn add(
+        &mut self,
+        alloc: Global,
+        books: &Books,
+        run: Run,
+        records: &[Record],
+        count: u32,
+    ) -> Result<bool, AllocError> {
+        let Some(setup) = books.setup(run.book)? else {
+            return Ok(false);
+        };
+        let mut replay = Replay::idle(alloc, setup, run.number);
+        let is_run = replay.take_first(records, count)?;
+        self.runs.push(replay)?;
+        Ok(is_run)
+    }
+
+    /// Adds the runs as a call found them; false where their records are no runs.
+    fn add_all(
+        &mut self,
         alloc: Global,
         books: &Books,
         runs: &[Run],
         look: &Look,
         had: &[u32],
-    ) -> Result<Option<Turns>, AllocError> {
-        let mut replays = Vec::new(alloc);
+    ) -> Result<bool, AllocError> {
         for place in 0..runs.len() {
-            let Some(records) = look.records.get(place) else {
-                return Ok(None);
+            let (Some(records), Some(count)) = (look.records.get(place), had.get(place)) else {
+                return Ok(false);
             };
-            let Some(count) = had.get(place) else {
-                return Ok(None);
-            };
-            match replayed(alloc, books, runs[place], records.as_slice(), *count)? {
-                Some(replay) => replays.push(replay)?,
-                None => return Ok(None),
+            if !self.add(alloc, books, runs[place], records.as_slice(), *count)? {
+                return Ok(false);
             }
         }
-        Ok(Some(Turns {
-            runs: replays,
-            turn: 0,
-            now: 0,
-            is_under_way: false,
-        }))
+        Ok(true)
     }
 
     /// Whether the run at a place has a move at a moment.
@@ -163,6 +173,19 @@ impl Turns {
             None => Ok(false),
         }
     }
+
+    /// Goes on behind the records of these lines; false where one of them may not come then.
+    fn take_all(&mut self, look: &Look, said: &[Said]) -> Result<bool, AllocError> {
+        for one in said {
+            let Some(record) = look.record(one.place, one.number) else {
+                return Ok(false);
+            };
+            if !self.take(one.place, record)? {
+                return Ok(false);
+            }
+        }
+        Ok(true)
+    }
 }
 
 /// Whether the records of a call of these runs came in the order of turns: Begins by place, each move at the first place that had one, around
@@ -175,16 +198,9 @@ pub(crate) fn came_in_turn(
     had: &[u32],
     said: &[Said],
 ) -> Result<bool, AllocError> {
-    let Some(mut turns) = Turns::before(alloc, books, runs, look, had)? else {
+    let mut turns = Turns::new(alloc);
+    if !turns.add_all(alloc, books, runs, look, had)? {
         return Ok(false);
-    };
-    for one in said {
-        let Some(record) = look.record(one.place, one.number) else {
-            return Ok(false);
-        };
-        if !turns.take(one.place, record)? {
-            return Ok(false);
-        }
     }
-    Ok(true)
+    turns.take_all(look, said)
 }
